@@ -1,0 +1,4 @@
+pub mod CowMap
+pub mod Entries
+pub mod Height
+pub mod Tree

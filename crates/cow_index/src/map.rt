@@ -1,0 +1,4 @@
+// The map.
+pub struct CowMap {
+    n: u64,
+}

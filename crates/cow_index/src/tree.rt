@@ -1,0 +1,123 @@
+// An AVL tree over shared nodes, seen as its entries in order and its height.
+ghost use Rattle.std.specs.Prelude.{◌≡◌, ◌+◌, ◌*◌, ◌/◌, ◌^◌, ◌<◌, ◌≤◌, [], IfOk, OnOk, IfSome, IfNone, length, T, slice_get, option_map, option_copied};
+ghost use Rattle.std.specs.FinMap.Entries.{find, put, is_sorted};
+ghost use Rattle.std.specs.declared.cmp.Ordering.{Ordering};
+ghost use Rattle.cow_index.specs.Tree.{pair_of, IsRoot};
+ghost use Rattle.cow_index.specs.Entries.{without, entries_from};
+
+use crate::key::IndexKey;
+use crate::nodes::NodeMaker;
+use std::alloc::AllocError;
+use std::cmp::Ordering;
+use std::marker::Model;
+use std::sync::Arc;
+
+/// More than the height of any tree whose entries `u64` counts.
+pub(crate) const MAX_HEIGHT: usize = 130;
+
+#[derive(Drop)]
+pub(crate) struct Entry<K, V> {
+    pub(crate) key: K,
+    pub(crate) value: V,
+}
+
+#[cycle(tree)]
+#[derive(Drop)]
+pub(crate) struct Tree<K, V> {
+    pub(crate) root: Option<Arc<Node<K, V>>>,
+}
+
+#[cycle(tree)]
+#[derive(Drop)]
+pub(crate) struct Node<K, V> {
+    pub(crate) left: Tree<K, V>,
+    pub(crate) entry: Arc<Entry<K, V>>,
+    pub(crate) right: Tree<K, V>,
+    pub(crate) height: u64,
+    pub(crate) len: u64,
+}
+
+impl<K, V> Model for Tree<K, V> {
+    ghost use Rattle.std.specs.Prelude.{ℕ, List, length};
+
+    ghost Value = { List (K × V) × ℕ };
+
+    ghost use Rattle.cow_index.specs.Tree.{seen, IsBalanced};
+
+    ghost view = { λ a. seen a.root };
+
+    ghost invariant = { λ a. IsBalanced a.root };
+
+    ghost size = { λ d. length d.0 };
+
+    ghost use Rattle.std.proofs.Common.{arith, length-append};
+
+    ghost size_decreases = { λ a h. Prim.grind (arith, length-append) };
+}
+
+impl<K: Drop, V: Drop> Tree<K, V> {
+    pub(crate) fn new() -> Self
+        ensures { result ≡ ([], 0) }
+    {
+        Tree { root: None }
+    }
+
+    /// The node at the root.
+    pub(crate) fn node(&self) -> Option<&Node<K, V>>
+        ensures root { IfSome result (λ n. IsRoot self.now n.now) }
+        ensures empty { IfNone result (self.now ≡ ([], 0)) }
+    {
+        let Some(node) = &self.root else {
+            return None;
+        };
+        let node: &Node<K, V> = node;
+        Some(node)
+    }
+
+    pub(crate) fn height(&self) -> u64
+        ensures stored { result ≡ self.now.1 }
+        ensures dense { 2 ^ (self.now.1 / 2) ≤ length self.now.0 + 1 }
+        ensures low { self.now.1 ≤ MAX_HEIGHT }
+    {
+        match self.node() {
+            None => 0,
+            Some(node) => node.height,
+        }
+    }
+
+    pub(crate) fn len(&self) -> u64
+        ensures count { result ≡ length self.now.0 }
+        ensures flat { length self.now.0 ≡ 0 → self.now.1 ≡ 0 }
+    {
+        match self.node() {
+            None => 0,
+            Some(node) => node.len,
+        }
+    }
+
+    /// The same tree, by its root.
+    pub(crate) fn share(&self) -> Result<Self, AllocError>
+        ensures { IfOk result (λ t. t ≡ self.now) }
+    {
+        match &self.root {
+            None => Ok(Tree::new()),
+            Some(node) => Ok(Tree {
+                root: Some(Arc::try_clone(node)?),
+            }),
+        }
+    }
+
+    /// The entry with the least key.
+    pub(crate) fn first(&self) -> Option<&Arc<Entry<K, V>>>
+        ensures least { option_map (λ e. pair_of e.now) result ≡ slice_get self.now.0 0 }
+        ensures empty { IfNone result (self.now ≡ ([], 0)) }
+    {
+        let Some(node) = self.node() else {
+            return None;
+        };
+        match node.left.first() {
+            None => Some(&node.entry),
+            found => found,
+        }
+    }
+}

@@ -1,0 +1,1 @@
+pub struct Range { n: u64 }
