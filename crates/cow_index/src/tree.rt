@@ -121,3 +121,108 @@ impl<K: Drop, V: Drop> Tree<K, V> {
         }
     }
 }
+
+impl<K: IndexKey, V> Node<K, V> {
+    /// How a key compares with the node's own.
+    pub(crate) fn compare(&self, key: &K) -> Ordering
+        ensures { result ≡ K.cmp key.now (pair_of self.now.entry).0 }
+    {
+        let entry: &Entry<K, V> = &self.entry;
+        key.cmp(&entry.key)
+    }
+}
+
+impl<K: IndexKey, V: Drop> Tree<K, V> {
+    pub(crate) fn get(&self, key: &K) -> Option<&V>
+        requires { T (is_sorted K.cmp self.now.0) }
+        ensures { option_copied result ≡ find K.cmp key.now self.now.0 }
+    {
+        let mut at = self;
+        while let Some(node) = at.node() {
+            match node.compare(key) {
+                Ordering::Less => at = &node.left,
+                Ordering::Greater => at = &node.right,
+                Ordering::Equal => {
+                    let entry: &Entry<K, V> = &node.entry;
+                    return Some(&entry.value);
+                }
+            }
+        }
+        None
+    }
+
+    /// How many keys are not below `key`.
+    pub(crate) fn count_from(&self, key: &K) -> u64
+        requires { T (is_sorted K.cmp self.now.0) }
+        ensures { result ≡ length (entries_from K.cmp key.now self.now.0) }
+    {
+        let mut count = self.len();
+        let mut at = self;
+        while let Some(node) = at.node() {
+            match node.compare(key) {
+                Ordering::Less => at = &node.left,
+                Ordering::Greater => {
+                    count -= node.left.len() + 1;
+                    at = &node.right;
+                }
+                Ordering::Equal => return count - node.left.len(),
+            }
+        }
+        count
+    }
+
+    /// The tree with the entry in its place: at a key that ties, the new one stands in for the old.
+    pub(crate) fn insert(
+        &self,
+        entry: &Arc<Entry<K, V>>,
+        nodes: &mut NodeMaker,
+    ) -> Result<Self, AllocError>
+        requires sorted { T (is_sorted K.cmp self.now.0) }
+        requires fits { length self.now.0 + 1 < 2 ^ 64 }
+        requires counts { nodes.old.made + 3 * self.now.1 + 1 < 2 ^ 64 }
+        ensures entries { IfOk result (λ t. t.0 ≡ put K.cmp (pair_of entry.now).0 (pair_of entry.now).1 self.now.0) }
+        ensures height { IfOk result (λ t. (self.now.1 ≤ t.1) × (t.1 ≤ self.now.1 + 1)) }
+        ensures some { OnOk result (nodes.old.made < nodes.new.made) }
+        ensures few { nodes.new.made ≤ nodes.old.made + 3 * self.now.1 + 1 }
+    {
+        let Some(node) = self.node() else {
+            return nodes.node(&Tree::new(), entry, &Tree::new());
+        };
+        let new: &Entry<K, V> = entry;
+        match node.compare(&new.key) {
+            Ordering::Less => {
+                let left = node.left.insert(entry, nodes)?;
+                nodes.balance(&left, &node.entry, &node.right)
+            }
+            Ordering::Greater => {
+                let right = node.right.insert(entry, nodes)?;
+                nodes.balance(&node.left, &node.entry, &right)
+            }
+            Ordering::Equal => nodes.node(&node.left, entry, &node.right),
+        }
+    }
+
+    /// The tree without the entry at the key, if there is one.
+    pub(crate) fn remove(&self, key: &K, nodes: &mut NodeMaker) -> Result<Self, AllocError>
+        requires sorted { T (is_sorted K.cmp self.now.0) }
+        requires counts { nodes.old.made + 3 * self.now.1 < 2 ^ 64 }
+        ensures entries { IfOk result (λ t. t.0 ≡ without K.cmp key.now self.now.0) }
+        ensures height { IfOk result (λ t. (t.1 ≤ self.now.1) × (self.now.1 ≤ t.1 + 1)) }
+        ensures few { nodes.new.made ≤ nodes.old.made + 3 * self.now.1 }
+    {
+        let Some(node) = self.node() else {
+            return Ok(Tree::new());
+        };
+        match node.compare(key) {
+            Ordering::Less => {
+                let left = node.left.remove(key, nodes)?;
+                nodes.balance(&left, &node.entry, &node.right)
+            }
+            Ordering::Greater => {
+                let right = node.right.remove(key, nodes)?;
+                nodes.balance(&node.left, &node.entry, &right)
+            }
+            Ordering::Equal => nodes.join(&node.left, &node.right),
+        }
+    }
+}
