@@ -1,3 +1,5 @@
+pub mod Filters
 pub mod Heights
+pub mod Paths
 pub mod Sides
 pub mod Turns

@@ -6,7 +6,6 @@ use Rattle.std.specs.Ordering.{is_eq, is_lt, is_le, eq_by_cmp, ordering_reverse}
 use Rattle.std.specs.Cmp.{IsTotalOrder, alike_right}
 use Rattle.std.specs.BTreeMap.Comparable.{le_lt_trans}
 use Rattle.std.specs.FinMap.Entries.{by_order, put, find, below_all, is_sorted, length-put}
-use Rattle.std.proofs.lemmas.List.Sums.{length-filter, count_by-le-length}
 
 both : (a b : Bool) → T a → T b → T (a && b)
 both true b p q = q
@@ -30,9 +29,6 @@ greater : {K : Type 0} {R : K → K → Ordering} → IsTotalOrder R → (q x k 
 greater o q x k Less e le h = o.antisymm q x ∙ ap ordering_reverse (o.trans x k q h e)
 greater o q x k Equal e le h = o.antisymm q x ∙ ap ordering_reverse (sym (alike_right o k q x e) ∙ h)
 greater o q x k Greater e le h = absurd (subst T (sym le) tt)
-
-pub length_filter_le : {X : Type 0} (p : X → Bool) (xs : List X) → length (filter p xs) ≤ length xs
-length_filter_le p xs = omega (arith, length-filter p xs, count_by-le-length p xs)
 
 pub length_put_le : {K X : Type 0} {R : K → K → Ordering} → IsTotalOrder R → (q : K) (v : X) (es : List (K × X)) → T (is_sorted R es) → length (put R q v es) ≤ length es + 1
 length_put_le {R = R} o q v es h =

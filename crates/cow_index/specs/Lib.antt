@@ -1,4 +1,5 @@
 pub mod CowMap
 pub mod Entries
 pub mod Height
+pub mod Path
 pub mod Tree

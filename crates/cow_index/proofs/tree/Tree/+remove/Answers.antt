@@ -1,7 +1,7 @@
 use Rattle.std.proofs.Common.{not, length, ap, arith}
 use Rattle.std.proofs.lemmas.Grind.{common_steps}
 use Rattle.std.specs.Ordering.{is_eq, eq_by_cmp}
-use Rattle.cow_index.proofs.Sides.{length_filter_le}
+use Rattle.cow_index.proofs.Filters.{length_filter_le}
 use Rattle.cow_index.proofs.Turns.{turn, left_sorted, right_sorted, kept-left, kept-right, kept-here}
 use Rattle.cow_index.proofs.tree.Tree.+remove.Goals as goal
 

@@ -1,6 +1,6 @@
 use Rattle.std.proofs.Common.{arith}
 use Rattle.std.specs.Ordering.{is_le}
-use Rattle.cow_index.proofs.Sides.{length_filter_le}
+use Rattle.cow_index.proofs.Filters.{length_filter_le}
 use Rattle.cow_index.proofs.Turns.{turn, left_sorted, right_sorted, length-from-left, length-from-right, length-from-here}
 use Rattle.cow_index.proofs.tree.Tree.count_from.Goals as goal
 
