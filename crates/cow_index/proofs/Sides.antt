@@ -1,5 +1,5 @@
 -- Entries in order on both sides of an entry e, and where a search for a key q goes on.
-use Rattle.std.proofs.Common.{◌≡◌, ◌+◌, ◌≤◌, length, arith, Bool, true, false, cond, ◌&&◌, T, List, [], ◌∷◌, ◌++◌, filter, IsTrue, Some, None, refl, sym, ap, subst, ◌∙◌, is_some}
+use Rattle.std.proofs.Common.{◌≡◌, ◌+◌, ◌≤◌, length, arith, Bool, true, false, cond, ◌&&◌, T, List, [], ◌∷◌, ◌++◌, filter, IsTrue, Some, refl, sym, ap, subst, ◌∙◌, is_some}
 use Rattle.std.specs.declared.cmp.Ordering.{Ordering}
 use Rattle.std.specs.declared.cmp.Ordering.TheVariants.{Less, Equal, Greater}
 use Rattle.std.specs.Ordering.{is_eq, is_lt, is_le, eq_by_cmp, ordering_reverse}

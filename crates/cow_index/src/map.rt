@@ -40,13 +40,21 @@ impl<K: IndexKey, V> Model for CowMap<K, V> {
 impl<K: IndexKey, V: Drop> CowMap<K, V> {
     /// The empty map, whose later calls take their memory from `alloc`.
     pub fn new(alloc: Global) -> Self
-        ensures empty { result.entries ≡ [] }
+        ensures entries { result.entries ≡ [] }
+        ensures height { result.height ≡ 0 }
         ensures no_nodes { result.nodes_made ≡ 0 }
+    {
+        CowMap::of_tree(alloc, Tree::new(), 0)
+    }
+
+    fn of_tree(alloc: Global, tree: Tree<K, V>, nodes_made: u64) -> Self
+        requires { T (is_sorted K.cmp tree.0) }
+        ensures { result ≡ record { entries = tree.0; height = tree.1; nodes_made = nodes_made } }
     {
         CowMap {
             alloc,
-            tree: Tree::new(),
-            nodes_made: 0,
+            tree,
+            nodes_made,
         }
     }
 
@@ -61,7 +69,7 @@ impl<K: IndexKey, V: Drop> CowMap<K, V> {
     pub fn is_empty(&self) -> bool
         ensures { IsTrue result ↔ (self.now.entries ≡ []) }
     {
-        self.tree.len() == 0
+        self.len() == 0
     }
 
     /// The most nodes on a way down from the root: at most twice the binary digits of `len + 1`.
@@ -118,11 +126,7 @@ impl<K: IndexKey, V: Drop> CowMap<K, V> {
         ensures height { IfOk result (λ m. m.height ≡ self.now.height) }
         ensures no_nodes { IfOk result (λ m. m.nodes_made ≡ 0) }
     {
-        Ok(CowMap {
-            alloc: self.alloc,
-            tree: self.tree.share()?,
-            nodes_made: 0,
-        })
+        Ok(CowMap::of_tree(self.alloc, self.tree.share()?, 0))
     }
 
     /// The map with `value` at `key`, in the place of the value that it had there.
@@ -133,18 +137,14 @@ impl<K: IndexKey, V: Drop> CowMap<K, V> {
         ensures some_nodes { IfOk result (λ m. 0 < m.nodes_made) }
         ensures few_nodes { IfOk result (λ m. m.nodes_made ≤ 4 * (max self.now.height m.height + 1)) }
     {
-        if self.tree.len() == u64::MAX {
+        if self.len() == u64::MAX {
             return Err(AllocError);
         }
         prove!(self.tree.height() <= MAX_HEIGHT as u64);
         let entry = Arc::new(self.alloc, Entry { key, value })?;
         let mut nodes = NodeMaker::new(self.alloc);
         let tree = self.tree.insert(&entry, &mut nodes)?;
-        Ok(CowMap {
-            alloc: self.alloc,
-            tree,
-            nodes_made: nodes.made,
-        })
+        Ok(CowMap::of_tree(self.alloc, tree, nodes.made))
     }
 
     /// The map without `key`. Where the map lacks it, the same map, and no node is made.
@@ -153,16 +153,12 @@ impl<K: IndexKey, V: Drop> CowMap<K, V> {
         ensures no_nodes { find K.cmp key.now self.now.entries ≡ None → IfOk result (λ m. m.nodes_made ≡ 0) }
         ensures few_nodes { IfOk result (λ m. m.nodes_made ≤ 4 * (max self.now.height m.height + 1)) }
     {
-        if self.tree.get(key).is_none() {
+        if self.get(key).is_none() {
             return self.share();
         }
         prove!(self.tree.height() <= MAX_HEIGHT as u64);
         let mut nodes = NodeMaker::new(self.alloc);
         let tree = self.tree.remove(key, &mut nodes)?;
-        Ok(CowMap {
-            alloc: self.alloc,
-            tree,
-            nodes_made: nodes.made,
-        })
+        Ok(CowMap::of_tree(self.alloc, tree, nodes.made))
     }
 }

@@ -21,8 +21,8 @@ impl NodeMaker {
         NodeMaker { alloc, made: 0 }
     }
 
-    /// The one function that makes a node.
-    pub(crate) fn node<K: Drop, V: Drop>(
+    /// The one function that makes a node: the two sides are shared, and so is the entry.
+    pub(crate) fn make<K: Drop, V: Drop>(
         &mut self,
         left: &Tree<K, V>,
         entry: &Arc<Entry<K, V>>,
@@ -67,15 +67,15 @@ impl NodeMaker {
             unreachable!()
         };
         if node.left.height() >= node.right.height() {
-            let right = self.node(&node.right, entry, right)?;
-            return self.node(&node.left, &node.entry, &right);
+            let right = self.make(&node.right, entry, right)?;
+            return self.make(&node.left, &node.entry, &right);
         }
         let Some(middle) = node.right.node() else {
             unreachable!()
         };
-        let left = self.node(&node.left, &node.entry, &middle.left)?;
-        let right = self.node(&middle.right, entry, right)?;
-        self.node(&left, &middle.entry, &right)
+        let left = self.make(&node.left, &node.entry, &middle.left)?;
+        let right = self.make(&middle.right, entry, right)?;
+        self.make(&left, &middle.entry, &right)
     }
 
     // The right side is two levels higher.
@@ -97,15 +97,15 @@ impl NodeMaker {
             unreachable!()
         };
         if node.right.height() >= node.left.height() {
-            let left = self.node(left, entry, &node.left)?;
-            return self.node(&left, &node.entry, &node.right);
+            let left = self.make(left, entry, &node.left)?;
+            return self.make(&left, &node.entry, &node.right);
         }
         let Some(middle) = node.left.node() else {
             unreachable!()
         };
-        let left = self.node(left, entry, &middle.left)?;
-        let right = self.node(&middle.right, &node.entry, &node.right)?;
-        self.node(&left, &middle.entry, &right)
+        let left = self.make(left, entry, &middle.left)?;
+        let right = self.make(&middle.right, &node.entry, &node.right)?;
+        self.make(&left, &middle.entry, &right)
     }
 
     /// A tree over sides whose heights differ by at most two.
@@ -129,7 +129,7 @@ impl NodeMaker {
         } else if right_height > left_height.saturating_add(1) {
             self.lean_right(left, entry, right)
         } else {
-            self.node(left, entry, right)
+            self.make(left, entry, right)
         }
     }
 

@@ -186,7 +186,7 @@ impl<K: IndexKey, V: Drop> Tree<K, V> {
         ensures few { nodes.new.made ≤ nodes.old.made + 3 * self.now.1 + 1 }
     {
         let Some(node) = self.node() else {
-            return nodes.node(&Tree::new(), entry, &Tree::new());
+            return nodes.make(&Tree::new(), entry, &Tree::new());
         };
         let new: &Entry<K, V> = entry;
         match node.compare(&new.key) {
@@ -198,7 +198,7 @@ impl<K: IndexKey, V: Drop> Tree<K, V> {
                 let right = node.right.insert(entry, nodes)?;
                 nodes.balance(&node.left, &node.entry, &right)
             }
-            Ordering::Equal => nodes.node(&node.left, entry, &node.right),
+            Ordering::Equal => nodes.make(&node.left, entry, &node.right),
         }
     }
 

@@ -1,7 +1,5 @@
-use Rattle.std.proofs.Common.{length, ap}
-use Rattle.std.proofs.iter.runs.Sources.{from_front}
-use Rattle.std.specs.Map.Iter.{TakesFirst, deref_pair}
+use Rattle.cow_index.proofs.Runs.{shows_in_order}
 use Rattle.cow_index.proofs.map.CowMap.range_from.Goals as goal
 
 pub returns-clause-runs : goal.returns-clause-runs
-returns-clause-runs g c = from_front (TakesFirst deref_pair) deref_pair (λ s. s) (λ s t h. ap length h.0) (λ s x t h. h)
+returns-clause-runs g c = shows_in_order

@@ -1,4 +1,4 @@
-use Rattle.std.proofs.Common.{length, ap, sym, arith}
+use Rattle.std.proofs.Common.{length, ap, arith}
 use Rattle.std.proofs.lemmas.Grind.{common_steps}
 use Rattle.cow_index.specs.Tree.{pair_of}
 use Rattle.cow_index.proofs.Sides.{length_put_le}

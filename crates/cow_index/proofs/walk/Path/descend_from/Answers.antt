@@ -10,8 +10,7 @@ pub loop-node-preserved-in-Less : goal.loop-node-preserved-in-Less
 loop-node-preserved-in-Less g c =
     let at = turn g.K.Ord.cmp c.in-Some.ensures.root c.loop-node.invariant.0 c.in-Less.ensures in
     let n = c.in-Some.node.now in
-    let left = entries_from g.K.Ord.cmp c.args.key.now n.left.0 in
-    (
+    let left = entries_from g.K.Ord.cmp c.args.key.now n.left.0 in (
       left_sorted at,
       c.push.ensures.fit,
       omega (arith, at.root.heights, c.push.ensures.depth, c.loop-node.invariant.2),
@@ -21,8 +20,7 @@ loop-node-preserved-in-Less g c =
 
 pub loop-node-preserved : goal.loop-node-preserved
 loop-node-preserved g c =
-    let at = turn g.K.Ord.cmp c.in-Some.ensures.root c.loop-node.invariant.0 c.in-Greater.ensures in
-    (
+    let at = turn g.K.Ord.cmp c.in-Some.ensures.root c.loop-node.invariant.0 c.in-Greater.ensures in (
       right_sorted at,
       c.loop-node.invariant.1,
       omega (arith, at.root.heights, c.loop-node.invariant.2),
