@@ -1,6 +1,7 @@
 // The making of nodes: balanced trees from two sides and the entry between them.
 ghost use Rattle.std.specs.Prelude.{◌≡◌, ◌+◌, ◌*◌, ◌^◌, ◌<◌, ◌≤◌, max, ◌∷◌, ◌++◌, IfOk, OnOk, length, drop, option_map, slice_get};
 ghost use Rattle.cow_index.specs.Tree.{pair_of};
+ghost use Rattle.cow_index.specs.NodeMaker.{MakesAtMost};
 ghost use Rattle.cow_index.specs.Height.{DifferByAtMost, IsHeightAfterRebalance};
 
 use crate::tree::{Entry, Node, Tree};
@@ -34,7 +35,7 @@ impl NodeMaker {
         ensures entries { IfOk result (λ t. t.0 ≡ left.now.0 ++ pair_of entry.now ∷ right.now.0) }
         ensures height { IfOk result (λ t. t.1 ≡ max left.now.1 right.now.1 + 1) }
         ensures counted { OnOk result (self.new.made ≡ self.old.made + 1) }
-        ensures few { self.new.made ≤ self.old.made + 1 }
+        ensures few { MakesAtMost 1 self.old self.new }
     {
         let node = Node {
             left: left.share()?,
@@ -61,7 +62,7 @@ impl NodeMaker {
         ensures entries { IfOk result (λ t. t.0 ≡ left.now.0 ++ pair_of entry.now ∷ right.now.0) }
         ensures height { IfOk result (λ t. (left.now.1 ≤ t.1) × (t.1 ≤ left.now.1 + 1)) }
         ensures some { OnOk result (self.old.made < self.new.made) }
-        ensures few { self.new.made ≤ self.old.made + 3 }
+        ensures few { MakesAtMost 3 self.old self.new }
     {
         let Some(node) = left.node() else {
             unreachable!()
@@ -91,7 +92,7 @@ impl NodeMaker {
         ensures entries { IfOk result (λ t. t.0 ≡ left.now.0 ++ pair_of entry.now ∷ right.now.0) }
         ensures height { IfOk result (λ t. (right.now.1 ≤ t.1) × (t.1 ≤ right.now.1 + 1)) }
         ensures some { OnOk result (self.old.made < self.new.made) }
-        ensures few { self.new.made ≤ self.old.made + 3 }
+        ensures few { MakesAtMost 3 self.old self.new }
     {
         let Some(node) = right.node() else {
             unreachable!()
@@ -121,7 +122,7 @@ impl NodeMaker {
         ensures entries { IfOk result (λ t. t.0 ≡ left.now.0 ++ pair_of entry.now ∷ right.now.0) }
         ensures height { IfOk result (λ t. IsHeightAfterRebalance left.now.1 right.now.1 t.1) }
         ensures some { OnOk result (self.old.made < self.new.made) }
-        ensures few { self.new.made ≤ self.old.made + 3 }
+        ensures few { MakesAtMost 3 self.old self.new }
     {
         let (left_height, right_height) = (left.height(), right.height());
         if left_height > right_height.saturating_add(1) {
@@ -141,7 +142,7 @@ impl NodeMaker {
         requires counts { self.old.made + 3 * tree.now.1 < 2 ^ 64 }
         ensures entries { IfOk result (λ t. t.0 ≡ drop 1 tree.now.0) }
         ensures height { IfOk result (λ t. (t.1 ≤ tree.now.1) × (tree.now.1 ≤ t.1 + 1)) }
-        ensures few { self.new.made ≤ self.old.made + 3 * tree.now.1 }
+        ensures few { MakesAtMost (3 * tree.now.1) self.old self.new }
     {
         let Some(node) = tree.node() else {
             return Ok(Tree::new());
@@ -164,7 +165,7 @@ impl NodeMaker {
         requires counts { self.old.made + 3 * right.now.1 + 3 < 2 ^ 64 }
         ensures entries { IfOk result (λ t. t.0 ≡ left.now.0 ++ right.now.0) }
         ensures height { IfOk result (λ t. (max left.now.1 right.now.1 ≤ t.1) × (t.1 ≤ max left.now.1 right.now.1 + 1)) }
-        ensures few { self.new.made ≤ self.old.made + 3 * right.now.1 + 3 }
+        ensures few { MakesAtMost (3 * right.now.1 + 3) self.old self.new }
     {
         let Some(first) = right.first() else {
             return left.share();

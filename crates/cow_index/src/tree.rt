@@ -3,6 +3,7 @@ ghost use Rattle.std.specs.Prelude.{◌≡◌, ◌+◌, ◌*◌, ◌/◌, ◌^�
 ghost use Rattle.std.specs.FinMap.Entries.{find, put, is_sorted};
 ghost use Rattle.std.specs.declared.cmp.Ordering.{Ordering};
 ghost use Rattle.cow_index.specs.Tree.{pair_of, IsRoot};
+ghost use Rattle.cow_index.specs.NodeMaker.{MakesAtMost};
 ghost use Rattle.cow_index.specs.Entries.{without, entries_from};
 
 use crate::key::IndexKey;
@@ -183,7 +184,7 @@ impl<K: IndexKey, V: Drop> Tree<K, V> {
         ensures entries { IfOk result (λ t. t.0 ≡ put K.cmp (pair_of entry.now).0 (pair_of entry.now).1 self.now.0) }
         ensures height { IfOk result (λ t. (self.now.1 ≤ t.1) × (t.1 ≤ self.now.1 + 1)) }
         ensures some { OnOk result (nodes.old.made < nodes.new.made) }
-        ensures few { nodes.new.made ≤ nodes.old.made + 3 * self.now.1 + 1 }
+        ensures few { MakesAtMost (3 * self.now.1 + 1) nodes.old nodes.new }
     {
         let Some(node) = self.node() else {
             return nodes.make(&Tree::new(), entry, &Tree::new());
@@ -208,7 +209,7 @@ impl<K: IndexKey, V: Drop> Tree<K, V> {
         requires counts { nodes.old.made + 3 * self.now.1 < 2 ^ 64 }
         ensures entries { IfOk result (λ t. t.0 ≡ without K.cmp key.now self.now.0) }
         ensures height { IfOk result (λ t. (t.1 ≤ self.now.1) × (self.now.1 ≤ t.1 + 1)) }
-        ensures few { nodes.new.made ≤ nodes.old.made + 3 * self.now.1 }
+        ensures few { MakesAtMost (3 * self.now.1) nodes.old nodes.new }
     {
         let Some(node) = self.node() else {
             return Ok(Tree::new());
