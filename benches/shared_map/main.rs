@@ -16,7 +16,12 @@ unsafe extern "C" {
     fn shared_map_insert(keys: *const u64, len: usize) -> u64;
     fn shared_map_remove(keys: *const u64, len: usize, asked: *const u64, asked_len: usize) -> u64;
     fn shared_map_get(keys: *const u64, len: usize, asked: *const u64, asked_len: usize) -> u64;
-    fn shared_map_count_from(keys: *const u64, len: usize, asked: *const u64, asked_len: usize) -> u64;
+    fn shared_map_count_from(
+        keys: *const u64,
+        len: usize,
+        asked: *const u64,
+        asked_len: usize,
+    ) -> u64;
     fn shared_map_walk(keys: *const u64, len: usize, walks: u32) -> u64;
 
     fn malloc(size: usize) -> *mut c_void;
@@ -74,7 +79,9 @@ fn growths() -> ExitCode {
     let keys: Vec<u64> = (0..1000).collect();
     let (_, before) = insert(&keys[..999], 0);
     let (height, _) = insert(&keys, 0);
-    let met = (1..).take_while(|n| insert(&keys, before + n).0 == REFUSED).count() as u64;
+    let met = (1..)
+        .take_while(|n| insert(&keys, before + n).0 == REFUSED)
+        .count() as u64;
     let most = 8 * (height + 1);
     println!("the last of 1,000 insertions meets {met} growths, and may meet {most}");
     if 0 < met && met <= most {
@@ -107,58 +114,93 @@ fn least(mut run: impl FnMut() -> u64) -> f64 {
     times.fold(f64::INFINITY, f64::min)
 }
 
-fn row(call: &str, count: usize, shared: f64, tree: f64) {
-    let (shared, tree) = (shared / count as f64, tree / count as f64);
-    println!("| {call} | {shared:.0} | {tree:.0} | {:.2} |", shared / tree);
+fn tree_of(keys: &[u64]) -> BTreeMap<u64, u64> {
+    let mut map = BTreeMap::new();
+    for key in keys {
+        map.insert(*key, *key);
+    }
+    map
 }
 
 fn times_at(len: u64) {
     let keys = shuffled(len);
-    // As many calls at each length, but fewer where one takes time that grows with the length.
+    // As many calls at each length, and few of those whose time grows with the length.
     let asked: Vec<u64> = keys.iter().copied().cycle().take(1_000_000).collect();
-    let few: Vec<u64> = keys.iter().copied().take(200).collect();
+    let few = &keys[..200];
     let walks = (10_000_000 / len) as u32;
-    let pairs = || keys.iter().map(|key| (*key, *key));
 
-    let insert = least(|| unsafe { shared_map_insert(keys.as_ptr(), keys.len()) });
-    let remove = least(|| unsafe { shared_map_remove(keys.as_ptr(), keys.len(), keys.as_ptr(), keys.len()) });
-    let get = least(|| unsafe { shared_map_get(keys.as_ptr(), keys.len(), asked.as_ptr(), asked.len()) });
-    let count = least(|| unsafe { shared_map_count_from(keys.as_ptr(), keys.len(), asked.as_ptr(), asked.len()) });
-    let walk = least(|| unsafe { shared_map_walk(keys.as_ptr(), keys.len(), walks) });
+    let (at, n) = (keys.as_ptr(), keys.len());
+    let insert = least(|| unsafe { shared_map_insert(at, n) });
+    let remove = least(|| unsafe { shared_map_remove(at, n, at, n) });
+    let get = least(|| unsafe { shared_map_get(at, n, asked.as_ptr(), asked.len()) });
+    let count = least(|| unsafe { shared_map_count_from(at, n, asked.as_ptr(), asked.len()) });
+    let walk = least(|| unsafe { shared_map_walk(at, n, walks) });
 
-    let tree_insert = least(|| {
-        let mut map = BTreeMap::new();
-        pairs().for_each(|(key, value)| drop(map.insert(key, value)));
-        map.len() as u64
-    });
+    let map = tree_of(&keys);
+    let tree_insert = least(|| tree_of(&keys).len() as u64);
     let tree_remove = least(|| {
-        let mut map = BTreeMap::new();
-        pairs().for_each(|(key, value)| drop(map.insert(key, value)));
-        keys.iter().for_each(|key| drop(map.remove(key)));
+        let mut map = tree_of(&keys);
+        for key in &keys {
+            map.remove(key);
+        }
         map.len() as u64
     });
-    let map: BTreeMap<u64, u64> = pairs().collect();
     let tree_get = least(|| asked.iter().filter_map(|key| map.get(key)).sum());
     let tree_count = least(|| few.iter().map(|key| map.range(key..).count() as u64).sum());
-    let tree_walk = least(|| (0..walks).map(|_| black_box(&map).values().sum::<u64>()).sum());
+    let tree_walk = least(|| {
+        (0..walks)
+            .map(|_| black_box(&map).values().sum::<u64>())
+            .sum()
+    });
     let tree_copy = least(|| {
-        let copies = few.iter().map(|key| {
-            let mut copy = map.clone();
-            copy.insert(*key, 0);
-            copy.len() as u64
-        });
-        copies.sum()
+        for key in few {
+            black_box(map.clone()).insert(*key, 0);
+        }
+        few.len() as u64
     });
 
-    println!("\n{len} keys\n\n| Call | shared map, ns | `BTreeMap`, ns | ratio |\n|---|---|---|---|");
-    row("`insert`", keys.len(), insert, tree_insert);
-    row("`insert`, the older map kept", keys.len(), insert, tree_copy / few.len() as f64 * keys.len() as f64);
-    row("`remove`", keys.len(), remove - insert, tree_remove - tree_insert);
-    row("`get`", asked.len(), get - insert, tree_get);
-    row("a walk, for each entry", walks as usize * keys.len(), walk - insert, tree_walk);
-    row("`count_from`", asked.len(), count - insert, tree_count / few.len() as f64 * asked.len() as f64);
+    println!(
+        "\n{len} keys\n\n| Call | shared map, ns | `BTreeMap`, ns | ratio |\n|---|---|---|---|"
+    );
+    let row = |call: &str, shared: f64, tree: f64| {
+        println!(
+            "| {call} | {shared:.0} | {tree:.0} | {:.2} |",
+            shared / tree
+        );
+    };
+    let each = len as f64;
+    row("`insert`", insert / each, tree_insert / each);
+    row(
+        "`insert`, the older map kept",
+        insert / each,
+        tree_copy / few.len() as f64,
+    );
+    row(
+        "`remove`",
+        (remove - insert) / each,
+        (tree_remove - tree_insert) / each,
+    );
+    row(
+        "`get`",
+        (get - insert) / asked.len() as f64,
+        tree_get / asked.len() as f64,
+    );
+    let walked = f64::from(walks) * each;
+    row(
+        "a walk, for each entry",
+        (walk - insert) / walked,
+        tree_walk / walked,
+    );
+    row(
+        "`count_from`",
+        (count - insert) / asked.len() as f64,
+        tree_count / few.len() as f64,
+    );
     let (height, growths) = self::insert(&keys, 0);
-    println!("\nheight {height}, growths for each insertion {:.1}", growths as f64 / len as f64);
+    println!(
+        "\nheight {height}, growths for each insertion {:.1}",
+        growths as f64 / each
+    );
 }
 
 fn main() -> ExitCode {

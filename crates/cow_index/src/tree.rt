@@ -1,7 +1,6 @@
 // An AVL tree over shared nodes, seen as its entries in order and its height.
 ghost use Rattle.std.specs.Prelude.{◌≡◌, ◌+◌, ◌*◌, ◌/◌, ◌^◌, ◌<◌, ◌≤◌, [], IfOk, OnOk, IfSome, IfNone, length, T, slice_get, option_map, option_copied};
 ghost use Rattle.std.specs.FinMap.Entries.{find, put, is_sorted};
-ghost use Rattle.std.specs.declared.cmp.Ordering.{Ordering};
 ghost use Rattle.cow_index.specs.Tree.{pair_of, IsRoot};
 ghost use Rattle.cow_index.specs.NodeMaker.{MakesAtMost};
 ghost use Rattle.cow_index.specs.Entries.{without, entries_from};
