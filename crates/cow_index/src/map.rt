@@ -1,5 +1,5 @@
 // The map: a tree whose keys rise, and how many nodes the last call made.
-ghost use Rattle.std.specs.Prelude.{◌≡◌, ◌↔◌, ◌+◌, ◌*◌, ◌<◌, ◌≤◌, max, [], IfOk, IsTrue, length, T, option_copied};
+ghost use Rattle.std.specs.Prelude.{◌≡◌, ◌↔◌, ◌+◌, ◌*◌, ◌^◌, ◌<◌, ◌≤◌, max, [], IfOk, IsTrue, length, T, option_copied};
 ghost use Rattle.std.specs.FinMap.Entries.{find, put, is_sorted};
 ghost use Rattle.std.specs.Map.Iter.{ShowsInOrder, deref_pair};
 ghost use Rattle.cow_index.specs.Entries.{without, entries_from};
@@ -104,6 +104,7 @@ impl<K: IndexKey, V: Drop> CowMap<K, V> {
     /// All entries, in the order of their keys.
     pub fn iter(&self) -> Range<'_, K, V>
         ensures rest { result ≡ self.now.entries }
+        ensures fits { length result < 2 ^ 64 }
         ensures runs { ShowsInOrder (deref_pair {K = K} {X = V}) }
         ensures ordered { T (is_sorted K.cmp self.now.entries) }
     {
@@ -113,6 +114,7 @@ impl<K: IndexKey, V: Drop> CowMap<K, V> {
     /// The entries whose keys are not below `key`, in the order of their keys.
     pub fn range_from(&self, key: &K) -> Range<'_, K, V>
         ensures rest { result ≡ entries_from K.cmp key.now self.now.entries }
+        ensures fits { length result < 2 ^ 64 }
         ensures runs { ShowsInOrder (deref_pair {K = K} {X = V}) }
         ensures ordered { T (is_sorted K.cmp self.now.entries) }
     {

@@ -78,6 +78,7 @@ impl<K: Drop, V: Drop> Tree<K, V> {
         ensures stored { result ≡ self.now.1 }
         ensures dense { 2 ^ (self.now.1 / 2) ≤ length self.now.0 + 1 }
         ensures low { self.now.1 ≤ MAX_HEIGHT }
+        ensures fits { length self.now.0 < 2 ^ 64 }
     {
         match self.node() {
             None => 0,

@@ -1,5 +1,5 @@
 // Walks in the order of the keys. A walk keeps the nodes that it comes back to in an array.
-ghost use Rattle.std.specs.Prelude.{◌≡◌, ◌+◌, ◌≤◌, ◌++◌, ◌∷◌, T, [], IfSome, IfNone, length};
+ghost use Rattle.std.specs.Prelude.{◌≡◌, ◌+◌, ◌^◌, ◌<◌, ◌≤◌, ◌++◌, ◌∷◌, T, [], IfSome, IfNone, length};
 ghost use Rattle.std.specs.FinMap.Entries.{is_sorted};
 ghost use Rattle.std.specs.Iterator.{at_most};
 ghost use Rattle.std.specs.Map.Iter.{TakesFirst, deref_pair};
@@ -128,7 +128,8 @@ impl<'a, K, V> Model for Range<'a, K, V> {
 
 impl<'a, K: Drop, V: Drop> Range<'a, K, V> {
     pub(crate) fn all(tree: &'a Tree<K, V>) -> Self
-        ensures { result ≡ tree.now.0 }
+        ensures rest { result ≡ tree.now.0 }
+        ensures fits { length result < 2 ^ 64 }
     {
         prove!(tree.height() <= MAX_HEIGHT as u64);
         let mut path = Path::new();
@@ -140,7 +141,8 @@ impl<'a, K: Drop, V: Drop> Range<'a, K, V> {
 impl<'a, K: IndexKey, V: Drop> Range<'a, K, V> {
     pub(crate) fn from_key(tree: &'a Tree<K, V>, key: &K) -> Self
         requires { T (is_sorted K.cmp tree.now.0) }
-        ensures { result ≡ entries_from K.cmp key.now tree.now.0 }
+        ensures rest { result ≡ entries_from K.cmp key.now tree.now.0 }
+        ensures fits { length result < 2 ^ 64 }
     {
         prove!(tree.height() <= MAX_HEIGHT as u64);
         let mut path = Path::new();
