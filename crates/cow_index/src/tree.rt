@@ -12,21 +12,25 @@ use std::cmp::Ordering;
 use std::marker::Model;
 use std::sync::Arc;
 
-/// More than the height of any tree whose entries `u64` counts.
+/// No tree is higher, since its entries are counted in a `u64`.
 pub(crate) const MAX_HEIGHT: usize = 130;
 
+/// A key with its value. Nodes that were copied from one another share it.
 #[derive(Drop)]
 pub(crate) struct Entry<K, V> {
     pub(crate) key: K,
     pub(crate) value: V,
 }
 
+/// A tree, by the node at its root.
 #[cycle(tree)]
 #[derive(Drop)]
 pub(crate) struct Tree<K, V> {
     pub(crate) root: Option<Arc<Node<K, V>>>,
 }
 
+/// An entry between two sides whose heights differ by at most one, with the height and the number
+/// of entries of it all.
 #[cycle(tree)]
 #[derive(Drop)]
 pub(crate) struct Node<K, V> {
