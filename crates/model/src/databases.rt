@@ -1,0 +1,1 @@
+//! Laws of the sequential database and of compaction's copies.

@@ -1,0 +1,1 @@
+//! Laws of histories, of interleavings and of feeds.
