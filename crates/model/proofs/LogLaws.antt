@@ -1,18 +1,18 @@
 -- The purge log: numbers that rise by one up to the last purge's, what one more purge keeps, and which marks are overrun.
-use Rattle.std.specs.Prelude.{◌≡◌, ℕ, zero, suc, ◌+◌, ◌-◌, ◌<◌, ◌≤◌, ◌==◌, ◌≢◌, ◌⊎◌, Bool, true, false, not, ◌||◌, List, [], ◌∷◌, ◌++◌, length, drop, get_or, nat_lt, All, refl}
+use Rattle.std.specs.Prelude.{◌≡◌, ℕ, zero, suc, ◌+◌, ◌-◌, ◌<◌, ◌≤◌, ◌==◌, ◌≢◌, ◌⊎◌, Bool, true, false, not, ◌||◌, List, [], ◌∷◌, ◌++◌, length, drop, filter, cond, get_or, nat_lt, All, refl}
 use Rattle.std.specs.List.{list_any, range_with_len}
 use Rattle.std.specs.Cmp.{both_ways}
-use Rattle.std.proofs.Common.{inl, inr, sym, ap, ◌∙◌, arith, eqb-true, eq-eqb, ltb-true, lt-ltb}
-use Rattle.std.proofs.lemmas.Bool.{true≢false, or_cases, or_from, not-true, ne_eqb, cases_lt}
+use Rattle.std.proofs.Common.{inl, inr, sym, ap, subst, ◌∙◌, arith, eqb-true, eq-eqb, ltb-true, lt-ltb}
+use Rattle.std.proofs.lemmas.Bool.{true≢false, or_cases, or_from, not-true, ne_eqb, cases_lt, cond-false, ltb-false, le-ltb}
 use Rattle.std.proofs.lemmas.Bool.Decides.{nat_tests}
 use Rattle.std.proofs.lemmas.List.{length-drop, length_push, drop-append-le, drop-drop}
 use Rattle.std.proofs.lemmas.List.FromFn.{length-range_with_len, get_or-range_with_len}
 use Rattle.std.proofs.lemmas.List.Folds.{Any-from_list_any, list_any_at}
-use Rattle.std.proofs.lemmas.List.Elements.{All-push, All-drop}
+use Rattle.std.proofs.lemmas.List.Elements.{All-push, All-drop, filter-append}
 use Rattle.model.specs.Lists.{last_few}
 use Rattle.model.specs.Revision.{Rev, IsRev}
 use Rattle.model.specs.Command.{Id, IsId}
-use Rattle.model.specs.PurgeLog.{PurgeInfo, PurgeLog, logged, has_number, is_overrun, AreNumbered, IsPurgeInfo, IsLog}
+use Rattle.model.specs.PurgeLog.{PurgeInfo, PurgeLog, logged, has_number, purges_since, is_overrun, AreNumbered, IsPurgeInfo, IsLog}
 
 -- ---- the numbers
 
@@ -94,3 +94,34 @@ IsLog-logged l id leaves is_id revs some h =
       room = omega (arith, kept);
       newest = λ _. omega (arith, kept, longer, h.limit.0);
     }
+
+-- ---- what is logged above a mark
+
+-- what was dropped lies at the mark or below it
+above_dropped : (n k mark : ℕ) (ps : List PurgeInfo) → AreNumbered n ps → n - length (drop k ps) ≤ mark → filter (λ p. nat_lt mark p.seq) (drop k ps) ≡ filter (λ p. nat_lt mark p.seq) ps
+above_dropped n zero mark ps h le = refl
+above_dropped n (suc k) mark [] h le = refl
+above_dropped n (suc k) mark (p ∷ ps) h le = above_dropped n k mark ps h.2 le ∙ sym (cond-false (nat_lt mark p.seq) _ _ (le-ltb mark p.seq (omega (arith, h.0, le, length-drop k ps))))
+
+-- with no overrun the log has all purges above the mark
+pub since-all : (l : PurgeLog) (all : List PurgeInfo) (mark : ℕ) → AreNumbered l.purge_seq all → l.infos ≡ last_few l.limit all → is_overrun l mark ≡ false → purges_since l mark ≡ filter (λ p. nat_lt mark p.seq) all
+since-all l all mark h newest within =
+    let k = length all - l.limit in
+    let kept : AreNumbered l.purge_seq l.infos = subst (AreNumbered l.purge_seq) (sym newest) (AreNumbered-drop l.purge_seq k all h) in
+    let le = ltb-false mark (l.purge_seq - length l.infos) (sym (is_overrun-numbered l mark kept) ∙ within) in
+    ap (filter (λ p. nat_lt mark p.seq)) newest ∙ above_dropped l.purge_seq k mark all h (omega (arith, le, ap length newest))
+
+module _ (l : PurgeLog) (id : Id) (leaves : List Rev) (h : AreNumbered l.purge_seq l.infos) (mark : ℕ) where
+  pub since-logged : mark ≤ l.purge_seq → is_overrun (logged l id leaves) mark ≡ false → purges_since (logged l id leaves) mark ≡ purges_since l mark ++ record { seq = l.purge_seq + 1; id = id; leaves = leaves } ∷ []
+  since-logged le within =
+      let info : PurgeInfo = record { seq = l.purge_seq + 1; id = id; leaves = leaves } in
+      since-all (logged l id leaves) (l.infos ++ info ∷ []) mark (AreNumbered-push l.purge_seq l.infos info refl h) refl within
+      ∙ filter-append (λ p. nat_lt mark p.seq) l.infos (info ∷ [])
+      ∙ ap (λ b. purges_since l mark ++ cond b (info ∷ []) []) (lt-ltb mark (l.purge_seq + 1) (omega (arith, le)))
+
+  pub is_overrun-logged : is_overrun l mark ≡ true → is_overrun (logged l id leaves) mark ≡ true
+  is_overrun-logged over =
+      let info : PurgeInfo = record { seq = l.purge_seq + 1; id = id; leaves = leaves } in
+      let less = ltb-true mark (l.purge_seq - length l.infos) (sym (is_overrun-numbered l mark h) ∙ over) in
+      let kept = length-drop (length (l.infos ++ info ∷ []) - l.limit) (l.infos ++ info ∷ []) in
+      is_overrun-numbered (logged l id leaves) mark (AreNumbered-logged l id leaves h) ∙ lt-ltb mark _ (omega (arith, less, kept, length_push l.infos info))

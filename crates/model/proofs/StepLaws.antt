@@ -10,16 +10,11 @@ use Rattle.model.specs.Edit.{Written}
 use Rattle.model.specs.Database.{Database, tree_at, same_tree, with_tree, store, store_written, edit_in, merge_in, after_edit, after_merge, after_edits, after_merges, removed_of, leave, purge_removed, after_purge, after_purges, compacted, changed_by, act}
 use Rattle.model.specs.History.{replay}
 
--- a document that lost leaves is logged, and then it has the tree that is left, or goes
-abbrev pub purged : Database → Id → List Rev → Option Tree → Database
-purged d id leaves left = leave (record d { purges = logged d.purges id leaves }) id left
-
--- what edits, merges and purges do, one step after another
+-- what edits and merges do, one after another
 pub record KeptByWrites (R : Database → Database → Type 0) : Type 0 where
   pub none : (d : Database) → R d d
   pub more : (d e f : Database) → R d e → R e f → R d f
   pub tree : (d : Database) (id : Id) (t : Tree) → R d (with_tree d id t)
-  pub purge : (d : Database) (id : Id) (leaves : List Rev) (left : Option Tree) → R d (purged d id leaves left)
 
 module _ (R : Database → Database → Type 0) (k : KeptByWrites R) where
   of_store : (d : Database) (id : Id) (t : Tree) → R d (store d id t)
@@ -38,17 +33,27 @@ module _ (R : Database → Database → Type 0) (k : KeptByWrites R) where
   of_merges d [] = k.none d
   of_merges d (m ∷ ms) = k.more d (after_merge d m) _ (of_written d m.id (merge_in d m)) (of_merges (after_merge d m) ms)
 
+-- a document that lost leaves is logged, and then it has the tree that is left, or goes
+abbrev pub purged : Database → Id → List Rev → Option Tree → Database
+purged d id leaves left = leave (record d { purges = logged d.purges id leaves }) id left
+
+-- and purges
+pub record KeptByPurges (R : Database → Database → Type 0) : Type 0 where
+  pub writes : KeptByWrites R
+  pub purge : (d : Database) (id : Id) (leaves : List Rev) (left : Option Tree) → R d (purged d id leaves left)
+
+module _ (R : Database → Database → Type 0) (k : KeptByPurges R) where
   of_removed : (d : Database) (id : Id) (named leaves : List Rev) → R d (purge_removed d id named leaves)
-  of_removed d id named [] = k.none d
+  of_removed d id named [] = k.writes.none d
   of_removed d id named (r ∷ rs) = k.purge d id (r ∷ rs) (option_and_then (cut named) (tree_at d id))
 
   pub of_purges : (d : Database) (es : List (Id × List Rev)) → R d (after_purges d es)
-  of_purges d [] = k.none d
-  of_purges d (e ∷ es) = k.more d (after_purge d e) _ (of_removed d e.0 e.1 (removed_of d e.0 e.1)) (of_purges (after_purge d e) es)
+  of_purges d [] = k.writes.none d
+  of_purges d (e ∷ es) = k.writes.more d (after_purge d e) _ (of_removed d e.0 e.1 (removed_of d e.0 e.1)) (of_purges (after_purge d e) es)
 
--- all that entries do
+-- and all that entries do
 pub record KeptByEntries (R : Database → Database → Type 0) : Type 0 where
-  pub writes : KeptByWrites R
+  pub purges : KeptByPurges R
   -- local documents, the limit of revisions and the counts of calls may change
   pub aside : (d e : Database) → e.docs ≡ d.docs → e.purges ≡ d.purges → e.update_seq ≡ d.update_seq → R d e
   pub compact : (d : Database) → R d (compacted d)
@@ -56,17 +61,17 @@ pub record KeptByEntries (R : Database → Database → Type 0) : Type 0 where
 module _ (R : Database → Database → Type 0) (k : KeptByEntries R) where
   of_command : (d : Database) (c : Command) → R d (changed_by d c)
   unfolding changed_by
-  of_command d (Edits es) = of_edits R k.writes d es
-  of_command d (Merges ms) = of_merges R k.writes d ms
+  of_command d (Edits es) = of_edits R k.purges.writes d es
+  of_command d (Merges ms) = of_merges R k.purges.writes d ms
   of_command d (PutLocal id named body) = k.aside d _ refl refl refl
-  of_command d (Purge named) = of_purges R k.writes d (entries named)
+  of_command d (Purge named) = of_purges R k.purges d (entries named)
   of_command d (SetLimit n) = k.aside d _ refl refl refl
   of_command d Compact = k.compact d
 
   pub of_act : (d : Database) (seat : Seat) (c : Command) → R d (act d seat c)
   unfolding act
-  of_act d seat c = k.writes.more d (changed_by d c) _ (of_command d c) (k.aside (changed_by d c) _ refl refl refl)
+  of_act d seat c = k.purges.writes.more d (changed_by d c) _ (of_command d c) (k.aside (changed_by d c) _ refl refl refl)
 
   pub of_replay : (d : Database) (es : List Entry) → R d (replay d es)
-  of_replay d [] = k.writes.none d
-  of_replay d (e ∷ es) = k.writes.more d (act d e.seat e.command) _ (of_act d e.seat e.command) (of_replay (act d e.seat e.command) es)
+  of_replay d [] = k.purges.writes.none d
+  of_replay d (e ∷ es) = k.purges.writes.more d (act d e.seat e.command) _ (of_act d e.seat e.command) (of_replay (act d e.seat e.command) es)
