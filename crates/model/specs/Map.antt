@@ -1,8 +1,9 @@
 -- A finite map as the list of its entries in the order of their keys. Equal where all look-ups are equal.
 --     Order      a type of keys with a total order, in which only equal keys tie.   same_key O a b      whether two keys are equal
 --     empty, get, put, without, from_list, entries      refine f m has f k x at each key k where m has x, and nothing where f gives none
+--     IsRising O ks      each key stands before all later ones, so each stands there once
 --     get-.., same_map      what `get` answers after each, and that two maps that answer alike are equal
-use Rattle.std.specs.Prelude.{◌≡◌, Bool, true, false, cond, ◌&&◌, T, List, [], ◌∷◌, map, Option, Some, None, option_and_then, if◌then◌else◌, refl}
+use Rattle.std.specs.Prelude.{◌≡◌, Bool, true, false, cond, ◌&&◌, T, List, [], ◌∷◌, map, AllPairs, Option, Some, None, option_and_then, if◌then◌else◌, refl}
 use Rattle.std.specs.declared.cmp.Ordering.{Ordering}
 use Rattle.std.specs.declared.cmp.Ordering.TheVariants.{Less, Equal, Greater}
 use Rattle.std.specs.Ordering.{is_eq, is_lt, eq_by_cmp}
@@ -24,6 +25,9 @@ pub record Order : Type 1 where
 
 abbrev pub same_key : (O : Order) → O.key → O.key → Bool
 same_key O = eq_by_cmp O.cmp
+
+abbrev pub IsRising : (O : Order) → List O.key → Type 0
+IsRising O = AllPairs (λ a b. O.cmp a b ≡ Less)
 
 pub record Map (O : Order) (X : Type 0) : Type 0 where
   pub list : List (O.key × X)

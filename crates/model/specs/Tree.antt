@@ -1,7 +1,8 @@
 -- The revisions of a document: which are known, whose child each is, which are deleted, and the bodies that are kept.
-use Rattle.std.specs.Prelude.{◌≡◌, ℕ, zero, suc, ◌+◌, ◌<◌, T, Bool, true, false, not, ◌&&◌, List, [], ◌∷◌, map, filter, Option, Some, None, is_some, option_map, option_and_then, unwrap_or, if◌then◌else◌, refl}
+use Rattle.std.specs.Prelude.{◌≡◌, ◌≢◌, ℕ, zero, suc, ◌+◌, ◌<◌, T, Bool, true, false, not, ◌&&◌, List, [], ◌∷◌, map, filter, Option, Some, None, is_some, option_map, option_and_then, unwrap_or, if◌then◌else◌, refl}
 use Rattle.std.specs.List.{list_any}
 use Rattle.std.specs.declared.cmp.Ordering.{Ordering}
+use Rattle.std.specs.declared.cmp.Ordering.TheVariants.{Less}
 use Rattle.std.specs.Ordering.{is_eq, bool_cmp, then_cmp, flip_args, on}
 use Rattle.std.specs.Cmp.{IsTotalOrder, on_total, then_total, back_total, bool_cmp_total}
 use Rattle.std.specs.Coded.{Coded, code_by, coded×, coded_bool, coded_option}
@@ -61,6 +62,11 @@ pub record Leaf : Type 0 where
   pub deleted : Bool
   pub rev : Rev
 
+-- a leaf of t, with its flag
+pub record IsLeafOf (t : Tree) (l : Leaf) : Type 0 where
+  pub leaf : is_leaf t l.rev ≡ true
+  pub flag : is_deleted t l.rev ≡ l.deleted
+
 abbrev pub leaf_cmp : Leaf → Leaf → Ordering
 leaf_cmp = then_cmp (on (λ l. l.deleted) bool_cmp) (flip_args (on (λ l. l.rev) rev_cmp))
 
@@ -88,6 +94,12 @@ leaves t = map (λ e. e.0) (entries (from_list {O = ranks} (map as_leaf (filter 
 
 abbrev pub winner : Tree → Option Leaf
 winner t = first_of (leaves t)
+
+-- the greatest leaf, told with no list
+pub record IsGreatestLeaf (t : Tree) (w : Leaf) : Type 0 where
+  pub leaf : IsLeafOf t w
+  pub live : w.deleted ≡ true → (l : Leaf) → IsLeafOf t l → l.deleted ≡ true
+  pub greatest : (l : Leaf) → IsLeafOf t l → l.deleted ≡ w.deleted → rev_cmp w.rev l.rev ≢ Less
 
 abbrev pub revs_of : List Leaf → List Rev
 revs_of = map (λ l. l.rev)

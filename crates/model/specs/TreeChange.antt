@@ -1,11 +1,11 @@
 -- What becomes of a document's revisions: grafts, stemming, stripping and cuts.
-use Rattle.std.specs.Prelude.{◌≡◌, ℕ, ◌+◌, ◌<◌, Bool, true, false, not, ◌&&◌, ◌||◌, List, [], ◌∷◌, take, filter, Option, Some, None, is_some, option_and_then, unwrap_or, if◌then◌else◌}
+use Rattle.std.specs.Prelude.{◌≡◌, ◌↔◌, ℕ, ◌+◌, ◌<◌, Bool, true, false, not, ◌&&◌, ◌||◌, List, [], ◌∷◌, take, filter, Option, Some, None, is_some, option_and_then, unwrap_or, if◌then◌else◌}
 use Rattle.std.specs.List.{list_any}
 use Rattle.model.specs.Lists.{first_of, each_once}
 use Rattle.model.specs.Map.{get, put, refine}
 use Rattle.model.specs.Body.{Body}
 use Rattle.model.specs.Revision.{Rev, same_rev}
-use Rattle.model.specs.Tree.{Revision, Tree, Leaf, knows, parent_of, body_of, is_deleted, is_at, among, is_leaf, leaves, path_of}
+use Rattle.model.specs.Tree.{Revision, Tree, Leaf, knows, parent_of, body_of, is_deleted, is_at, among, is_leaf, leaves, ancestor, path_of}
 
 -- the revisions that pass, and the parents among them
 unfoldable pub restrict : (Rev → Bool) → Tree → Tree
@@ -33,6 +33,23 @@ cut named t = held_by t (filter (λ l. not (among named l.rev)) (leaves t))
 -- the leaves that go, in the order named; a named revision that is no leaf is ignored
 abbrev pub removed_leaves : List Rev → Tree → List Rev
 removed_leaves named t = each_once same_rev (filter (is_leaf t) named)
+
+-- ---- stems and cuts told by parent steps
+
+-- r is zero or more steps above some leaf that isn't named
+pub record IsHeld (named : List Rev) (t : Tree) (r : Rev) : Type 0 where
+  pub leaf : Rev
+  pub at_leaf : is_leaf t leaf ≡ true
+  pub stays : among named leaf ≡ false
+  pub steps : ℕ
+  pub leads : ancestor t steps (Some leaf) ≡ Some r
+
+-- u has just the revisions of t for which `Keeps` holds, with what t has of them and the parents among them
+pub record IsRestriction (Keeps : Rev → Type 0) (t u : Tree) : Type 0 where
+  pub known : (r : Rev) → (knows u r ≡ true) ↔ Keeps r
+  pub parents : (c p : Rev) → (parent_of u c ≡ Some p) ↔ ((parent_of t c ≡ Some p) × Keeps c × Keeps p)
+  pub bodies : (r : Rev) → Keeps r → body_of u r ≡ body_of t r
+  pub flags : (r : Rev) → Keeps r → is_deleted u r ≡ is_deleted t r
 
 -- ---- grafts
 
