@@ -13,4 +13,18 @@ pub mod OnceLaws
 pub mod PathLaws
 pub mod GraftLaws
 pub mod UnionLaws
+pub mod LogLaws
+pub mod StepLaws
+pub mod RestLaws
+pub mod LookupLaws
+pub mod NumberLaws
+pub mod IndexLaws
+pub mod AgreeLaws
+pub mod RisingLaws
+pub mod TouchedLaws
+pub mod CatchUpLaws
+pub mod WriteLaws
+pub mod UnseenLaws
+pub mod ShownLaws
+pub mod LocalLaws
 mod Examples

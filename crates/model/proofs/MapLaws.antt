@@ -52,7 +52,7 @@ module _ (O : Order) {X : Type 0} where
       (ap (λ b. cond b (Some f.1) (find O.cmp f.0 es)) (same_key_itself O f.0))
       (λ i d lt. let e = get_or es i d in ap (λ b. cond b (Some f.1) (find O.cmp e.0 es)) (same_key-apart O f.0 e.0 (above_all f.0 es (first _ _ s) i d lt)) ∙ each_found es (second _ _ s) i d lt)
 
-  found_listed : (es : List (O.key × X)) (k : O.key) (x : X) → find O.cmp k es ≡ Some x → Contains es (k, x)
+  pub found_listed : (es : List (O.key × X)) (k : O.key) (x : X) → find O.cmp k es ≡ Some x → Contains es (k, x)
   found_listed [] k x h = absurd (none-some x h)
   found_listed (e ∷ es) k x h = by_cases (same_key O k e.0)
       (λ t. (0, omega arith, λ i. (sym (same_key-equal O k e.0 t) i, same_Some e.1 x (sym (ap (λ b. cond b (Some e.1) (find O.cmp k es)) t) ∙ h) i)))

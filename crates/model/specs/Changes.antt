@@ -8,8 +8,12 @@ use Rattle.model.specs.Query.{Style, MainOnly, AllDocs, Row, ChangesPage}
 use Rattle.model.specs.Database.{Database, Record}
 
 -- the documents at their update numbers, which no two share
+abbrev pub at_numbers : Database → Map numbers (Id × Record)
+at_numbers d = from_list (map (λ e. (e.1.seq, e)) (entries d.docs))
+
+-- in the order of these numbers
 unfoldable pub by_seq : Database → List (ℕ × (Id × Record))
-by_seq d = entries (from_list {O = numbers} (map (λ e. (e.1.seq, e)) (entries d.docs)))
+by_seq d = entries (at_numbers d)
 
 -- a feed may be of some documents alone
 abbrev pub every_id : Id → Bool

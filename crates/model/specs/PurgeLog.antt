@@ -3,7 +3,7 @@ use Rattle.std.specs.Prelude.{◌≡◌, ◌<◌, ◌≤◌, ◌+◌, ◌-◌, �
 use Rattle.std.specs.List.{list_any, range_with_len}
 use Rattle.model.specs.Lists.{last_few}
 use Rattle.model.specs.Revision.{Rev, IsRev}
-use Rattle.model.specs.Command.{Id, IsId}
+use Rattle.model.specs.Command.{Id, IsId, IsLimit}
 
 -- a document that lost leaves, under its purge number
 pub record PurgeInfo : Type 0 where
@@ -47,6 +47,7 @@ pub record IsPurgeInfo (p : PurgeInfo) : Type 0 where
 
 -- what a log keeps: its newest purge, if there was one, and no more than the limit
 pub record IsLog (l : PurgeLog) : Type 0 where
+  pub limit : IsLimit l.limit
   pub numbered : AreNumbered l.purge_seq l.infos
   pub infos : All IsPurgeInfo l.infos
   pub room : length l.infos ≤ l.limit

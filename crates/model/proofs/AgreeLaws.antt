@@ -1,0 +1,178 @@
+-- A copy that agrees with a database agrees with every later one.
+use Rattle.std.specs.Prelude.{◌≡◌, ℕ, ◌+◌, ◌<◌, ◌≤◌, ◌⊎◌, Bool, true, false, cond, ◌||◌, List, [], ◌∷◌, ◌++◌, nat_lt, Option, Some, None, option_map, option_and_then, unwrap_or, refl}
+use Rattle.std.specs.List.{list_any}
+use Rattle.std.proofs.Common.{sym, ap, subst, ◌∙◌, inl, inr, arith, lt-ltb}
+use Rattle.std.proofs.lemmas.Bool.{true≢false, or_left, or_right}
+use Rattle.std.proofs.lemmas.List.Folds.{list_any-append}
+use Rattle.model.specs.Map.{get, put, get-put, get-refine, same_key, same_key-equal, same_key_itself}
+use Rattle.model.specs.Revision.{Rev}
+use Rattle.model.specs.Tree.{Tree}
+use Rattle.model.specs.Command.{Id, names, Entry}
+use Rattle.model.specs.PurgeLog.{PurgeLog, PurgeInfo, logged, purges_since, is_overrun, AreNumbered}
+use Rattle.model.specs.Database.{Database, Record, with_tree, without_document, stripped, compacted}
+use Rattle.model.specs.History.{replay}
+use Rattle.model.specs.Compaction.{Marks, marks_of, is_logged, is_updated, strip_at, Agrees}
+use Rattle.model.proofs.ListLaws.{by_cases}
+use Rattle.model.proofs.StripLaws.{strip-strip}
+use Rattle.model.proofs.LogLaws.{AreNumbered-logged, since-logged, is_overrun-logged}
+use Rattle.model.proofs.StepLaws.{KeptByEntries, purged, of_replay}
+
+-- e is a later database than d
+record Later (d e : Database) : Type 0 where
+  numbered : AreNumbered e.purges.purge_seq e.purges.infos
+  update : d.update_seq ≤ e.update_seq
+  purge : d.purges.purge_seq ≤ e.purges.purge_seq
+  agrees : (copy : Id → Option Record) (m : Marks) → m.update ≤ d.update_seq → m.purge ≤ d.purges.purge_seq → Agrees copy m d → Agrees copy m e
+
+abbrev IsLater : Database → Database → Type 0
+IsLater d e = AreNumbered d.purges.purge_seq d.purges.infos → Later d e
+
+Later-none : (d : Database) → IsLater d d
+Later-none d h = record { numbered = h; update = omega arith; purge = omega arith; agrees = λ copy m u p a. a }
+
+Later-more : (d e f : Database) → IsLater d e → IsLater e f → IsLater d f
+Later-more d e f g k h =
+    let one = g h in
+    let two = k one.numbered in
+    record {
+      numbered = two.numbered;
+      update = omega (arith, one.update, two.update);
+      purge = omega (arith, one.purge, two.purge);
+      agrees = λ copy m u p a. two.agrees copy m (omega (arith, u, one.update)) (omega (arith, p, one.purge)) (one.agrees copy m u p a);
+    }
+
+-- what agreement says of one document
+abbrev AgreesAt : (Id → Option Record) → Marks → Database → Id → Type 0
+AgreesAt copy m d id = (copy id ≡ strip_at d id) ⊎ ((is_updated d m.update id ≡ true) ⊎ (is_logged d m.purge id ≡ true))
+
+Later-aside : (d e : Database) → e.docs ≡ d.docs → e.purges ≡ d.purges → e.update_seq ≡ d.update_seq → IsLater d e
+Later-aside d e docs purges update_seq h = record {
+  numbered = subst (λ (l : PurgeLog). AreNumbered l.purge_seq l.infos) (sym purges) h;
+  update = omega arith;
+  purge = omega (arith, ap (λ l. l.purge_seq) purges);
+  agrees = λ copy m u p a. subst (λ x. Agrees copy m (record e { docs = x })) (sym docs) (subst (λ x. Agrees copy m (record d { purges = x })) (sym purges) a);
+}
+
+-- the test of an update reads a number that a strip keeps
+updated-stripped : (mark : ℕ) (o : Option Record) → unwrap_or (option_map (λ r. nat_lt mark r.seq) (option_map stripped o)) false ≡ unwrap_or (option_map (λ r. nat_lt mark r.seq) o) false
+updated-stripped mark None = refl
+updated-stripped mark (Some r) = refl
+
+same_updated : (d e : Database) (mark : ℕ) (id : Id) → strip_at e id ≡ strip_at d id → is_updated e mark id ≡ is_updated d mark id
+same_updated d e mark id is = sym (updated-stripped mark (get e.docs id)) ∙ ap (λ o. unwrap_or (option_map (λ r. nat_lt mark r.seq) o) false) is ∙ updated-stripped mark (get d.docs id)
+
+-- where the log and a document's strip stay, so does what is said of it
+AgreesAt-same : (copy : Id → Option Record) (m : Marks) (d e : Database) (id : Id) → e.purges ≡ d.purges → strip_at e id ≡ strip_at d id → AgreesAt copy m d id → AgreesAt copy m e id
+AgreesAt-same copy m d e id purges is (inl a) = inl (a ∙ sym is)
+AgreesAt-same copy m d e id purges is (inr (inl a)) = inr (inl (same_updated d e m.update id is ∙ a))
+AgreesAt-same copy m d e id purges is (inr (inr a)) = inr (inr (ap (λ l. list_any (λ p. same_key names p.id id) (purges_since l m.purge)) purges ∙ a))
+
+Agrees-same : (copy : Id → Option Record) (m : Marks) (d e : Database) → e.purges ≡ d.purges → ((id : Id) → AgreesAt copy m d id → AgreesAt copy m e id) → Agrees copy m d → Agrees copy m e
+Agrees-same copy m d e purges each (inl over) = inl (ap (λ l. is_overrun l m.purge) purges ∙ over)
+Agrees-same copy m d e purges each (inr a) = inr (λ id. each id (a id))
+
+-- ---- a new tree takes an update number
+
+Later-tree : (d : Database) (id : Id) (t : Tree) → IsLater d (with_tree d id t)
+Later-tree d id t h = record {
+  numbered = h;
+  update = omega arith;
+  purge = omega arith;
+  agrees = λ copy m u p. Agrees-same copy m d (with_tree d id t) refl (λ q a. by_cases (same_key names q id) (λ same. inr (inl (fresh m u q same))) (λ other. AgreesAt-same copy m d (with_tree d id t) q refl (ap (option_map stripped) (got q false other)) a));
+}
+  where
+    new : Record
+    new = record { tree = t; seq = d.update_seq + 1 }
+
+    got : (q : Id) (b : Bool) → same_key names q id ≡ b → get (put d.docs id new) q ≡ cond b (Some new) (get d.docs q)
+    got q b e = get-put d.docs id new q ∙ ap (λ c. cond c (Some new) (get d.docs q)) e
+
+    fresh : (m : Marks) → m.update ≤ d.update_seq → (q : Id) → same_key names q id ≡ true → is_updated (with_tree d id t) m.update q ≡ true
+    fresh m u q same = ap (λ o. unwrap_or (option_map (λ r. nat_lt m.update r.seq) o) false) (got q true same) ∙ lt-ltb m.update (d.update_seq + 1) (omega (arith, u))
+
+-- ---- a purge is logged
+
+abbrev with_log : Database → PurgeLog → Database
+with_log d l = record d { purges = l }
+
+module _ (d : Database) (id : Id) (leaves : List Rev) (h : AreNumbered d.purges.purge_seq d.purges.infos) where
+  abbrev log : PurgeLog
+  log = logged d.purges id leaves
+
+  logged_now : (m : Marks) (q : Id) → m.purge ≤ d.purges.purge_seq → is_overrun log m.purge ≡ false → is_logged (with_log d log) m.purge q ≡ (is_logged d m.purge q || (same_key names id q || false))
+  logged_now m q p within = ap (list_any (λ p. same_key names p.id q)) (since-logged d.purges id leaves h m.purge p within) ∙ list_any-append (λ p. same_key names p.id q) (purges_since d.purges m.purge) _
+
+  -- each document is as it was, or gone and logged
+  module _ (e : Database) (same_log : e.purges ≡ log) (docs : (q : Id) → (strip_at e q ≡ strip_at d q) ⊎ (same_key names id q ≡ true)) where
+    agrees_at : (copy : Id → Option Record) (m : Marks) → m.purge ≤ d.purges.purge_seq → is_overrun log m.purge ≡ false → (q : Id) → AgreesAt copy m d q → AgreesAt copy m e q
+    agrees_at copy m p within q a = at (docs q) a
+      where
+        logged_in : (is_logged (with_log d log) m.purge q ≡ true) → is_logged e m.purge q ≡ true
+        logged_in t = ap (λ l. list_any (λ p. same_key names p.id q) (purges_since l m.purge)) same_log ∙ t
+
+        at : (strip_at e q ≡ strip_at d q) ⊎ (same_key names id q ≡ true) → AgreesAt copy m d q → AgreesAt copy m e q
+        at (inr gone) a = inr (inr (logged_in (logged_now m q p within ∙ or_right (is_logged d m.purge q) _ (or_left _ false gone))))
+        at (inl is) (inl a) = inl (a ∙ sym is)
+        at (inl is) (inr (inl a)) = inr (inl (same_updated d e m.update q is ∙ a))
+        at (inl is) (inr (inr a)) = inr (inr (logged_in (logged_now m q p within ∙ or_left _ _ a)))
+
+    later_logged : e.update_seq ≡ d.update_seq → Later d e
+    later_logged update_seq = record {
+      numbered = subst (λ (l : PurgeLog). AreNumbered l.purge_seq l.infos) (sym same_log) (AreNumbered-logged d.purges id leaves h);
+      update = omega arith;
+      purge = omega (arith, ap (λ l. l.purge_seq) same_log);
+      agrees = agrees;
+    }
+      where
+        agrees : (copy : Id → Option Record) (m : Marks) → m.update ≤ d.update_seq → m.purge ≤ d.purges.purge_seq → Agrees copy m d → Agrees copy m e
+        agrees copy m u p (inl over) = inl (ap (λ l. is_overrun l m.purge) same_log ∙ is_overrun-logged d.purges id leaves h m.purge over)
+        agrees copy m u p (inr a) = by_cases (is_overrun log m.purge) (λ over. inl (ap (λ l. is_overrun l m.purge) same_log ∙ over)) (λ within. inr (λ q. agrees_at copy m p within q (a q)))
+
+  Later-logged : Later d (with_log d log)
+  Later-logged = later_logged (with_log d log) refl (λ q. inl refl) refl
+
+  Later-gone : Later d (without_document (with_log d log) id)
+  Later-gone = later_logged (without_document (with_log d log) id) refl (λ q. by_cases (same_key names q id) (λ t. inr (turned q t)) (λ f. inl (ap (option_map stripped) (get-refine (λ k r. cond (same_key names k id) None (Some r)) d.docs q ∙ left (same_key names q id) (get d.docs q) f)))) refl
+    where
+      left : (b : Bool) (o : Option Record) → b ≡ false → option_and_then (λ r. cond b None (Some r)) o ≡ o
+      left true o e = absurd (true≢false e)
+      left false None e = refl
+      left false (Some r) e = refl
+
+      turned : (q : Id) → same_key names q id ≡ true → same_key names id q ≡ true
+      turned q e = ap (same_key names id) (same_key-equal names q id e) ∙ same_key_itself names id
+
+Later-purged : (d : Database) (id : Id) (leaves : List Rev) (left : Option Tree) → IsLater d (purged d id leaves left)
+Later-purged d id leaves (Some t) = Later-more d (with_log d (logged d.purges id leaves)) _ (Later-logged d id leaves) (Later-tree (with_log d (logged d.purges id leaves)) id t)
+Later-purged d id leaves None = Later-gone d id leaves
+
+-- ---- a compaction strips what a copy has stripped
+
+strip_at-compacted : (d : Database) (id : Id) → strip_at (compacted d) id ≡ strip_at d id
+strip_at-compacted d id = ap (option_map stripped) (get-refine (λ k r. Some (stripped r)) d.docs id) ∙ twice (get d.docs id)
+  where
+    twice : (o : Option Record) → option_map stripped (option_and_then (λ r. Some (stripped r)) o) ≡ option_map stripped o
+    twice None = refl
+    twice (Some r) = λ i. Some (record { tree = strip-strip r.tree i; seq = r.seq })
+
+Later-compacted : (d : Database) → IsLater d (compacted d)
+Later-compacted d h = record {
+  numbered = h;
+  update = omega arith;
+  purge = omega arith;
+  agrees = λ copy m u p. Agrees-same copy m d (compacted d) refl (λ id. AgreesAt-same copy m d (compacted d) id refl (strip_at-compacted d id));
+}
+
+later : KeptByEntries IsLater
+later = record {
+  purges = record { writes = record { none = Later-none; more = Later-more; tree = Later-tree }; purge = Later-purged };
+  aside = Later-aside;
+  compact = Later-compacted;
+}
+
+pub Agrees-replay : (copy : Id → Option Record) (m : Marks) (d : Database) (es : List Entry) → AreNumbered d.purges.purge_seq d.purges.infos → m.update ≤ d.update_seq → m.purge ≤ d.purges.purge_seq → Agrees copy m d → Agrees copy m (replay d es)
+Agrees-replay copy m d es h u p a = (of_replay IsLater later d es h).agrees copy m u p a
+
+-- a copy of all strips agrees at the database's own numbers
+pub Agrees-start : (d : Database) → Agrees (strip_at d) (marks_of d) d
+Agrees-start d = inr (λ id. inl refl)
