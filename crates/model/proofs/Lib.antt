@@ -27,4 +27,16 @@ pub mod WriteLaws
 pub mod UnseenLaws
 pub mod ShownLaws
 pub mod LocalLaws
+pub mod HistoryLaws
+pub mod CallLaws
+pub mod TellLaws
+pub mod ViewLaws
+pub mod JobLaws
+pub mod EventLaws
+pub mod EntryLaws
+pub mod RunLaws
+pub mod PlaceLaws
+pub mod LastLaws
+pub mod FeedLaws
+pub mod FollowLaws
 mod Examples

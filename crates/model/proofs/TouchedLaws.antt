@@ -35,13 +35,17 @@ log_rises : (n : ℕ) (ps : List PurgeInfo) → AreNumbered n ps → Rising (λ 
 log_rises n [] h = tt
 log_rises n (p ∷ ps) h = (omega (arith, h.0, h.1), Rising-lower (λ p. p.seq) p.seq (n - length ps) ps (omega (arith, h.0)) (log_rises n ps h.2))
 
-changed_rises : (d : Database) (mark : ℕ) → Rising number mark (above number mark (by_seq d))
+-- the updates that pass a test, which lets none pass up to the mark
+pub passing_rises : (d : Database) (mark : ℕ) (test : Update → Bool) → ((e : Update) → test e ≡ true → mark < e.0) → Rising number mark (filter test (by_seq d))
 unfolding by_seq
-changed_rises d mark =
+passing_rises d mark test high =
     let updates = entries (at_numbers d) in
-    Rising-pairs number mark (above number mark updates)
-    (All-weaker (λ e. nat_lt mark e.0 ≡ true) (λ e. mark < e.0) (λ e h. ltb-true mark e.0 h) _ (filter_passes (λ e. nat_lt mark e.0) updates))
-    (AllPairs-filter (λ e f. e.0 < f.0) (λ e. nat_lt mark e.0) updates (λ i j e less lt. ranked _ _ Less (sym (AllPairs-map (λ m n. nat_cmp m n ≡ Less) number updates (IsRising-keys numbers (at_numbers d)) i j e less lt))))
+    Rising-pairs number mark (filter test updates)
+    (All-weaker (λ e. test e ≡ true) (λ e. mark < e.0) high _ (filter_passes test updates))
+    (AllPairs-filter (λ e f. e.0 < f.0) test updates (λ i j e less lt. ranked _ _ Less (sym (AllPairs-map (λ m n. nat_cmp m n ≡ Less) number updates (IsRising-keys numbers (at_numbers d)) i j e less lt))))
+
+changed_rises : (d : Database) (mark : ℕ) → Rising number mark (above number mark (by_seq d))
+changed_rises d mark = passing_rises d mark (λ e. nat_lt mark e.0) (λ e h. ltb-true mark e.0 h)
 
 -- ---- numbers are at most the database's
 
@@ -53,7 +57,7 @@ pub listed_number : (d : Database) (e : Update) → Contains (by_seq d) e → (g
 unfolding by_seq
 listed_number d e c = of_number d e.0 e.1.0 e.1.1 ((Contains-entries numbers (at_numbers d) e.0 e.1).0 c)
 
-numbers_within : (d : Database) → IsNumbered d → All (λ e. e.0 ≤ d.update_seq) (by_seq d)
+pub numbers_within : (d : Database) → IsNumbered d → All (λ e. e.0 ≤ d.update_seq) (by_seq d)
 numbers_within d num = All-weaker (Contains (by_seq d)) (λ e. e.0 ≤ d.update_seq) (λ e c. let at = listed_number d e c in let w = num.within e.1.0 e.1.1 at.0 in omega (arith, at.1, w.1)) (by_seq d) (All-contains_itself (by_seq d))
 
 -- ---- the marks after the first n touched

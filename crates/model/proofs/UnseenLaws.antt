@@ -75,7 +75,7 @@ by_seq-compacted d =
     ∙ ap entries (from_list-map numbers (λ e. (e.0, stripped e.1)) (map (λ e. (e.1.seq, e)) (entries d.docs)))
     ∙ entries-refine (λ e. (e.0, stripped e.1)) (at_numbers d)
 
-row-stripped : (style : Style) (e : Update) → row style (stripped_update e) ≡ row style e
+pub row-stripped : (style : Style) (e : Update) → row style (stripped_update e) ≡ row style e
 row-stripped MainOnly e = ap (λ ls. record { seq = e.0; id = e.1.0; changes = take 1 (revs_of ls); deleted = unwrap_or (option_map (λ l. l.deleted) (first_of ls)) false }) (leaves-strip e.1.1.tree)
 row-stripped AllDocs e = ap (λ ls. record { seq = e.0; id = e.1.0; changes = revs_of ls; deleted = unwrap_or (option_map (λ l. l.deleted) (first_of ls)) false }) (leaves-strip e.1.1.tree)
 

@@ -1,11 +1,11 @@
 -- Every interleaving of sessions, updater and compactor, as lists of events.
-use Rattle.std.specs.Prelude.{◌≤◌, ℕ, ◌+◌, ◌-◌, ◌==◌, min, Bool, true, false, not, ◌&&◌, List, [], ◌∷◌, ◌++◌, length, take, drop, map, nat_lt, nat_le, Option, Some, None, is_none, option_map, unwrap_or, if◌then◌else◌}
+use Rattle.std.specs.Prelude.{◌≡◌, ◌≤◌, ℕ, ◌+◌, ◌-◌, ◌==◌, min, Bool, true, false, not, ◌&&◌, List, [], ◌∷◌, ◌++◌, length, take, drop, map, nat_lt, nat_le, Option, Some, None, is_none, option_map, unwrap_or, if◌then◌else◌}
 use Rattle.std.specs.List.{range_with_len}
 use Rattle.model.specs.Map.{Map, entries, get, put, from_list}
 use Rattle.model.specs.Command.{numbers, Command, Compact, Reply, Seat, Job, Entry}
 use Rattle.model.specs.Query.{Query, Answer}
 use Rattle.model.specs.PurgeLog.{is_overrun}
-use Rattle.model.specs.Database.{Database, calls_of}
+use Rattle.model.specs.Database.{Database, compacted, counted, calls_of}
 use Rattle.model.specs.History.{replay, entry_of}
 use Rattle.model.specs.Answers.{answer_to}
 use Rattle.model.specs.Compaction.{Marks, marks_of, touched, passed}
@@ -146,6 +146,13 @@ module _ (base : Database) where
   -- nothing happens where no copy is open
   abbrev pub with_copy : World → (OpenCopy → World) → World
   with_copy w f = unwrap_or (option_map f w.copy) w
+
+  -- from w to u the open copy's session gets one Compact entry, which strips the database and changes nothing else
+  pub record AddsCompact (w u : World) : Type 0 where
+    pub copy : OpenCopy
+    pub was_open : w.copy ≡ Some copy
+    pub entry : u.history ≡ w.history ++ entry_of (database_of w) (next_seat w copy.session) Compact ∷ []
+    pub database : database_of u ≡ counted (compacted (database_of w)) copy.session
 
   module _ (c : Config) where
     -- an event whose condition fails does nothing

@@ -73,6 +73,10 @@ what_is_still_touched_holds_the_end_back : length (lived (and_edited ++ Slice 1 
 unfolding computed
 what_is_still_touched_holds_the_end_back = refl
 
+unless_the_slack_allows_it : length (run empty_database (record config { slack = 1 }) (start_world config) (and_edited ++ Slice 1 ∷ CatchUp 1 ∷ Swap ∷ [])).history ≡ 5
+unfolding computed
+unless_the_slack_allows_it = refl
+
 abbrev compacted_at_last : World
 compacted_at_last = lived (and_edited ++ Slice 1 ∷ CatchUp 64 ∷ Swap ∷ [])
 

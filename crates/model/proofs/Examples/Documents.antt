@@ -3,7 +3,7 @@ use Rattle.std.specs.Prelude.{◌≡◌, true, List, [], ◌∷◌, Some, None, 
 use Rattle.model.specs.Map.{empty, put}
 use Rattle.model.specs.Command.{Command, Merges, SetLimit}
 use Rattle.model.specs.Query.{Get, OpenRevs, RevsDiff, AllDocuments, Info, RevsLimit, Available, NoBody, IsMissing, WasDeleted, Found, Opened, Differences, Documents, Counted, Limit}
-use Rattle.model.proofs.Examples.Fixtures.{computed, answer, plain, shown, braces, counting, rev, put_new, put_over, delete, path, merge, of, a, b, c, d, a1, a2, a3}
+use Rattle.model.proofs.Examples.Fixtures.{computed, answer, plain, shown, braces, counting, rev, put_new, put_over, delete, path, merge, of, a, b, c, d, a1, a2, a3, x2}
 
 -- ---- the winner
 
@@ -85,6 +85,10 @@ one_of_three_deleted = put_new a ∷ put_new b ∷ put_new c ∷ delete a (Some 
 a_deleted_document_is_not_got : answer one_of_three_deleted (Get a None plain) ≡ Found (Err WasDeleted)
 unfolding computed
 a_deleted_document_is_not_got = refl
+
+but_its_deletion_is_by_its_name : answer one_of_three_deleted (Get a (Some x2) plain) ≡ Found (Ok (record (shown a x2 braces) { deleted = true }))
+unfolding computed
+but_its_deletion_is_by_its_name = refl
 
 live_documents_are_listed_by_their_ids : answer one_of_three_deleted AllDocuments ≡ Documents ((b, a1) ∷ (c, a1) ∷ [])
 unfolding computed

@@ -1,12 +1,12 @@
 -- Interleavings: batches, views, full queues and histories, overrun compactions, and epochs.
 use Rattle.std.specs.Prelude.{◌≡◌, ℕ, true, List, [], ◌∷◌, length, Some, None, Ok, Err, refl}
 use Rattle.model.specs.Map.{get, from_list}
-use Rattle.model.specs.Command.{Purge, Conflict, Wrote}
+use Rattle.model.specs.Command.{Compact, Purge, Conflict, Wrote}
 use Rattle.model.specs.Query.{Info, Counts, Counted}
 use Rattle.model.specs.PurgeLog.{empty_log}
 use Rattle.model.specs.Database.{Database, empty_database}
 use Rattle.model.specs.History.{successor}
-use Rattle.model.specs.World.{Config, Event, Ask, Take, Put, GiveUp, Look, Read, Start, Slice, CatchUp, WroteAt, Asked, World, start_world, run}
+use Rattle.model.specs.World.{Config, Event, Ask, Take, Put, GiveUp, Look, Read, Start, Slice, CatchUp, Abort, WroteAt, Asked, World, start_world, run}
 use Rattle.model.proofs.Examples.Fixtures.{computed, after, put_new, a, b, x, y, a1}
 
 abbrev three_sessions : Config
@@ -45,6 +45,20 @@ a_full_queue_takes_no_job = refl
 a_batch_past_the_last_place_is_not_put : length (lived_from empty_database (record three_sessions { max_places = 1 }) (Ask 0 (put_new a) ∷ Ask 1 (put_new b) ∷ Take 2 ∷ Put ∷ [])).history ≡ 0
 unfolding computed
 a_batch_past_the_last_place_is_not_put = refl
+
+-- ---- what a session cannot ask
+
+a_session_that_there_is_not_does_nothing : lived (Ask 3 (put_new a) ∷ Look 3 ∷ Read 3 Info ∷ Start 3 ∷ []) ≡ start_world three_sessions
+unfolding computed
+a_session_that_there_is_not_does_nothing = refl
+
+no_job_is_a_compaction : lived (Ask 0 Compact ∷ []) ≡ start_world three_sessions
+unfolding computed
+no_job_is_a_compaction = refl
+
+one_compaction_is_open_at_a_time : lived (Start 1 ∷ Start 2 ∷ Abort ∷ []) ≡ start_world three_sessions
+unfolding computed
+one_compaction_is_open_at_a_time = refl
 
 -- ---- a log of one purge, and two documents purged behind a compaction's back
 
