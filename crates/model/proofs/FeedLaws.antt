@@ -16,7 +16,8 @@ use Rattle.model.proofs.ListLaws.{by_cases, Contains-cons_cases, Contains-map, C
 use Rattle.model.proofs.MapLaws.{Contains-entries}
 use Rattle.model.proofs.IndexLaws.{at_number}
 use Rattle.model.proofs.RisingLaws.{Rising, last_number, last_number-le, last_number-most, above, above-last_number}
-use Rattle.model.proofs.TouchedLaws.{Update, number, passing_rises, listed_number, numbers_within}
+use Rattle.model.proofs.TouchedLaws.{Update, number, numbers_within}
+use Rattle.model.proofs.RowLaws.{IsListed, update_of, above_since, all_listed, each_listed}
 
 -- ---- the rows of a follower's map
 
@@ -37,52 +38,35 @@ fed_gives m (r ∷ rows) id v one h own = fed_gives (put m r.id r) rows id v (Al
     ]
 
 module _ (style : Style) (d : Database) where
-  -- an update that the database has
-  abbrev IsListed : Update → Type 0
-  IsListed e = (get d.docs e.1.0 ≡ Some e.1.1) × (e.1.1.seq ≡ e.0)
-
-  abbrev update_of : Id → Record → Update
-  update_of id r = (r.seq, (id, r))
-
   -- a listed update of a document is that of its record
-  one_row : (id : Id) (r : Record) (e : Update) → get d.docs id ≡ Some r → IsListed e → (row style e).id ≡ id → row style e ≡ row style (update_of id r)
+  one_row : (id : Id) (r : Record) (e : Update) → get d.docs id ≡ Some r → IsListed d e → (row style e).id ≡ id → row style e ≡ row style (update_of id r)
   one_row id r e has h own =
       let x : e.1.1 ≡ r = same_Some e.1.1 r (sym h.0 ∙ ap (get d.docs) own ∙ has) in
       let n : e.0 ≡ r.seq = sym h.1 ∙ ap (λ (y : Record). y.seq) x in
       λ i. row style (n i, (own i, x i))
 
   -- some listed updates, with all the wanted ones above c and at most up to
-  IsRightFeed-fed : (wanted : Id → Bool) (m : Map names Row) (s c upto : ℕ) (given : List Update) → All IsListed given
+  IsRightFeed-fed : (wanted : Id → Bool) (m : Map names Row) (s c upto : ℕ) (given : List Update) → All (IsListed d) given
       → ((id : Id) (r : Record) → get d.docs id ≡ Some r → wanted id ≡ true → c < r.seq → r.seq ≤ upto → Contains given (update_of id r))
       → IsRightFeed wanted style m s c d → IsRightFeed wanted style (fed m (map (row style) given)) s upto d
   IsRightFeed-fed wanted m s c upto given listed each right id r has w above le =
       let v = row style (update_of id r) in
       fed_gives m (map (row style) given) id v
-      (All-map (λ q. q.id ≡ id → q ≡ v) (row style) given (All-weaker IsListed (λ e. (row style e).id ≡ id → row style e ≡ v) (λ e h own. one_row id r e has h own) given listed))
+      (All-map (λ q. q.id ≡ id → q ≡ v) (row style) given (All-weaker (IsListed d) (λ e. (row style e).id ≡ id → row style e ≡ v) (λ e h own. one_row id r e has h own) given listed))
       (by_cases (nat_lt c r.seq) (λ t. inr (Contains-map (row style) given (update_of id r) (each id r has w (ltb-true c r.seq t) le))) (λ f. inl (right id r has w above (ltb-false c r.seq f))))
       refl
 
--- ---- the updates above a number
+-- ---- the first updates above a number
 
 module _ (style : Style) (wanted : Id → Bool) (d : Database) (c : ℕ) where
   abbrev updates : List Update
   updates = changed_since wanted d c
 
-  above_cursor : Rising number c updates
-  above_cursor = passing_rises d c (λ e. nat_lt c e.0 && wanted e.1.0) (λ e h. ltb-true c e.0 (and_parts _ _ h).0)
-
-  all_listed : All (IsListed style d) updates
-  all_listed = All-weaker (Contains (by_seq d)) (IsListed style d) (listed_number d) updates (All-filter (λ e. nat_lt c e.0 && wanted e.1.0) (Contains (by_seq d)) (by_seq d) (All-contains_itself (by_seq d)))
-
-  each_listed : IsNumbered d → (id : Id) (r : Record) → get d.docs id ≡ Some r → wanted id ≡ true → c < r.seq → Contains updates (update_of style d id r)
-  unfolding by_seq
-  each_listed num id r has w less = (Contains-filter (λ e. nat_lt c e.0 && wanted e.1.0) (by_seq d) (r.seq, (id, r))).1 ((Contains-entries numbers (at_numbers d) r.seq (id, r)).1 (at_number d id r num has), and_from _ _ (lt-ltb c r.seq less) w)
-
   -- what is at most the last of the first n is one of them
   among_first : (n : ℕ) (e : Update) → Contains updates e → e.0 ≤ last_number number c (take n updates) → Contains (take n updates) e
   among_first n e listed le = elim (Contains-append_cases (take n updates) (drop n updates) e (subst (λ es. Contains es e) (sym (take-append-drop n updates)) listed)) [
     | inl first ↦ first
-    | inr rest ↦ absurd (beyond (subst (λ es. Contains es e) (sym (above-last_number number c n updates above_cursor)) rest))
+    | inr rest ↦ absurd (beyond (subst (λ es. Contains es e) (sym (above-last_number number c n updates (above_since wanted d c))) rest))
   ]
     where
       beyond : Contains (above number (last_number number c (take n updates)) updates) e → ⊥
@@ -100,7 +84,7 @@ module _ (style : Style) (wanted : Id → Bool) (d : Database) (c : ℕ) where
 
   -- the cursor moves on, and not past the update number
   pub cursor_rises : (n : ℕ) → c ≤ last_seq_of c (take n (rows_since wanted d c style))
-  cursor_rises n = omega (arith, last-first n, last_number-le number c n updates above_cursor)
+  cursor_rises n = omega (arith, last-first n, last_number-le number c n updates (above_since wanted d c))
 
   pub cursor_within : (n : ℕ) → IsNumbered d → c ≤ d.update_seq → last_seq_of c (take n (rows_since wanted d c style)) ≤ d.update_seq
   cursor_within n num le =
@@ -117,12 +101,12 @@ module _ (style : Style) (wanted : Id → Bool) (d : Database) (c : ℕ) where
     pub IsRightFeed-first : Right (take n (rows_since wanted d c style)) (last_seq_of c (take n (rows_since wanted d c style)))
     IsRightFeed-first =
         let upto = last_number number c (take n updates) in
-        let fits = IsRightFeed-fed style d wanted m s c upto (take n updates) (All-take (IsListed style d) n updates all_listed) (λ id r has w less le. among_first n (update_of style d id r) (each_listed num id r has w less) le) right in
+        let fits = IsRightFeed-fed style d wanted m s c upto (take n updates) (All-take (IsListed d) n updates (all_listed wanted d c)) (λ id r has w less le. among_first n (update_of id r) (each_listed wanted d c num id r has w less) le) right in
         subst (Right (take n (rows_since wanted d c style))) (sym (last-first n)) (subst (λ rows. Right rows upto) (sym (rows-first n)) fits)
 
     -- and where these are all, up to the update number
     pub IsRightFeed-all : length (rows_since wanted d c style) ≤ n → Right (take n (rows_since wanted d c style)) d.update_seq
     IsRightFeed-all le =
         let whole = take_all n updates (omega (arith, length-map updates (row style), le)) in
-        let fits = IsRightFeed-fed style d wanted m s c d.update_seq (take n updates) (All-take (IsListed style d) n updates all_listed) (λ id r has w less _. subst (λ es. Contains es (update_of style d id r)) (sym whole) (each_listed num id r has w less)) right in
+        let fits = IsRightFeed-fed style d wanted m s c d.update_seq (take n updates) (All-take (IsListed d) n updates (all_listed wanted d c)) (λ id r has w less _. subst (λ es. Contains es (update_of id r)) (sym whole) (each_listed wanted d c num id r has w less)) right in
         subst (λ rows. Right rows d.update_seq) (sym (rows-first n)) fits

@@ -37,6 +37,7 @@ pub mod EntryLaws
 pub mod RunLaws
 pub mod PlaceLaws
 pub mod LastLaws
+pub mod RowLaws
 pub mod FeedLaws
 pub mod FollowLaws
 mod Examples

@@ -36,6 +36,14 @@ row style e = record { seq = e.0; id = e.1.0; changes = listed style e.1.1.tree;
 abbrev pub rows_since : (Id → Bool) → Database → ℕ → Style → List Row
 rows_since wanted d since style = map (row style) (changed_since wanted d since)
 
+-- the row of a wanted document with an update number above `since`
+pub record IsRowOf (wanted : Id → Bool) (d : Database) (since : ℕ) (style : Style) (r : Row) : Type 0 where
+  pub document : Record
+  pub known : get d.docs r.id ≡ Some document
+  pub is_wanted : wanted r.id ≡ true
+  pub above : since < document.seq
+  pub tells : r ≡ row style (document.seq, (r.id, document))
+
 -- the number of the last row, or `seq` where there is none
 abbrev pub last_seq_of : ℕ → List Row → ℕ
 last_seq_of seq [] = seq

@@ -1,13 +1,13 @@
 //! Laws of histories, of interleavings and of feeds.
 
-ghost use Rattle.std.specs.Prelude.{◌≡◌, ◌≢◌, ◌↔◌, ◌⊎◌, ℕ, ◌+◌, ◌<◌, ◌≤◌, Bool, List, [], ◌∷◌, ◌++◌, length, take, slice_get, filter_map, Option};
+ghost use Rattle.std.specs.Prelude.{◌≡◌, ◌≢◌, ◌↔◌, ◌⊎◌, ℕ, ◌+◌, ◌<◌, ◌≤◌, Bool, List, [], ◌∷◌, ◌++◌, length, take, slice_get, filter_map, AllPairs, Contains, Option};
 ghost use Rattle.std.specs.List.{range_with_len};
 ghost use Rattle.model.specs.Map.{Map};
 ghost use Rattle.model.specs.Command.{Id, names, Command, Reply, Seat, Job, Entry};
 ghost use Rattle.model.specs.Query.{Style, Row};
 ghost use Rattle.model.specs.Database.{Database, IsNumbered, act, calls_of};
 ghost use Rattle.model.specs.History.{replay, IsNext, IsLegal, batch_entries, of_session, calls_in, Chronicle, now, Extends, Follows};
-ghost use Rattle.model.specs.Changes.{rows_since, last_seq_of, changes_page, IsRightFeed, fed};
+ghost use Rattle.model.specs.Changes.{rows_since, last_seq_of, changes_page, IsRowOf, IsRightFeed, fed};
 ghost use Rattle.model.specs.World.{Config, Event, Put, Swap, Completed, WroteAt, World, AddsCompact, database_of, start_world, step, run};
 ghost use Rattle.model.specs.Told.{Tells, AllTold, wrote, places_of, NoneFalls};
 
@@ -86,6 +86,15 @@ pub fn events_add_entries()
         ((step base c w Swap).history ≡ w.history) ⊎ AddsCompact base w (step base c w Swap) }
     ensures others { (base : Database) (c : Config) (w : World) (e : Event) →
         e ≢ Put → e ≢ Swap → (step base c w e).history ≡ w.history }
+{}
+
+/// The changes since a number are the rows of the wanted documents that were updated later, in the order of their
+/// last updates.
+pub fn changes_list_later_updates()
+    ensures rows { (wanted : Id → Bool) (d : Database) (since : ℕ) (style : Style) (r : Row) → IsNumbered d →
+        Contains (rows_since wanted d since style) r ↔ IsRowOf wanted d since style r }
+    ensures rising { (wanted : Id → Bool) (d : Database) (since : ℕ) (style : Style) →
+        AllPairs (λ q r. q.seq < r.seq) (rows_since wanted d since style) }
 {}
 
 /// A follower's map that is right for a version is right, with its next rows, for each version that follows; and a
