@@ -1,10 +1,10 @@
 -- Histories that go on: replay by `act`, legality entry by entry, and what one history has of another.
-use Rattle.std.specs.Prelude.{◌≡◌, ◌↔◌, ◌+◌, List, [], ◌∷◌, ◌++◌, refl}
+use Rattle.std.specs.Prelude.{◌≡◌, ◌↔◌, ◌+◌, List, [], ◌∷◌, ◌++◌, map, refl}
 use Rattle.std.proofs.Common.{sym, ap, ◌∙◌, append_assoc}
 use Rattle.std.proofs.lemmas.List.{append-nil}
 use Rattle.model.specs.Command.{Command, Seat, Job, Entry}
 use Rattle.model.specs.Database.{Database, act, calls_of}
-use Rattle.model.specs.History.{replay, IsNext, IsLegal, entry_of, batch_entries, Chronicle, Extends, Follows, extends, reopened}
+use Rattle.model.specs.History.{replay, IsNext, IsLegal, entry_of, batch_entries, job_of, Chronicle, Extends, Follows, extends, reopened}
 
 pub replay-append : (base : Database) (es more : List Entry) → replay base (es ++ more) ≡ replay (replay base es) more
 replay-append base [] more = refl
@@ -31,6 +31,13 @@ IsNext-entry_of d seat command h = record { seat = h; reply = refl }
 pub batch_entries-append : (d : Database) (js ks : List Job) → batch_entries d (js ++ ks) ≡ batch_entries d js ++ batch_entries (replay d (batch_entries d js)) ks
 batch_entries-append d [] ks = refl
 batch_entries-append d (j ∷ js) ks = ap (λ es. entry_of d j.seat j.command ∷ es) (batch_entries-append (act d j.seat j.command) js ks)
+
+-- the replies are the database's, so a legal history is told by its jobs
+pub IsLegal-entries : (base : Database) (es : List Entry) → IsLegal base es → es ≡ batch_entries base (map job_of es)
+IsLegal-entries base [] h = refl
+IsLegal-entries base (e ∷ es) h =
+    let rest = IsLegal-entries (act base e.seat e.command) es h.1 in
+    λ i. record { seat = e.seat; command = e.command; reply = h.0.reply i } ∷ rest i
 
 -- ---- one history begins with another
 

@@ -40,7 +40,7 @@ module _ (wanted : Id → Bool) (d : Database) (since : ℕ) where
     row_of : (r : Row) → Source (row style) (changed_since wanted d since) r → IsRowOf wanted d since style r
     row_of r s =
         let c = (Contains-filter passes (by_seq d) s.element).0 s.listed in
-        let p = and_parts _ _ c.1 in
+        let p = and_parts (nat_lt since s.element.0) (wanted s.element.1.0) c.1 in
         let h = listed_number d s.element c.0 in
         subst (IsRowOf wanted d since style) s.gives (record { document = s.element.1.1; known = h.0; is_wanted = p.1; above = omega (arith, ltb-true since s.element.0 p.0, h.1); tells = λ i. row style (sym h.1 i, s.element.1) })
 

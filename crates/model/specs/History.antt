@@ -27,6 +27,10 @@ abbrev pub batch_entries : Database → List Job → List Entry
 batch_entries d [] = []
 batch_entries d (j ∷ js) = entry_of d j.seat j.command ∷ batch_entries (act d j.seat j.command) js
 
+-- the job that an entry answers
+abbrev pub job_of : Entry → Job
+job_of e = record { seat = e.seat; command = e.command }
+
 -- the entries of a session
 abbrev pub of_session : ℕ → List Entry → List Entry
 of_session s es = filter (λ e. same_key numbers s e.seat.session) es

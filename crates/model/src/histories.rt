@@ -1,12 +1,12 @@
 //! Laws of histories, of interleavings and of feeds.
 
-ghost use Rattle.std.specs.Prelude.{◌≡◌, ◌≢◌, ◌↔◌, ◌⊎◌, ℕ, ◌+◌, ◌<◌, ◌≤◌, Bool, List, [], ◌∷◌, ◌++◌, length, take, slice_get, filter_map, AllPairs, Contains, Option};
+ghost use Rattle.std.specs.Prelude.{◌≡◌, ◌≢◌, ◌↔◌, ◌⊎◌, ℕ, ◌+◌, ◌<◌, ◌≤◌, Bool, List, [], ◌∷◌, ◌++◌, length, map, take, slice_get, filter_map, AllPairs, Contains, Option};
 ghost use Rattle.std.specs.List.{range_with_len};
 ghost use Rattle.model.specs.Map.{Map};
 ghost use Rattle.model.specs.Command.{Id, names, Command, Reply, Seat, Job, Entry};
 ghost use Rattle.model.specs.Query.{Style, Row};
 ghost use Rattle.model.specs.Database.{Database, IsNumbered, act, calls_of};
-ghost use Rattle.model.specs.History.{replay, IsNext, IsLegal, batch_entries, of_session, calls_in, Chronicle, now, Extends, Follows};
+ghost use Rattle.model.specs.History.{replay, IsNext, IsLegal, batch_entries, job_of, of_session, calls_in, Chronicle, now, Extends, Follows};
 ghost use Rattle.model.specs.Changes.{rows_since, last_seq_of, changes_page, IsRowOf, IsRightFeed, fed};
 ghost use Rattle.model.specs.World.{Config, Event, Put, Swap, Completed, WroteAt, World, AddsCompact, database_of, start_world, step, run};
 ghost use Rattle.model.specs.Told.{Tells, AllTold, wrote, places_of, NoneFalls};
@@ -21,12 +21,15 @@ pub fn replay_goes_on()
         batch_entries d (js ++ ks) ≡ batch_entries d js ++ batch_entries (replay d (batch_entries d js)) ks }
 {}
 
-/// A history is legal exactly where a beginning of it is, and the rest from the database after that.
+/// A history is legal exactly where a beginning of it is, and the rest from the database after that; its entries are
+/// those of its jobs, one after another.
 pub fn legal_histories_go_on()
     ensures next { (base : Database) (es : List Entry) (e : Entry) →
         IsLegal base (es ++ e ∷ []) ↔ (IsLegal base es × IsNext (replay base es) e) }
     ensures parts { (base : Database) (es more : List Entry) →
         IsLegal base (es ++ more) ↔ (IsLegal base es × IsLegal (replay base es) more) }
+    ensures entries { (base : Database) (es : List Entry) →
+        IsLegal base es → es ≡ batch_entries base (map job_of es) }
 {}
 
 /// In a legal history each session's calls are numbered one by one, on from those of the base, and no call stands twice.

@@ -1,6 +1,6 @@
 -- Compactions: what a copy has yet to take over while others write, and what a compaction leaves.
-use Rattle.std.specs.Prelude.{◌≡◌, List, [], ◌∷◌, ◌++◌, length, Some, None, Ok, Err, refl}
-use Rattle.model.specs.Map.{empty, put, from_list}
+use Rattle.std.specs.Prelude.{◌≡◌, true, List, [], ◌∷◌, ◌++◌, length, Some, None, Ok, Err, refl}
+use Rattle.model.specs.Map.{empty, get, put, from_list}
 use Rattle.model.specs.Command.{Command, Purge, Compact, Wrote, Purged, Done}
 use Rattle.model.specs.PurgeLog.{empty_log}
 use Rattle.model.specs.Database.{empty_database}
@@ -89,6 +89,10 @@ the_end_is_one_compact_at_the_next_place : compacted_at_last.completed ≡
     ∷ []
 unfolding computed
 the_end_is_one_compact_at_the_next_place = refl
+
+and_its_session_sees_it : get compacted_at_last.views 1 ≡ Some (record { place = 5; free = true })
+unfolding computed
+and_its_session_sees_it = refl
 
 a_purged_document_stays_away : database_of empty_database compacted_at_last ≡ record empty_database {
   docs = put empty y (record_of 3 ((a1, without_body None) ∷ (a2, with_body (Some a1) (counting 1)) ∷ []));

@@ -1,10 +1,10 @@
 -- The changes feed: its rows, where it goes on from, and what a follower takes.
 use Rattle.std.specs.Prelude.{◌≡◌, ℕ, Bool, true, false, List, [], ◌∷◌, take, Some, None, refl}
 use Rattle.std.specs.List.{list_any}
-use Rattle.model.specs.Map.{same_key}
+use Rattle.model.specs.Map.{Map, empty, entries, same_key}
 use Rattle.model.specs.Command.{Id, names, Command, Merges, Purge}
 use Rattle.model.specs.Query.{Changes, MainOnly, AllDocs, Row, Changed}
-use Rattle.model.specs.Changes.{every_id, rows_since, last_seq_of, changes_page}
+use Rattle.model.specs.Changes.{every_id, rows_since, last_seq_of, changes_page, fed}
 use Rattle.model.proofs.Examples.Fixtures.{computed, after, answer, rev, put_new, delete, path, of, a, b, c, d, a1, x2}
 
 abbrev row_of : ℕ → Id → Row
@@ -69,6 +69,13 @@ and_goes_on_from_the_last_of_them = refl
 until_none_is_left : rows_after (last_seq_of 3 (rows_after 3)) ≡ []
 unfolding computed
 until_none_is_left = refl
+
+abbrev map_of_both : Map names Row
+map_of_both = fed (fed empty (rows_after 0)) (rows_after 3)
+
+its_map_has_each_document_at_its_last_row : entries map_of_both ≡ (a, deletion_of_a) ∷ (b, row_of 2 b) ∷ (c, row_of 3 c) ∷ []
+unfolding computed
+its_map_has_each_document_at_its_last_row = refl
 
 -- ---- a feed of some documents
 

@@ -6,7 +6,7 @@ use Rattle.model.specs.Query.{Info, Counts, Counted}
 use Rattle.model.specs.PurgeLog.{empty_log}
 use Rattle.model.specs.Database.{Database, empty_database}
 use Rattle.model.specs.History.{successor}
-use Rattle.model.specs.World.{Config, Event, Ask, Take, Put, GiveUp, Look, Read, Start, Slice, CatchUp, Abort, WroteAt, Asked, World, start_world, run}
+use Rattle.model.specs.World.{Config, Event, Ask, Take, Put, GiveUp, Look, Read, Start, Slice, CatchUp, Swap, Abort, WroteAt, Asked, World, start_world, run}
 use Rattle.model.proofs.Examples.Fixtures.{computed, after, put_new, a, b, x, y, a1}
 
 abbrev three_sessions : Config
@@ -65,16 +65,24 @@ one_compaction_is_open_at_a_time = refl
 abbrev short_log : Database
 short_log = record empty_database { purges = record empty_log { limit = 1 } }
 
-abbrev overrun : World
-overrun = lived_from short_log three_sessions (Ask 0 (put_new x) ∷ Ask 2 (put_new y) ∷ Take 2 ∷ Put ∷ Start 1 ∷ Slice 2 ∷ Ask 0 (Purge (from_list ((x, a1 ∷ []) ∷ (y, a1 ∷ []) ∷ []))) ∷ Take 1 ∷ Put ∷ CatchUp 64 ∷ [])
+abbrev overrun_at : Event → World
+overrun_at e = lived_from short_log (record three_sessions { slack = 64 }) (Ask 0 (put_new x) ∷ Ask 2 (put_new y) ∷ Take 2 ∷ Put ∷ Start 1 ∷ Slice 2 ∷ Ask 0 (Purge (from_list ((x, a1 ∷ []) ∷ (y, a1 ∷ []) ∷ []))) ∷ Take 1 ∷ Put ∷ e ∷ [])
 
-an_overrun_compaction_is_given_up : overrun.copy ≡ None
+an_overrun_compaction_is_given_up : (overrun_at (CatchUp 64)).copy ≡ None
 unfolding computed
 an_overrun_compaction_is_given_up = refl
 
-and_its_session_is_free_with_no_entry : get overrun.views 1 ≡ Some (record { place = 0; free = true })
+and_its_session_is_free_where_it_was : get (overrun_at (CatchUp 64)).views 1 ≡ Some (record { place = 0; free = true })
 unfolding computed
-and_its_session_is_free_with_no_entry = refl
+and_its_session_is_free_where_it_was = refl
+
+an_overrun_end_gives_it_up_too : overrun_at Swap ≡ overrun_at (CatchUp 64)
+unfolding computed
+an_overrun_end_gives_it_up_too = refl
+
+it_leaves_no_entry : length (overrun_at Swap).history ≡ 3
+unfolding computed
+it_leaves_no_entry = refl
 
 -- ---- the next epoch
 

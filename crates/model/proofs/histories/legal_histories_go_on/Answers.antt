@@ -1,4 +1,4 @@
-use Rattle.model.proofs.HistoryLaws.{IsLegal-append, IsLegal-push}
+use Rattle.model.proofs.HistoryLaws.{IsLegal-append, IsLegal-push, IsLegal-entries}
 use Rattle.model.proofs.histories.legal_histories_go_on.Goals as goal
 
 pub returns-clause-next : goal.returns-clause-next
@@ -6,3 +6,6 @@ returns-clause-next c = IsLegal-push
 
 pub returns-clause-parts : goal.returns-clause-parts
 returns-clause-parts c = IsLegal-append
+
+pub returns-clause-entries : goal.returns-clause-entries
+returns-clause-entries c = IsLegal-entries
