@@ -1,13 +1,13 @@
 -- Compactions: what a copy has yet to take over while others write, and what a compaction leaves.
 use Rattle.std.specs.Prelude.{◌≡◌, true, List, [], ◌∷◌, ◌++◌, length, Some, None, Ok, Err, refl}
 use Rattle.model.specs.Map.{empty, get, put, from_list}
-use Rattle.model.specs.Command.{Command, Purge, Compact, Wrote, Purged, Done}
+use Rattle.model.specs.Command.{Command, Merges, Purge, Compact, Wrote, Purged, Done}
 use Rattle.model.specs.PurgeLog.{empty_log}
 use Rattle.model.specs.Database.{empty_database}
 use Rattle.model.specs.Query.{Get, IsMissing, Found}
 use Rattle.model.specs.Compaction.{Touched, WasPurged, WasUpdated, touched}
 use Rattle.model.specs.World.{Config, Event, Ask, Take, Put, Start, Slice, CatchUp, Swap, WroteAt, World, database_of, start_world, run}
-use Rattle.model.proofs.Examples.Fixtures.{computed, after, answer, plain, shown, braces, counting, put_new, put_over, of, with_body, without_body, record_of, a, x, y, a1, a2}
+use Rattle.model.proofs.Examples.Fixtures.{computed, after, answer, rev, path, plain, shown, braces, counting, put_new, put_over, of, with_body, without_body, record_of, a, d, x, y, a1, a2}
 
 -- ---- bodies of inner revisions go
 
@@ -25,6 +25,11 @@ until_a_compaction = refl
 which_changes_nothing_else : after (edited ++ Compact ∷ []) ≡ record (after edited) { docs = put empty a (record_of 2 ((a1, without_body None) ∷ (a2, with_body (Some a1) (counting 1)) ∷ [])); calls = put empty 0 3 }
 unfolding computed
 which_changes_nothing_else = refl
+
+both_leaves_keep_theirs : (after (Merges (path d (rev 2 0xbb) (rev 1 0xaa ∷ []) ∷ path d (rev 2 0xcc) (rev 1 0xaa ∷ []) ∷ []) ∷ Compact ∷ [])).docs
+    ≡ put empty d (record_of 2 ((rev 1 0xaa, without_body None) ∷ (rev 2 0xbb, with_body (Some (rev 1 0xaa)) braces) ∷ (rev 2 0xcc, with_body (Some (rev 1 0xaa)) braces) ∷ []))
+unfolding computed
+both_leaves_keep_theirs = refl
 
 -- ---- in slices: session 0 writes and session 1 compacts
 
@@ -60,6 +65,10 @@ a_purge_and_an_edit_are_touched = refl
 nothing_is_caught_up_before_the_last_slice : (lived (and_edited ++ CatchUp 64 ∷ [])).copy ≡ Some (record { session = 1; left = 1; marks = record { update = 2; purge = 0 } })
 unfolding computed
 nothing_is_caught_up_before_the_last_slice = refl
+
+nor_does_it_end : length (run empty_database (record config { slack = 9 }) (start_world config) (and_edited ++ Swap ∷ [])).history ≡ 4
+unfolding computed
+nor_does_it_end = refl
 
 a_catch_up_passes_the_first_touched : (lived (and_edited ++ Slice 1 ∷ CatchUp 1 ∷ [])).copy ≡ Some (record { session = 1; left = 0; marks = record { update = 2; purge = 1 } })
 unfolding computed

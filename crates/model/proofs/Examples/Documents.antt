@@ -77,6 +77,10 @@ the_limit_is_told : answer limited RevsLimit ≡ Limit 1
 unfolding computed
 the_limit_is_told = refl
 
+at_first_it_is_a_thousand : answer [] RevsLimit ≡ Limit 1000
+unfolding computed
+at_first_it_is_a_thousand = refl
+
 -- ---- a document that was deleted
 
 abbrev one_of_three_deleted : List Command

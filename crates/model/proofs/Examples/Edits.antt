@@ -1,7 +1,7 @@
 -- Edits: which are taken, what they answer, which numbers they take and what they leave.
 use Rattle.std.specs.Prelude.{◌≡◌, true, List, [], ◌∷◌, Some, None, Ok, Err, refl}
 use Rattle.model.specs.Map.{empty, put}
-use Rattle.model.specs.Revision.{last_generation}
+use Rattle.model.specs.Revision.{Rev}
 use Rattle.model.specs.Command.{Command, Edits, SetLimit, Conflict, Missing, Deleted, GenerationLimit, Wrote, Done}
 use Rattle.model.specs.Database.{empty_database}
 use Rattle.model.proofs.Examples.Fixtures.{computed, replies, after, braces, counting, rev, edit, put_new, put_over, delete, merge, with_body, record_of, a, a1, a2, a3, x2, x3}
@@ -40,9 +40,16 @@ the_edit_keeps_its_parent : after bulks ≡ record empty_database { docs = put e
 unfolding computed
 the_edit_keeps_its_parent = refl
 
-a_revision_past_the_last_generation_is_refused : replies (merge a (rev last_generation 0xaa) [] ∷ put_over a (rev last_generation 0xaa) braces ∷ []) ≡ Wrote (Ok (rev last_generation 0xaa) ∷ []) ∷ Wrote (Err GenerationLimit ∷ []) ∷ []
+-- over 4294967294 with `{}`
+abbrev last_revision : Rev
+last_revision = record { generation = 4294967295; hash = 0x4b ∷ 0x0f ∷ 0x95 ∷ 0xaf ∷ 0xd0 ∷ 0x4d ∷ 0xa5 ∷ 0x17 ∷ 0x15 ∷ 0x46 ∷ 0x63 ∷ 0x04 ∷ 0x17 ∷ 0x2a ∷ 0xa2 ∷ 0x51 ∷ [] }
+
+abbrev to_the_last_generation : List Command
+to_the_last_generation = merge a (rev 4294967294 0xaa) [] ∷ put_over a (rev 4294967294 0xaa) braces ∷ put_over a last_revision braces ∷ []
+
+no_revision_follows_the_last_generation : replies to_the_last_generation ≡ Wrote (Ok (rev 4294967294 0xaa) ∷ []) ∷ Wrote (Ok last_revision ∷ []) ∷ Wrote (Err GenerationLimit ∷ []) ∷ []
 unfolding computed
-a_revision_past_the_last_generation_is_refused = refl
+no_revision_follows_the_last_generation = refl
 
 -- ---- deletions
 

@@ -42,9 +42,21 @@ a_full_queue_takes_no_job : length (lived_from empty_database (record three_sess
 unfolding computed
 a_full_queue_takes_no_job = refl
 
+a_batch_takes_no_more_than_it_gathers : length (lived_from empty_database (record three_sessions { gather = 1 }) (Ask 0 (put_new a) ∷ Ask 1 (put_new b) ∷ Take 9 ∷ [])).batch ≡ 1
+unfolding computed
+a_batch_takes_no_more_than_it_gathers = refl
+
+an_open_batch_takes_no_more : length (lived (Ask 0 (put_new a) ∷ Ask 1 (put_new b) ∷ Take 1 ∷ Take 1 ∷ [])).batch ≡ 1
+unfolding computed
+an_open_batch_takes_no_more = refl
+
 a_batch_past_the_last_place_is_not_put : length (lived_from empty_database (record three_sessions { max_places = 1 }) (Ask 0 (put_new a) ∷ Ask 1 (put_new b) ∷ Take 2 ∷ Put ∷ [])).history ≡ 0
 unfolding computed
 a_batch_past_the_last_place_is_not_put = refl
+
+no_compaction_ends_past_the_last_place : length (lived_from empty_database (record three_sessions { max_places = 1 }) (Ask 0 (put_new a) ∷ Take 1 ∷ Put ∷ Start 1 ∷ Slice 1 ∷ Swap ∷ [])).history ≡ 1
+unfolding computed
+no_compaction_ends_past_the_last_place = refl
 
 -- ---- what a session cannot ask
 

@@ -3,7 +3,7 @@ use Rattle.std.specs.Prelude.{◌≡◌, ℕ, List, [], ◌∷◌, codes, Option
 use Rattle.serde_json.specs.Data.{unsigned, number, no_members, member}
 use Rattle.model.specs.Body.{Body}
 use Rattle.model.specs.Map.{empty, put}
-use Rattle.model.specs.Command.{Id, Command, PutLocal, Conflict, Missing, GenerationLimit, WroteLocal, last_counter}
+use Rattle.model.specs.Command.{Id, Command, PutLocal, Conflict, Missing, GenerationLimit, WroteLocal}
 use Rattle.model.specs.Database.{Database, empty_database, put_local_reply}
 use Rattle.model.specs.Query.{Changes, GetLocal, MainOnly, Changed, FoundLocal}
 use Rattle.model.proofs.Examples.Fixtures.{computed, replies, after, answer}
@@ -49,13 +49,17 @@ local_documents_are_no_changes = refl
 
 -- ---- the last number
 
-abbrev at_the_last : Database
-at_the_last = record empty_database { locals = put empty r (record { counter = last_counter; body = checkpoint }) }
+abbrev with_number : ℕ → Database
+with_number k = record empty_database { locals = put empty r (record { counter = k; body = checkpoint }) }
 
-no_write_follows_the_last_number : put_local_reply at_the_last r (Some last_counter) (Some checkpoint) ≡ Err GenerationLimit
+a_write_reaches_the_last_number : put_local_reply (with_number 4294967294) r (Some 4294967294) (Some checkpoint) ≡ Ok 4294967295
 unfolding computed
-no_write_follows_the_last_number = refl
+a_write_reaches_the_last_number = refl
 
-but_a_deletion_does : put_local_reply at_the_last r (Some last_counter) None ≡ Ok 0
+no_write_follows_it : put_local_reply (with_number 4294967295) r (Some 4294967295) (Some checkpoint) ≡ Err GenerationLimit
+unfolding computed
+no_write_follows_it = refl
+
+but_a_deletion_does : put_local_reply (with_number 4294967295) r (Some 4294967295) None ≡ Ok 0
 unfolding computed
 but_a_deletion_does = refl

@@ -4,7 +4,7 @@ use Rattle.model.specs.Map.{empty, put}
 use Rattle.model.specs.Command.{Command, Merges, BadHistory, Wrote}
 use Rattle.model.specs.Database.{empty_database}
 use Rattle.model.specs.Query.{Info, Counted}
-use Rattle.model.proofs.Examples.Fixtures.{computed, replies, after, answer, braces, rev, path, merge, with_body, without_body, record_of, d}
+use Rattle.model.proofs.Examples.Fixtures.{computed, replies, after, answer, braces, counting, rev, path, merge, with_body, without_body, record_of, d}
 
 abbrev dead_and_alive : List Command
 dead_and_alive = Merges (record (path d (rev 2 0xff) []) { deleted = true } ∷ path d (rev 1 0) [] ∷ []) ∷ []
@@ -23,6 +23,10 @@ a_repeated_merge_is_answered_alike = refl
 a_repeated_merge_takes_no_number : answer repeated Info ≡ Counted (record { doc_count = 1; doc_del_count = 0; update_seq = 1; purge_seq = 0 })
 unfolding computed
 a_repeated_merge_takes_no_number = refl
+
+a_known_revision_keeps_its_body_and_flag : after (merge d (rev 1 0xaa) [] ∷ Merges (record (path d (rev 1 0xaa) []) { deleted = true; body = counting 1 } ∷ []) ∷ []) ≡ after repeated
+unfolding computed
+a_known_revision_keeps_its_body_and_flag = refl
 
 -- ---- a path that contradicts what is known
 
