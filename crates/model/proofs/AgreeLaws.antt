@@ -7,15 +7,15 @@ use Rattle.std.proofs.lemmas.List.Folds.{list_any-append}
 use Rattle.model.specs.Map.{get, put, get-put, get-refine, same_key, same_key-equal, same_key_itself}
 use Rattle.model.specs.Revision.{Rev}
 use Rattle.model.specs.Tree.{Tree}
-use Rattle.model.specs.Command.{Id, names, Entry}
+use Rattle.model.specs.Command.{Id, names, Command, Seat, Entry}
 use Rattle.model.specs.PurgeLog.{PurgeLog, PurgeInfo, logged, purges_since, is_overrun, AreNumbered}
-use Rattle.model.specs.Database.{Database, Record, with_tree, without_document, stripped, compacted}
+use Rattle.model.specs.Database.{Database, Record, with_tree, without_document, stripped, compacted, act}
 use Rattle.model.specs.History.{replay}
 use Rattle.model.specs.Compaction.{Marks, marks_of, is_logged, is_updated, strip_at, Agrees}
 use Rattle.model.proofs.ListLaws.{by_cases}
 use Rattle.model.proofs.StripLaws.{strip-strip}
 use Rattle.model.proofs.LogLaws.{AreNumbered-logged, since-logged, is_overrun-logged}
-use Rattle.model.proofs.StepLaws.{KeptByEntries, purged, of_replay}
+use Rattle.model.proofs.StepLaws.{KeptByEntries, purged, of_act, of_replay}
 
 -- e is a later database than d
 record Later (d e : Database) : Type 0 where
@@ -174,5 +174,5 @@ pub Agrees-replay : (copy : Id → Option Record) (m : Marks) (d : Database) (es
 Agrees-replay copy m d es h u p a = (of_replay IsLater later d es h).agrees copy m u p a
 
 -- a copy of all strips agrees at the database's own numbers
-pub Agrees-start : (d : Database) → Agrees (strip_at d) (marks_of d) d
-Agrees-start d = inr (λ id. inl refl)
+pub Agrees-entry : (d : Database) (seat : Seat) (c : Command) → AreNumbered d.purges.purge_seq d.purges.infos → Agrees (strip_at d) (marks_of d) (act d seat c)
+Agrees-entry d seat c h = (of_act IsLater later d seat c h).agrees (strip_at d) (marks_of d) (omega arith) (omega arith) (inr (λ id. inl refl))

@@ -27,3 +27,7 @@ pub mod WriteLaws
 pub mod UnseenLaws
 pub mod ShownLaws
 pub mod LocalLaws
+pub mod IdentityLaws
+pub mod WrittenLaws
+pub mod KeptLaws
+pub mod ReplyLaws

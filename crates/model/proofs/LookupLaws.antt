@@ -1,8 +1,11 @@
 -- What a map has after a put and after a removal, at the key and at others.
-use Rattle.std.specs.Prelude.{◌≡◌, ◌≢◌, Bool, true, false, cond, Option, Some, None, option_and_then, refl}
-use Rattle.std.proofs.Common.{sym, ap, subst, ◌∙◌}
-use Rattle.std.proofs.lemmas.Bool.{true≢false, false_from_ne_true}
-use Rattle.model.specs.Map.{Order, Map, get, put, without, get-put, get-refine, same_key, same_key-equal, same_key_itself}
+use Rattle.std.specs.Prelude.{◌≡◌, ◌≢◌, ◌⊎◌, Bool, true, false, cond, Option, Some, None, option_map, option_and_then, refl}
+use Rattle.std.proofs.Common.{sym, ap, inl, inr, ◌∙◌}
+use Rattle.std.proofs.lemmas.Option.{none-some, same_Some}
+use Rattle.std.proofs.lemmas.Bool.{false_from_ne_true}
+use Rattle.model.specs.Map.{Order, Map, get, put, refine, without, get-put, get-refine, same_key, same_key-equal, same_key_itself}
+use Rattle.model.proofs.ListLaws.{by_cases}
+use Rattle.model.proofs.MapLaws.{get-refine_all}
 
 module _ {O : Order} {X : Type 0} (m : Map O X) (k : O.key) where
   -- keys that are not equal are told apart
@@ -29,3 +32,22 @@ module _ {O : Order} {X : Type 0} (m : Map O X) (k : O.key) where
 
   pub get-without_other : (q : O.key) → same_key O q k ≡ false → get (without m k) q ≡ get m q
   get-without_other q other = get-without q ∙ ap (λ b. cond b None (get m q)) other
+
+  -- what stands there after a put was put, or stood there
+  pub put-cases : (x : X) (q : O.key) (y : X) → get (put m k x) q ≡ Some y → ((q ≡ k) × (x ≡ y)) ⊎ (get m q ≡ Some y)
+  put-cases x q y e = by_cases (same_key O q k)
+      (λ t. inl (same_key-equal O q k t, same_Some x y (ap (λ b. cond b (Some x) (get m q)) (sym t) ∙ sym (get-put m k x q) ∙ e)))
+      (λ f. inr (sym (get-put_other x q f) ∙ e))
+
+  pub without-some : (q : O.key) (y : X) → get (without m k) q ≡ Some y → get m q ≡ Some y
+  without-some q y e = by_cases (same_key O q k)
+      (λ t. absurd (none-some y (ap (λ b. cond b None (get m q)) (sym t) ∙ sym (get-without q) ∙ e)))
+      (λ f. sym (get-without_other q f) ∙ e)
+
+-- what stands there after each value has changed was made of what stood there
+pub refined-some : {O : Order} {X Y : Type 0} (f : O.key → X → Y) (m : Map O X) (q : O.key) (y : Y) → get {O = O} (refine (λ k x. Some (f k x)) m) q ≡ Some y → (x : X) × (get m q ≡ Some x) × (f q x ≡ y)
+refined-some {X} {Y} f m q y e = at (get m q) (sym (get-refine_all f m q) ∙ e)
+  where
+    at : (o : Option X) → option_map (f q) o ≡ Some y → (x : X) × (o ≡ Some x) × (f q x ≡ y)
+    at None e = absurd (none-some y e)
+    at (Some x) e = (x, refl, same_Some (f q x) y e)

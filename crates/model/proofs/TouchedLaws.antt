@@ -20,7 +20,7 @@ use Rattle.model.specs.Changes.{every_id, at_numbers, by_seq, changed_since}
 use Rattle.model.specs.Compaction.{Marks, Touched, WasPurged, WasUpdated, of_purge, of_update, touched, touched_id, past, passed, is_logged, is_updated}
 use Rattle.model.proofs.ListLaws.{Source, source_of, Contains-map, passing_of, any_passing, Contains-filter}
 use Rattle.model.proofs.MapLaws.{Contains-entries, IsRising-keys}
-use Rattle.model.proofs.IndexLaws.{of_number, at_number}
+use Rattle.model.proofs.IndexLaws.{listed_number, numbers_rise}
 use Rattle.model.proofs.RisingLaws.{AllPairs-map, Rising, Rising-lower, Rising-pairs, last_number, above, Rising-above, last_number-le, last_number-most, above-last_number, above-above}
 
 abbrev pub Update : Type 0
@@ -36,22 +36,16 @@ log_rises n [] h = tt
 log_rises n (p ∷ ps) h = (omega (arith, h.0, h.1), Rising-lower (λ p. p.seq) p.seq (n - length ps) ps (omega (arith, h.0)) (log_rises n ps h.2))
 
 changed_rises : (d : Database) (mark : ℕ) → Rising number mark (above number mark (by_seq d))
-unfolding by_seq
 changed_rises d mark =
-    let updates = entries (at_numbers d) in
-    Rising-pairs number mark (above number mark updates)
-    (All-weaker (λ e. nat_lt mark e.0 ≡ true) (λ e. mark < e.0) (λ e h. ltb-true mark e.0 h) _ (filter_passes (λ e. nat_lt mark e.0) updates))
-    (AllPairs-filter (λ e f. e.0 < f.0) (λ e. nat_lt mark e.0) updates (λ i j e less lt. ranked _ _ Less (sym (AllPairs-map (λ m n. nat_cmp m n ≡ Less) number updates (IsRising-keys numbers (at_numbers d)) i j e less lt))))
+    Rising-pairs number mark (above number mark (by_seq d))
+    (All-weaker (λ e. nat_lt mark e.0 ≡ true) (λ e. mark < e.0) (λ e h. ltb-true mark e.0 h) _ (filter_passes (λ e. nat_lt mark e.0) (by_seq d)))
+    (AllPairs-filter (λ e f. e.0 < f.0) (λ e. nat_lt mark e.0) (by_seq d) (λ i j e less lt. ranked _ _ Less (sym (AllPairs-map (λ m n. nat_cmp m n ≡ Less) number (by_seq d) (numbers_rise d) i j e less lt))))
 
 -- ---- numbers are at most the database's
 
 purges_within : (n : ℕ) (ps : List PurgeInfo) → AreNumbered n ps → All (λ p. p.seq ≤ n) ps
 purges_within n [] h = All-nil _
 purges_within n (p ∷ ps) h = All-cons (λ q. q.seq ≤ n) p ps (omega (arith, h.0)) (purges_within n ps h.2)
-
-pub listed_number : (d : Database) (e : Update) → Contains (by_seq d) e → (get d.docs e.1.0 ≡ Some e.1.1) × (e.1.1.seq ≡ e.0)
-unfolding by_seq
-listed_number d e c = of_number d e.0 e.1.0 e.1.1 ((Contains-entries numbers (at_numbers d) e.0 e.1).0 c)
 
 numbers_within : (d : Database) → IsNumbered d → All (λ e. e.0 ≤ d.update_seq) (by_seq d)
 numbers_within d num = All-weaker (Contains (by_seq d)) (λ e. e.0 ≤ d.update_seq) (λ e c. let at = listed_number d e c in let w = num.within e.1.0 e.1.1 at.0 in omega (arith, at.1, w.1)) (by_seq d) (All-contains_itself (by_seq d))
