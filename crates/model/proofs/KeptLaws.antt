@@ -149,15 +149,6 @@ IsDatabase-act d seat c is h =
     let e = IsDatabase-changed d c is h in
     record { docs = e.docs; numbered = IsNumbered-same (changed_by d c) _ refl (omega arith) e.numbered; locals = e.locals; log = e.log; revs_limit = e.revs_limit }
 
-pub IsDatabase-empty : IsDatabase empty_database
-IsDatabase-empty = record {
-  docs = λ id r e. absurd (none-some r e);
-  numbered = record { within = λ id r e. absurd (none-some r e); distinct = λ a b r s e f n. absurd (none-some r e) };
-  locals = λ id l e. absurd (none-some l e);
-  log = record { limit = (omega arith, omega arith); numbered = tt; infos = All-nil _; room = omega arith; newest = λ less. absurd (omega arith) };
-  revs_limit = (omega arith, omega arith);
-}
-
 -- a document has a winner, whose body is there
 pub winner_has_body : (d : Database) (id : Id) (t : Tree) → IsDatabase d → tree_at d id ≡ Some t → (w : Leaf) × (winner t ≡ Some w) × (body : Body) × (body_of t w.rev ≡ Some body)
 winner_has_body d id t h e =

@@ -16,10 +16,6 @@ use Rattle.model.specs.PurgeLog.{PurgeInfo, PurgeLog, logged, has_number, purges
 
 -- ---- the numbers
 
-pub length-AreNumbered : (n : ℕ) (ps : List PurgeInfo) → AreNumbered n ps → length ps ≤ n
-length-AreNumbered n [] h = omega arith
-length-AreNumbered n (p ∷ ps) h = omega (arith, h.0, h.1)
-
 AreNumbered-drop : (n k : ℕ) (ps : List PurgeInfo) → AreNumbered n ps → AreNumbered n (drop k ps)
 AreNumbered-drop n zero ps h = h
 AreNumbered-drop n (suc k) [] h = tt
@@ -41,7 +37,7 @@ has_each n k (p ∷ ps) h above below = grind (arith, nat_tests, has_each n k ps
 -- ---- overrun
 
 -- a number above the mark was given and is in no entry of the log
-abbrev pub Lost : PurgeLog → ℕ → Type 0
+abbrev Lost : PurgeLog → ℕ → Type 0
 Lost l mark = (n : ℕ) × (mark < n) × (n ≤ l.purge_seq) × (has_number l.infos n ≡ false)
 
 pub lost-is_overrun : (l : PurgeLog) (mark : ℕ) → is_overrun l mark ≡ true → Lost l mark

@@ -12,13 +12,13 @@ module _ {O : Order} {X : Type 0} (m : Map O X) (k : O.key) where
   pub apart : (q : O.key) → q ≢ k → same_key O q k ≡ false
   apart q other = false_from_ne_true _ (λ e. other (same_key-equal O q k e))
 
-  pub get-put_same : (x : X) → get (put m k x) k ≡ Some x
-  get-put_same x = get-put m k x k ∙ ap (λ b. cond b (Some x) (get m k)) (same_key_itself O k)
+  pub get-put_same : (x : X) (q : O.key) → same_key O q k ≡ true → get (put m k x) q ≡ Some x
+  get-put_same x q same = get-put m k x q ∙ ap (λ b. cond b (Some x) (get m q)) same
 
   pub get-put_other : (x : X) (q : O.key) → same_key O q k ≡ false → get (put m k x) q ≡ get m q
   get-put_other x q other = get-put m k x q ∙ ap (λ b. cond b (Some x) (get m q)) other
 
-  pub get-without : (q : O.key) → get (without m k) q ≡ cond (same_key O q k) None (get m q)
+  get-without : (q : O.key) → get (without m k) q ≡ cond (same_key O q k) None (get m q)
   get-without q = get-refine (λ r x. cond (same_key O r k) None (Some x)) m q ∙ same (same_key O q k) (get m q)
     where
       same : (b : Bool) (o : Option X) → option_and_then (λ x. cond b None (Some x)) o ≡ cond b None o
@@ -27,8 +27,8 @@ module _ {O : Order} {X : Type 0} (m : Map O X) (k : O.key) where
       same false None = refl
       same false (Some x) = refl
 
-  pub get-without_same : get (without m k) k ≡ None
-  get-without_same = get-without k ∙ ap (λ b. cond b None (get m k)) (same_key_itself O k)
+  pub get-without_same : (q : O.key) → same_key O q k ≡ true → get (without m k) q ≡ None
+  get-without_same q same = get-without q ∙ ap (λ b. cond b None (get m q)) same
 
   pub get-without_other : (q : O.key) → same_key O q k ≡ false → get (without m k) q ≡ get m q
   get-without_other q other = get-without q ∙ ap (λ b. cond b None (get m q)) other
@@ -36,12 +36,12 @@ module _ {O : Order} {X : Type 0} (m : Map O X) (k : O.key) where
   -- what stands there after a put was put, or stood there
   pub put-cases : (x : X) (q : O.key) (y : X) → get (put m k x) q ≡ Some y → ((q ≡ k) × (x ≡ y)) ⊎ (get m q ≡ Some y)
   put-cases x q y e = by_cases (same_key O q k)
-      (λ t. inl (same_key-equal O q k t, same_Some x y (ap (λ b. cond b (Some x) (get m q)) (sym t) ∙ sym (get-put m k x q) ∙ e)))
+      (λ t. inl (same_key-equal O q k t, same_Some x y (sym (get-put_same x q t) ∙ e)))
       (λ f. inr (sym (get-put_other x q f) ∙ e))
 
   pub without-some : (q : O.key) (y : X) → get (without m k) q ≡ Some y → get m q ≡ Some y
   without-some q y e = by_cases (same_key O q k)
-      (λ t. absurd (none-some y (ap (λ b. cond b None (get m q)) (sym t) ∙ sym (get-without q) ∙ e)))
+      (λ t. absurd (none-some y (sym (get-without_same q t) ∙ e)))
       (λ f. sym (get-without_other q f) ∙ e)
 
 -- what stands there after each value has changed was made of what stood there

@@ -126,6 +126,7 @@ module _ (d : Database) (m : Marks) (n : ℕ) where
         (last_number-le number m.update (n - length purges) updates (changed_rises d m.update), last_number-le (λ p. p.seq) m.purge n purges purges_rise)
 
     pub passed-most : IsNumbered d → m.update ≤ d.update_seq → m.purge ≤ d.purges.purge_seq → ((passed m (take n (touched d m))).update ≤ d.update_seq) × ((passed m (take n (touched d m))).purge ≤ d.purges.purge_seq)
-    passed-most num u p = subst (λ k. (k.update ≤ d.update_seq) × (k.purge ≤ d.purges.purge_seq)) (sym passed-first)
-        (last_number-most number m.update d.update_seq (n - length purges) updates u (All-filter _ (λ e. e.0 ≤ d.update_seq) (by_seq d) (numbers_within d num)),
-        last_number-most (λ p. p.seq) m.purge d.purges.purge_seq n purges p (All-filter _ (λ p. p.seq ≤ d.purges.purge_seq) d.purges.infos (purges_within d.purges.purge_seq d.purges.infos h)))
+    passed-most num u p = subst (λ k. (k.update ≤ d.update_seq) × (k.purge ≤ d.purges.purge_seq)) (sym passed-first) (
+      last_number-most number m.update d.update_seq (n - length purges) updates u (All-filter _ (λ e. e.0 ≤ d.update_seq) (by_seq d) (numbers_within d num)),
+      last_number-most (λ p. p.seq) m.purge d.purges.purge_seq n purges p (All-filter _ (λ p. p.seq ≤ d.purges.purge_seq) d.purges.infos (purges_within d.purges.purge_seq d.purges.infos h)),
+    )

@@ -31,23 +31,19 @@ pub record IsSoundWrite (w : Written) : Type 0 where
   pub tree : IsSound w.tree
 
 -- the parent of what an edit makes is a leaf
+winner_leaf : (t : Tree) (w : Leaf) → winner t ≡ Some w → is_leaf t w.rev ≡ true
+winner_leaf t w is = ((winner-greatest t w).0 is).leaf.leaf
+
 parent_is_leaf : (o : Option Tree) (named : Option Rev) (deleted : Bool) (p : Rev) → parent_for o named deleted ≡ Ok (Some p) → (t : Tree) × (o ≡ Some t) × (is_leaf t p ≡ true)
 parent_is_leaf None named true p e = absurd cc
 parent_is_leaf None None false p e = absurd cc
 parent_is_leaf None (Some r) false p e = absurd cc
-parent_is_leaf (Some t) (Some r) deleted p e = by_cases (is_leaf t r)
-    (λ leaf. let same : Ok (Some r) ≡ Ok (Some p) = ap (λ b. if b then Ok (Some r) else Err Conflict) (sym leaf) ∙ e in let is : r ≡ p = cc in (t, refl, ap (is_leaf t) (sym is) ∙ leaf))
-    (λ none. let refused : Err Conflict ≡ Ok (Some p) = ap (λ b. if b then Ok (Some r) else Err Conflict) (sym none) ∙ e in absurd cc)
+parent_is_leaf (Some t) (Some r) deleted p e = let leaf : is_leaf t p ≡ true = grind (arith, e) in (t, refl, leaf)
 parent_is_leaf (Some t) None deleted p e = at (winner t) refl e
   where
-    over : (w : Leaf) (gone asked : Bool) → (if not gone then Err Conflict else (if asked then Err Deleted else Ok (Some w.rev))) ≡ Ok (Some p) → w.rev ≡ p
-    over w false asked e = absurd cc
-    over w true true e = absurd cc
-    over w true false e = cc
-
     at : (o : Option Leaf) → winner t ≡ o → over_winner o deleted ≡ Ok (Some p) → (u : Tree) × (Some t ≡ Some u) × (is_leaf u p ≡ true)
     at None is e = absurd cc
-    at (Some w) is e = (t, refl, ap (is_leaf t) (sym (over w w.deleted deleted e)) ∙ ((winner-greatest t w).0 is).leaf.leaf)
+    at (Some w) is e = let same : w.rev ≡ p = grind (arith, e) in (t, refl, ap (is_leaf t) (sym same) ∙ winner_leaf t w is)
 
 module _ (limit : ℕ) (o : Option Tree) (positive : 0 < limit) (sound : AreSound o) where
   old_forest : IsForest (unwrap_or o empty) × IsInRange (unwrap_or o empty)
@@ -96,18 +92,15 @@ module _ (limit : ℕ) (o : Option Tree) (positive : 0 < limit) (sound : AreSoun
   unfolding edited
   IsSoundWrite-edited e w h is = at (parent_for o e.named e.deleted) refl is
     where
-      made : (parent : Option Rev) → parent_for o e.named e.deleted ≡ Ok parent → nat_lt last_generation (generation_after parent) ≡ false → child_written limit o e (Ok parent) ≡ Ok w → IsSoundWrite w
-      made parent found within is =
-          let r = child parent e.deleted e.body in
-          let rev = IsRev-child parent e.deleted e.body (ltb-false last_generation (generation_after parent) within) in
-          let revs = parents_in_range e.named e.deleted parent found in
-          let path = IsPath-child parent e.deleted e.body revs in
-          IsSoundWrite-written r (with_path limit o (r ∷ parent_path parent) e.body e.deleted) w rev
-          (λ u made. IsSound-with_path (r ∷ parent_path parent) e.body e.deleted u path (All-cons IsRev r (parent_path parent) rev revs) h.body made)
-          (ap (λ b. if b then Err GenerationLimit else written r (with_path limit o (r ∷ parent_path parent) e.body e.deleted)) (sym within) ∙ is)
-
       at : (found : Result (Option Rev) Refusal) → parent_for o e.named e.deleted ≡ found → child_written limit o e found ≡ Ok w → IsSoundWrite w
       at (Err f) found is = absurd cc
-      at (Ok parent) found is = by_cases (nat_lt last_generation (generation_after parent))
-          (λ past. let refused : Err GenerationLimit ≡ Ok w = ap (λ b. if b then Err GenerationLimit else written (child parent e.deleted e.body) (with_path limit o (child parent e.deleted e.body ∷ parent_path parent) e.body e.deleted)) (sym past) ∙ is in absurd cc)
-          (λ within. made parent found within is)
+      at (Ok parent) found is =
+          let r = child parent e.deleted e.body in
+          let made = with_path limit o (r ∷ parent_path parent) e.body e.deleted in
+          let within : nat_lt last_generation (generation_after parent) ≡ false = grind (arith, is) in
+          let done : written r made ≡ Ok w = ap (λ b. if b then Err GenerationLimit else written r made) (sym within) ∙ is in
+          let rev = IsRev-child parent e.deleted e.body (ltb-false last_generation (generation_after parent) within) in
+          let revs = parents_in_range e.named e.deleted parent found in
+          IsSoundWrite-written r made w rev
+          (λ u taken. IsSound-with_path (r ∷ parent_path parent) e.body e.deleted u (IsPath-child parent e.deleted e.body revs) (All-cons IsRev r (parent_path parent) rev revs) h.body taken)
+          done

@@ -40,7 +40,7 @@ pub fn log_keeps_the_newest()
     ensures newest { (l : PurgeLog) (all : List PurgeInfo) (id : Id) (leaves : List Rev) →
         l.infos ≡ last_few l.limit all →
         (logged l id leaves).infos ≡ last_few l.limit
-            (all ++ record { seq = l.purge_seq + 1; id = id; leaves = leaves } ∷ []) }
+        (all ++ record { seq = l.purge_seq + 1; id = id; leaves = leaves } ∷ []) }
 {}
 
 // ---- what a command does
@@ -74,7 +74,7 @@ pub fn purges_are_logged()
     ensures stays { (d : Database) (id : Id) (named : List Rev) (t : Tree) → 0 < length (removed_of d id named) →
         option_and_then (cut named) (tree_at d id) ≡ Some t →
         (get (after_purge d (id, named)).docs id ≡ Some (record { tree = t; seq = d.update_seq + 1 }))
-            × ((after_purge d (id, named)).update_seq ≡ d.update_seq + 1) }
+        × ((after_purge d (id, named)).update_seq ≡ d.update_seq + 1) }
     ensures goes { (d : Database) (id : Id) (named : List Rev) → 0 < length (removed_of d id named) →
         option_and_then (cut named) (tree_at d id) ≡ None →
         (get (after_purge d (id, named)).docs id ≡ None) × ((after_purge d (id, named)).update_seq ≡ d.update_seq) }
@@ -100,8 +100,8 @@ pub fn settings_touch_no_document()
         act d seat (SetLimit n) ≡ record d { revs_limit = n; calls = (act d seat (SetLimit n)).calls } }
     ensures local { (d : Database) (seat : Seat) (id : Id) (named : Option ℕ) (body : Option Body) →
         act d seat (PutLocal id named body) ≡ record d {
-            locals = store_local d.locals id body (put_local_reply d id named body);
-            calls = (act d seat (PutLocal id named body)).calls;
+          locals = store_local d.locals id body (put_local_reply d id named body);
+          calls = (act d seat (PutLocal id named body)).calls;
         } }
 {}
 
@@ -221,7 +221,7 @@ pub fn catching_up_keeps_agreement()
     ensures most { (d : Database) (m : Marks) (n : ℕ) → AreNumbered d.purges.purge_seq d.purges.infos → IsNumbered d →
         m.update ≤ d.update_seq → m.purge ≤ d.purges.purge_seq →
         ((passed m (take n (touched d m))).update ≤ d.update_seq)
-            × ((passed m (take n (touched d m))).purge ≤ d.purges.purge_seq) }
+        × ((passed m (take n (touched d m))).purge ≤ d.purges.purge_seq) }
     ensures all { (copy : Id → Option Record) (m : Marks) (d : Database) (id : Id) →
         IsNumbered d → is_overrun d.purges m.purge ≡ false → Agrees copy m d →
         taken_over copy d (map touched_id (touched d m)) id ≡ strip_at d id }
