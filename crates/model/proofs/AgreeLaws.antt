@@ -1,15 +1,15 @@
 -- A copy that agrees with a database agrees with every later one.
-use Rattle.std.specs.Prelude.{◌≡◌, ℕ, ◌+◌, ◌<◌, ◌≤◌, ◌⊎◌, Bool, true, false, cond, ◌||◌, List, [], ◌∷◌, ◌++◌, nat_lt, Option, Some, None, option_map, option_and_then, unwrap_or, refl}
+use Rattle.std.specs.Prelude.{◌≡◌, ℕ, ◌+◌, ◌≤◌, ◌⊎◌, true, false, ◌||◌, List, nat_lt, Option, Some, None, option_map, unwrap_or, refl}
 use Rattle.std.specs.List.{list_any}
 use Rattle.std.proofs.Common.{sym, ap, subst, ◌∙◌, inl, inr, arith, lt-ltb}
-use Rattle.std.proofs.lemmas.Bool.{true≢false, or_left, or_right}
+use Rattle.std.proofs.lemmas.Bool.{or_left, or_right}
 use Rattle.std.proofs.lemmas.List.Folds.{list_any-append}
-use Rattle.model.specs.Map.{Map, get, put, without, get-put, get-refine, same_key, same_key-equal, same_key_itself}
+use Rattle.model.specs.Map.{Map, get, without, same_key, same_key-equal, same_key_itself}
 use Rattle.model.specs.Revision.{Rev}
 use Rattle.model.specs.Tree.{Tree}
 use Rattle.model.specs.Command.{Id, names, Command, Seat, Entry}
-use Rattle.model.specs.PurgeLog.{PurgeLog, PurgeInfo, logged, purges_since, is_overrun, AreNumbered}
-use Rattle.model.specs.Database.{Database, Record, with_tree, without_document, stripped, compacted, act}
+use Rattle.model.specs.PurgeLog.{PurgeLog, logged, purges_since, is_overrun, AreNumbered}
+use Rattle.model.specs.Database.{Database, Record, with_tree, stripped, compacted, act}
 use Rattle.model.specs.History.{replay}
 use Rattle.model.specs.Compaction.{Marks, marks_of, is_logged, is_updated, strip_at, Agrees}
 use Rattle.model.proofs.ListLaws.{by_cases}

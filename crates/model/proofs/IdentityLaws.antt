@@ -1,5 +1,5 @@
 -- The rule that makes an identity makes one in range, where its generation is.
-use Rattle.std.specs.Prelude.{◌≡◌, ℕ, zero, suc, ◌+◌, ◌<◌, ◌≤◌, Bool, List, [], ◌∷◌, ◌++◌, length, All, Option, Some, None, slice_index}
+use Rattle.std.specs.Prelude.{ℕ, zero, suc, ◌<◌, ◌≤◌, Bool, List, length, All, Option, Some, None, slice_index}
 use Rattle.std.specs.Int.{byte_at, bytes_low_first}
 use Rattle.std.proofs.Common.{⊎_elim, arith}
 use Rattle.std.proofs.lemmas.Bool.{cases_lt}

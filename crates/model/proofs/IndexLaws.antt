@@ -1,9 +1,9 @@
 -- The index of records by their update numbers has just the records, each at its number.
-use Rattle.std.specs.Prelude.{◌≡◌, ◌↔◌, ℕ, ◌<◌, Bool, true, false, List, map, Option, Some, None, Contains, is_some, refl}
+use Rattle.std.specs.Prelude.{◌≡◌, ℕ, true, map, Option, Some, None, Contains, is_some, refl}
 use Rattle.std.proofs.Common.{sym, ap, subst, ◌∙◌}
 use Rattle.std.proofs.lemmas.Bool.{true≢false}
-use Rattle.std.proofs.lemmas.Option.{none-some, same_Some}
-use Rattle.model.specs.Map.{Map, IsRising, get, entries, from_list, get-from_list}
+use Rattle.std.proofs.lemmas.Option.{same_Some}
+use Rattle.model.specs.Map.{IsRising, get, entries, get-from_list}
 use Rattle.model.specs.Command.{Id, names, numbers}
 use Rattle.model.specs.Database.{Database, Record, IsNumbered}
 use Rattle.model.specs.Changes.{at_numbers, by_seq}

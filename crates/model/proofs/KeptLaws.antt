@@ -1,21 +1,19 @@
 -- Each command leaves a valid database valid.
-use Rattle.std.specs.Prelude.{◌≡◌, ℕ, ◌+◌, ◌<◌, ◌≤◌, ◌⊎◌, Bool, true, false, cond, List, [], ◌∷◌, length, All, Contains, Option, Some, None, is_some, IfSome, option_map, option_and_then, unwrap_or, Result, Ok, Err, refl}
+use Rattle.std.specs.Prelude.{◌≡◌, ℕ, ◌+◌, ◌<◌, ◌⊎◌, true, false, cond, List, [], ◌∷◌, length, All, Contains, Option, Some, None, is_some, IfSome, option_map, option_and_then, unwrap_or, Result, Ok, Err, refl}
 use Rattle.std.proofs.Common.{inl, inr, sym, ap, subst, ◌∙◌, arith}
 use Rattle.std.proofs.lemmas.Bool.{true≢false}
 use Rattle.std.proofs.lemmas.Option.{none-some, same_Some}
 use Rattle.std.proofs.lemmas.List.Elements.{All-nil, All-head, All-tail, All-weaker, All-contains_itself}
-use Rattle.model.specs.Map.{Map, entries, get, put, without, get-put, same_key, same_key-equal}
+use Rattle.model.specs.Map.{Map, entries, get}
 use Rattle.model.specs.Body.{Body, IsBody}
 use Rattle.model.specs.Revision.{Rev, IsRev}
 use Rattle.model.specs.Tree.{Tree, Leaf, IsTree, IsInRange, body_of, winner}
 use Rattle.model.specs.TreeChange.{cut, removed_leaves}
-use Rattle.model.specs.Command.{Id, IsId, names, Edit, Merge, Command, Edits, Merges, PutLocal, Purge, SetLimit, Compact, Refusal, Seat, IsEdit, IsMerge, IsCounter, NamesRevs, IsCommand}
-use Rattle.model.specs.PurgeLog.{logged, IsLog}
+use Rattle.model.specs.Command.{Id, IsId, names, Edit, Merge, Command, Edits, Merges, PutLocal, Purge, SetLimit, Compact, Refusal, Seat, IsEdit, IsMerge, NamesRevs, IsCommand}
+use Rattle.model.specs.PurgeLog.{logged}
 use Rattle.model.specs.Edit.{Written}
 use Rattle.model.specs.Local.{Local, store_local}
-use Rattle.model.specs.Database.{Database, Record, empty_database, tree_at, same_tree, with_tree, without_document, store, store_written, edit_in, merge_in, after_edit, after_edits, after_merge, after_merges, put_local_reply, after_put_local, removed_of, leave, purge_removed, after_purge, after_purges, stripped, compacted, changed_by, act, IsRecord, IsLocal, IsDatabase}
-use Rattle.model.proofs.ListLaws.{by_cases}
-use Rattle.model.proofs.MapLaws.{get-refine_all}
+use Rattle.model.specs.Database.{Database, Record, tree_at, same_tree, with_tree, store, store_written, edit_in, merge_in, after_edit, after_edits, after_merge, after_merges, put_local_reply, after_put_local, removed_of, purge_removed, after_purge, after_purges, stripped, compacted, changed_by, act, IsRecord, IsLocal, IsDatabase}
 use Rattle.model.proofs.TreeLaws.{leaf_known}
 use Rattle.model.proofs.OnceLaws.{Contains-removed_leaves}
 use Rattle.model.proofs.StripLaws.{IsTree-strip, IsInRange-strip}

@@ -1,13 +1,11 @@
 -- What becomes of local documents with one write.
-use Rattle.std.specs.Prelude.{◌≡◌, ◌≢◌, ℕ, ◌+◌, ◌<◌, ◌≤◌, ◌==◌, Bool, true, false, cond, nat_lt, Option, Some, None, option_map, unwrap_or, Result, Ok, Err, refl}
-use Rattle.std.specs.Option.{option_eq}
-use Rattle.std.proofs.Common.{rules, sym, ap, subst, ◌∙◌, arith, eqb-true, ltb-true}
+use Rattle.std.specs.Prelude.{◌≡◌, ◌≢◌, ℕ, Option, Some, None, Result, Ok, Err, refl}
+use Rattle.std.proofs.Common.{rules, ap, ◌∙◌}
 use Rattle.model.specs.Map.{get, same_key_itself}
 use Rattle.model.specs.Body.{Body}
-use Rattle.model.specs.Command.{Id, names, Refusal, GenerationLimit, Conflict, last_counter, IsCounter}
-use Rattle.model.specs.Local.{Local, next_counter, local_written, store_local}
+use Rattle.model.specs.Command.{Id, names, Refusal, IsCounter}
+use Rattle.model.specs.Local.{store_local}
 use Rattle.model.specs.Database.{Database, put_local_reply, after_put_local}
-use Rattle.model.proofs.ListLaws.{by_cases}
 use Rattle.model.proofs.LookupLaws.{apart, get-put_same, get-put_other, get-without_same, get-without_other}
 
 module _ (d : Database) (id : Id) (named : Option ℕ) where

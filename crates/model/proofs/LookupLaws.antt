@@ -3,7 +3,7 @@ use Rattle.std.specs.Prelude.{◌≡◌, ◌≢◌, ◌⊎◌, Bool, true, false
 use Rattle.std.proofs.Common.{sym, ap, inl, inr, ◌∙◌}
 use Rattle.std.proofs.lemmas.Option.{none-some, same_Some}
 use Rattle.std.proofs.lemmas.Bool.{false_from_ne_true}
-use Rattle.model.specs.Map.{Order, Map, get, put, refine, without, get-put, get-refine, same_key, same_key-equal, same_key_itself}
+use Rattle.model.specs.Map.{Order, Map, get, put, refine, without, get-put, get-refine, same_key, same_key-equal}
 use Rattle.model.proofs.ListLaws.{by_cases}
 use Rattle.model.proofs.MapLaws.{get-refine_all}
 

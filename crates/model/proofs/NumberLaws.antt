@@ -1,11 +1,10 @@
 -- Update numbers of records: from 1 to the database's, and no two alike. No number falls.
-use Rattle.std.specs.Prelude.{◌≡◌, ◌+◌, ◌<◌, ◌≤◌, ◌⊎◌, Bool, true, false, cond, List, Option, Some, None, option_and_then, refl}
+use Rattle.std.specs.Prelude.{◌≡◌, ◌+◌, ◌<◌, ◌≤◌, ◌⊎◌, List, Option, Some, None, refl}
 use Rattle.std.proofs.Common.{sym, ap, ◌∙◌, inl, inr, arith}
-use Rattle.std.proofs.lemmas.Option.{none-some, same_Some, cond_some, option_and_then_some}
-use Rattle.model.specs.Map.{get, put, get-put, get-refine, same_key, same_key-equal}
+use Rattle.model.specs.Map.{get}
 use Rattle.model.specs.Revision.{Rev}
 use Rattle.model.specs.Tree.{Tree}
-use Rattle.model.specs.Command.{Id, names, Command, Seat, Entry}
+use Rattle.model.specs.Command.{Id, Command, Seat, Entry}
 use Rattle.model.specs.Database.{Database, Record, IsNumbered, with_tree, without_document, stripped, compacted, act}
 use Rattle.model.specs.History.{replay}
 use Rattle.model.proofs.LookupLaws.{put-cases, without-some, refined-some}

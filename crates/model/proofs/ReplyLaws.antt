@@ -1,7 +1,7 @@
 -- Each reply of a valid database to a valid command has the form of an answer to it.
-use Rattle.std.specs.Prelude.{◌≡◌, ℕ, ◌+◌, ◌≤◌, ◌==◌, Bool, true, false, nat_lt, List, [], ◌∷◌, All, Contains, Option, Some, None, option_map, option_and_then, unwrap_or, Result, Ok, Err, if◌then◌else◌, refl}
+use Rattle.std.specs.Prelude.{◌≡◌, ℕ, ◌+◌, ◌==◌, nat_lt, List, [], ◌∷◌, All, Contains, Option, Some, None, unwrap_or, Result, Ok, Err, refl}
 use Rattle.std.specs.Option.{option_eq}
-use Rattle.std.proofs.Common.{sym, ap, subst, ◌∙◌, arith}
+use Rattle.std.proofs.Common.{subst, arith}
 use Rattle.std.proofs.lemmas.Bool.{cond_both, ltb-true}
 use Rattle.std.proofs.lemmas.List.Elements.{All-nil, All-cons, All-head, All-tail, All-weaker, All-contains, All-contains_itself}
 use Rattle.model.specs.Map.{Map, entries, get}
@@ -9,11 +9,10 @@ use Rattle.model.specs.Body.{Body}
 use Rattle.model.specs.Revision.{Rev, IsRev}
 use Rattle.model.specs.Tree.{Tree}
 use Rattle.model.specs.TreeChange.{graft}
-use Rattle.model.specs.Command.{Id, IsId, names, Edit, Merge, Command, Edits, Merges, PutLocal, Purge, SetLimit, Compact, Refusal, Conflict, BadHistory, Missing, Deleted, GenerationLimit, IsEdit, IsMerge, NamesRevs, IsCommand, FitsEdit, FitsMerge, FitsLocal, FitsReply, last_counter}
+use Rattle.model.specs.Command.{Id, names, Edit, Merge, Command, Edits, Merges, PutLocal, Purge, SetLimit, Compact, Refusal, Conflict, BadHistory, GenerationLimit, IsEdit, IsMerge, NamesRevs, IsCommand, FitsEdit, FitsMerge, FitsLocal, FitsReply, last_counter}
 use Rattle.model.specs.Edit.{Written, stemmed, with_path, written, merged, revision_written}
 use Rattle.model.specs.Local.{Local, next_counter, local_written}
-use Rattle.model.specs.Database.{Database, tree_at, edit_in, merge_in, after_edit, after_merge, edit_replies, merge_replies, put_local_reply, removed_of, purge_reply, reply_to, IsDatabase}
-use Rattle.model.proofs.ListLaws.{by_cases}
+use Rattle.model.specs.Database.{Database, tree_at, edit_in, merge_in, after_edit, after_merge, edit_replies, merge_replies, removed_of, purge_reply, reply_to, IsDatabase}
 use Rattle.model.proofs.MapLaws.{Contains-entries}
 use Rattle.model.proofs.LookupLaws.{refined-some}
 use Rattle.model.proofs.WrittenLaws.{IsSoundWrite, IsSoundWrite-edited, IsSoundWrite-merged}

@@ -1,25 +1,19 @@
 -- What is touched after the marks have passed the first of it is the rest.
-use Rattle.std.specs.Prelude.{◌≡◌, ℕ, zero, suc, ◌+◌, ◌-◌, ◌<◌, ◌≤◌, ◌⊎◌, Bool, true, false, ◌&&◌, T, List, [], ◌∷◌, ◌++◌, length, take, drop, map, filter, nat_lt, All, Contains, Option, Some, None, option_map, unwrap_or, refl}
-use Rattle.std.specs.declared.cmp.Ordering.{Ordering}
-use Rattle.std.specs.declared.cmp.Ordering.TheVariants.{Less, Equal, Greater}
-use Rattle.std.specs.Ordering.{is_lt, nat_cmp}
+use Rattle.std.specs.Prelude.{◌≡◌, ℕ, zero, suc, ◌-◌, ◌<◌, ◌≤◌, true, ◌&&◌, List, [], ◌∷◌, ◌++◌, length, take, drop, map, nat_lt, All, Contains, refl}
+use Rattle.std.specs.declared.cmp.Ordering.TheVariants.{Less}
+use Rattle.std.specs.Ordering.{nat_cmp}
 use Rattle.std.specs.Cmp.{ranked}
-use Rattle.std.specs.FinMap.Entries.{is_sorted, below_all}
-use Rattle.std.proofs.Common.{sym, ap, subst, ◌∙◌, inl, inr, arith, ltb-true, lt-ltb}
+use Rattle.std.proofs.Common.{sym, ap, subst, ◌∙◌, arith, ltb-true}
 use Rattle.std.proofs.Math.Bool.{and-true}
-use Rattle.std.proofs.lemmas.Bool.{true≢false}
 use Rattle.std.proofs.Math.ListN.{length-map}
 use Rattle.std.proofs.lemmas.List.{take-map, drop-map}
 use Rattle.std.proofs.lemmas.List.Elements.{filter_agree, filter_passes, All-nil, All-cons, All-weaker, All-filter, All-contains_itself}
 use Rattle.std.proofs.lemmas.List.Kept.{AllPairs-filter}
-use Rattle.model.specs.Map.{Map, get, entries, same_key, same_key-equal, same_key_itself}
-use Rattle.model.specs.Command.{Id, names, numbers}
+use Rattle.model.specs.Command.{Id}
 use Rattle.model.specs.PurgeLog.{PurgeInfo, AreNumbered, purges_since}
 use Rattle.model.specs.Database.{Database, Record, IsNumbered}
-use Rattle.model.specs.Changes.{every_id, at_numbers, by_seq, changed_since}
-use Rattle.model.specs.Compaction.{Marks, Touched, WasPurged, WasUpdated, of_purge, of_update, touched, touched_id, past, passed, is_logged, is_updated}
-use Rattle.model.proofs.ListLaws.{Source, source_of, Contains-map, passing_of, any_passing, Contains-filter}
-use Rattle.model.proofs.MapLaws.{Contains-entries, IsRising-keys}
+use Rattle.model.specs.Changes.{every_id, by_seq, changed_since}
+use Rattle.model.specs.Compaction.{Marks, Touched, of_purge, of_update, touched, past, passed}
 use Rattle.model.proofs.IndexLaws.{listed_number, numbers_rise}
 use Rattle.model.proofs.RisingLaws.{AllPairs-map, Rising, Rising-lower, Rising-pairs, last_number, above, Rising-above, last_number-le, last_number-most, above-last_number, above-above}
 

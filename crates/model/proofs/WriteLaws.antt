@@ -1,5 +1,5 @@
 -- What becomes of a database with one edit, one merge and one purge.
-use Rattle.std.specs.Prelude.{◌≡◌, ◌≢◌, ◌+◌, ◌<◌, Bool, true, false, cond, List, [], ◌∷◌, length, Option, Some, None, option_map, option_and_then, unwrap_or, Result, Ok, Err, refl}
+use Rattle.std.specs.Prelude.{◌≡◌, ◌≢◌, ◌+◌, ◌<◌, false, cond, List, [], ◌∷◌, length, Option, Some, None, option_map, option_and_then, unwrap_or, Result, Ok, refl}
 use Rattle.std.proofs.Common.{sym, ap, ◌∙◌, arith}
 use Rattle.std.proofs.lemmas.Bool.{false_from_ne_true}
 use Rattle.model.specs.Map.{get, same_key_itself}
@@ -7,9 +7,8 @@ use Rattle.model.specs.Revision.{Rev}
 use Rattle.model.specs.Tree.{Tree}
 use Rattle.model.specs.TreeChange.{cut}
 use Rattle.model.specs.Command.{Id, names, Refusal}
-use Rattle.model.specs.PurgeLog.{logged}
 use Rattle.model.specs.Edit.{Written}
-use Rattle.model.specs.Database.{Database, Record, tree_at, same_tree, with_tree, without_document, store, store_written, removed_of, purge_removed, after_purge}
+use Rattle.model.specs.Database.{Database, tree_at, same_tree, with_tree, store, store_written, removed_of, purge_removed, after_purge}
 use Rattle.model.proofs.LookupLaws.{apart, get-put_same, get-put_other, get-without_same, get-without_other}
 use Rattle.model.proofs.StepLaws.{purged}
 use Rattle.model.proofs.SameLaws.{same_tree-equal}

@@ -1,20 +1,17 @@
 -- The tree that an edit, a merge or a purge leaves is a tree in range, and so is the identity that an edit makes.
-use Rattle.std.specs.Prelude.{◌≡◌, ℕ, ◌+◌, ◌<◌, ◌≤◌, Bool, true, false, not, cond, nat_lt, List, [], ◌∷◌, All, Option, Some, None, option_and_then, unwrap_or, Result, Ok, Err, if◌then◌else◌, refl}
+use Rattle.std.specs.Prelude.{◌≡◌, ℕ, ◌<◌, Bool, true, false, nat_lt, List, [], ◌∷◌, All, Option, Some, None, unwrap_or, Result, Ok, Err, if◌then◌else◌, refl}
 use Rattle.std.proofs.Common.{sym, ap, subst, ◌∙◌, arith, ltb-false}
-use Rattle.std.proofs.lemmas.Option.{none-some}
 use Rattle.std.proofs.lemmas.List.Elements.{All-nil, All-cons, All-head}
 use Rattle.model.specs.Map.{empty}
 use Rattle.model.specs.Body.{Body, IsBody}
 use Rattle.model.specs.Revision.{Rev, IsRev, child, generation_after, last_generation}
 use Rattle.model.specs.Tree.{Tree, Leaf, IsForest, IsTree, IsInRange, is_leaf, winner}
-use Rattle.model.specs.TreeChange.{IsPath, graft, stem, cut}
-use Rattle.model.specs.Command.{Edit, Merge, Refusal, Conflict, Deleted, GenerationLimit, IsEdit, IsMerge}
+use Rattle.model.specs.TreeChange.{IsPath, graft, stem}
+use Rattle.model.specs.Command.{Edit, Merge, Refusal, GenerationLimit, IsEdit, IsMerge}
 use Rattle.model.specs.Edit.{Written, over_winner, parent_for, stemmed, with_path, parent_path, written, child_written, edited, merged}
-use Rattle.model.proofs.ListLaws.{by_cases}
 use Rattle.model.proofs.TreeLaws.{IsForest-empty, IsInRange-empty, leaf_known}
 use Rattle.model.proofs.LeafLaws.{winner-greatest}
 use Rattle.model.proofs.StemLaws.{IsTree-stem, IsInRange-stem}
-use Rattle.model.proofs.CutLaws.{IsTree-cut, IsInRange-cut}
 use Rattle.model.proofs.UnionLaws.{IsTree-graft, IsInRange-graft}
 use Rattle.model.proofs.IdentityLaws.{IsRev-child}
 
