@@ -1,6 +1,6 @@
 //! Laws of the sequential database and of compaction's copies.
 
-ghost use Rattle.std.specs.Prelude.{◌≡◌, ◌≢◌, ◌↔◌, ℕ, ◌+◌, ◌-◌, ◌<◌, ◌≤◌, Bool, true, false, List, [], ◌∷◌, ◌++◌, length, map, filter, take, drop, nat_lt, All, Contains, Option, Some, None, option_map, option_and_then, unwrap_or, Result, Ok, Err, if◌then◌else◌};
+ghost use Rattle.std.specs.Prelude.{◌≡◌, ◌≢◌, ◌↔◌, ℕ, ◌+◌, ◌-◌, ◌<◌, ◌≤◌, Bool, true, false, List, [], ◌∷◌, ◌++◌, length, map, filter, take, drop, nat_lt, All, Contains, Option, Some, None, option_map, option_and_then, unwrap_or, Ok, Err, if◌then◌else◌};
 ghost use Rattle.model.specs.Lists.{last_few};
 ghost use Rattle.model.specs.Map.{Map, IsRising, get, put, same_key};
 ghost use Rattle.model.specs.Body.{Body};
@@ -11,7 +11,7 @@ ghost use Rattle.model.specs.Command.{Id, IsId, names, numbers, Edit, Merge, Com
 ghost use Rattle.model.specs.Query.{Options, Style, RevsDiff, AllDocuments, Info, GetLocal, RevsLimit};
 ghost use Rattle.model.specs.PurgeLog.{PurgeInfo, PurgeLog, AreNumbered, IsLog, has_number, is_overrun, logged, purges_since};
 ghost use Rattle.model.specs.Edit.{Written};
-ghost use Rattle.model.specs.Local.{Local, store_local};
+ghost use Rattle.model.specs.Local.{store_local};
 ghost use Rattle.model.specs.Database.{Database, Record, IsDatabase, IsNumbered, act, after_edit, after_edits, after_merge, after_merges, after_purge, after_purges, after_put_local, calls_of, edit_in, empty_database, merge_in, put_local_reply, removed_of, reply_to, tree_at, with_tree};
 ghost use Rattle.model.specs.History.{replay};
 ghost use Rattle.model.specs.Changes.{at_numbers, by_seq, changes_page};
