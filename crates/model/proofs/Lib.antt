@@ -28,6 +28,7 @@ pub mod UnseenLaws
 pub mod ShownLaws
 pub mod LocalLaws
 pub mod IdentityLaws
+pub mod EditLaws
 pub mod WrittenLaws
 pub mod KeptLaws
 pub mod ReplyLaws

@@ -1,5 +1,5 @@
 -- Each reply of a valid database to a valid command has the form of an answer to it.
-use Rattle.std.specs.Prelude.{◌≡◌, ℕ, ◌+◌, ◌==◌, nat_lt, List, [], ◌∷◌, All, Contains, Option, Some, None, unwrap_or, Result, Ok, Err, refl}
+use Rattle.std.specs.Prelude.{◌≡◌, ℕ, ◌+◌, ◌==◌, nat_lt, List, [], ◌∷◌, All, Contains, Option, Some, None, Result, Ok, Err, refl}
 use Rattle.std.specs.Option.{option_eq}
 use Rattle.std.proofs.Common.{subst, arith}
 use Rattle.std.proofs.lemmas.Bool.{cond_both, ltb-true}
@@ -7,14 +7,13 @@ use Rattle.std.proofs.lemmas.List.Elements.{All-nil, All-cons, All-head, All-tai
 use Rattle.model.specs.Map.{Map, entries, get}
 use Rattle.model.specs.Body.{Body}
 use Rattle.model.specs.Revision.{Rev, IsRev}
-use Rattle.model.specs.Tree.{Tree}
-use Rattle.model.specs.TreeChange.{graft}
 use Rattle.model.specs.Command.{Id, names, Edit, Merge, Command, Edits, Merges, PutLocal, Purge, SetLimit, Compact, Refusal, Conflict, BadHistory, GenerationLimit, IsEdit, IsMerge, NamesRevs, IsCommand, FitsEdit, FitsMerge, FitsLocal, FitsReply, last_counter}
-use Rattle.model.specs.Edit.{Written, stemmed, with_path, written, merged, revision_written}
+use Rattle.model.specs.Edit.{Written, revision_written}
 use Rattle.model.specs.Local.{Local, next_counter, local_written}
 use Rattle.model.specs.Database.{Database, tree_at, edit_in, merge_in, after_edit, after_merge, edit_replies, merge_replies, removed_of, purge_reply, reply_to, IsDatabase}
 use Rattle.model.proofs.MapLaws.{Contains-entries}
 use Rattle.model.proofs.LookupLaws.{refined-some}
+use Rattle.model.proofs.EditLaws.{merged-refused}
 use Rattle.model.proofs.WrittenLaws.{IsSoundWrite, IsSoundWrite-edited, IsSoundWrite-merged}
 use Rattle.model.proofs.KeptLaws.{sound_trees, IsDatabase-written, removed_revs}
 
@@ -33,14 +32,6 @@ FitsEdit-replies d (e ∷ es) all h =
 
 -- ---- merges
 
-merged-refusal : (limit : ℕ) (o : Option Tree) (m : Merge) (f : Refusal) → merged limit o m ≡ Err f → f ≡ BadHistory
-unfolding merged with_path
-merged-refusal limit o m f e = at (graft (m.newest ∷ m.older) m.body m.deleted (unwrap_or o _)) e
-  where
-    at : (g : Option Tree) → written m.newest (stemmed limit g) ≡ Err f → f ≡ BadHistory
-    at None e = cc
-    at (Some t) e = absurd cc
-
 FitsMerge-written : (w : Result Written Refusal) → ((v : Written) → w ≡ Ok v → IsSoundWrite v) → ((f : Refusal) → w ≡ Err f → f ≡ BadHistory) → FitsMerge (revision_written w)
 FitsMerge-written (Ok v) sound refusal = (sound v refl).rev
 FitsMerge-written (Err f) sound refusal = refusal f refl
@@ -50,7 +41,7 @@ FitsMerge-replies d [] all h = All-nil FitsMerge
 FitsMerge-replies d (m ∷ ms) all h =
     let is = All-head IsMerge m ms all in
     let sound : (v : Written) → merge_in d m ≡ Ok v → IsSoundWrite v = λ v made. IsSoundWrite-merged d.revs_limit (tree_at d m.id) h.revs_limit.0 (sound_trees d h m.id) m v is made in
-    All-cons FitsMerge _ _ (FitsMerge-written (merge_in d m) sound (merged-refusal d.revs_limit (tree_at d m.id) m)) (FitsMerge-replies (after_merge d m) ms (All-tail IsMerge m ms all) (IsDatabase-written d m.id (merge_in d m) is.id sound h))
+    All-cons FitsMerge _ _ (FitsMerge-written (merge_in d m) sound (λ f refused. (merged-refused d.revs_limit (tree_at d m.id) m f refused).0)) (FitsMerge-replies (after_merge d m) ms (All-tail IsMerge m ms all) (IsDatabase-written d m.id (merge_in d m) is.id sound h))
 
 -- ---- local documents
 

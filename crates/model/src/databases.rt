@@ -2,15 +2,15 @@
 
 ghost use Rattle.std.specs.Prelude.{◌≡◌, ◌≢◌, ◌↔◌, ℕ, ◌+◌, ◌-◌, ◌<◌, ◌≤◌, Bool, true, false, List, [], ◌∷◌, ◌++◌, length, map, filter, take, drop, nat_lt, All, Contains, Option, Some, None, option_map, option_and_then, unwrap_or, Ok, Err, if◌then◌else◌};
 ghost use Rattle.model.specs.Lists.{last_few};
-ghost use Rattle.model.specs.Map.{Map, IsRising, get, put, same_key};
+ghost use Rattle.model.specs.Map.{Map, IsRising, empty, get, put, same_key};
 ghost use Rattle.model.specs.Body.{Body};
 ghost use Rattle.model.specs.Revision.{Rev, IsRev, child, generation_after, last_generation};
-ghost use Rattle.model.specs.Tree.{Tree, Leaf, body_of, winner};
-ghost use Rattle.model.specs.TreeChange.{cut};
-ghost use Rattle.model.specs.Command.{Id, IsId, names, numbers, Edit, Merge, Command, PutLocal, SetLimit, Compact, Refusal, Seat, Entry, IsCommand, FitsReply};
+ghost use Rattle.model.specs.Tree.{Tree, Leaf, body_of, is_leaf, winner};
+ghost use Rattle.model.specs.TreeChange.{Contradicts, cut, graft, stem};
+ghost use Rattle.model.specs.Command.{Id, IsId, names, numbers, Edit, Merge, Command, PutLocal, SetLimit, Compact, Refusal, BadHistory, Missing, Deleted, GenerationLimit, Seat, Entry, IsCommand, FitsReply};
 ghost use Rattle.model.specs.Query.{Options, Style, RevsDiff, AllDocuments, Info, GetLocal, RevsLimit};
 ghost use Rattle.model.specs.PurgeLog.{PurgeInfo, PurgeLog, AreNumbered, IsLog, has_number, is_overrun, logged, purges_since};
-ghost use Rattle.model.specs.Edit.{Written};
+ghost use Rattle.model.specs.Edit.{Written, parent_for, parent_path};
 ghost use Rattle.model.specs.Local.{store_local};
 ghost use Rattle.model.specs.Database.{Database, Record, IsDatabase, IsNumbered, act, after_edit, after_edits, after_merge, after_merges, after_purge, after_purges, after_put_local, calls_of, edit_in, empty_database, merge_in, put_local_reply, removed_of, reply_to, tree_at, with_tree};
 ghost use Rattle.model.specs.History.{replay};
@@ -44,6 +44,40 @@ pub fn log_keeps_the_newest()
 {}
 
 // ---- what a command does
+
+/// An edit makes a child of the leaf that it names. Where it names none, it makes the first revision of a document that
+/// is not there, or a child of a deleted winner if it is no deletion itself.
+pub fn edits_are_over_a_leaf_or_a_deleted_winner()
+    ensures named { (t : Tree) (r : Rev) (deleted : Bool) (parent : Option Rev) →
+        parent_for (Some t) (Some r) deleted ≡ Ok parent ↔ ((is_leaf t r ≡ true) × (parent ≡ Some r)) }
+    ensures unnamed { (t : Tree) (deleted : Bool) (parent : Option Rev) →
+        parent_for (Some t) None deleted ≡ Ok parent ↔ ((deleted ≡ false)
+        × ((w : Leaf) × (winner t ≡ Some w) × (w.deleted ≡ true) × (parent ≡ Some w.rev))) }
+    ensures first { (named : Option Rev) (deleted : Bool) (parent : Option Rev) →
+        parent_for None named deleted ≡ Ok parent ↔ ((named ≡ None) × (deleted ≡ false) × (parent ≡ None)) }
+    ensures missing { (o : Option Tree) (named : Option Rev) (deleted : Bool) →
+        parent_for o named deleted ≡ Err Missing ↔ ((o ≡ None) × (deleted ≡ true)) }
+    ensures deleted { (t : Tree) (named : Option Rev) (deleted : Bool) →
+        parent_for (Some t) named deleted ≡ Err Deleted ↔ ((named ≡ None) × (deleted ≡ true)
+        × ((w : Leaf) × (winner t ≡ Some w) × (w.deleted ≡ true))) }
+{}
+
+/// An edit grafts the child of its parent, and a merge the path that it brings; then the tree is stemmed. An edit is
+/// refused past the last generation, and a merge exactly where a known parent contradicts its path.
+pub fn writes_graft_and_then_stem()
+    ensures edit { (d : Database) (e : Edit) (w : Written) → edit_in d e ≡ Ok w ↔ ((parent : Option Rev) × (u : Tree)
+        × (parent_for (tree_at d e.id) e.named e.deleted ≡ Ok parent)
+        × (generation_after parent ≤ last_generation)
+        × (graft (child parent e.deleted e.body ∷ parent_path parent) e.body e.deleted (unwrap_or (tree_at d e.id) empty) ≡ Some u)
+        × (w ≡ record { rev = child parent e.deleted e.body; tree = stem d.revs_limit u })) }
+    ensures past { (d : Database) (e : Edit) → edit_in d e ≡ Err GenerationLimit ↔ ((parent : Option Rev)
+        × (parent_for (tree_at d e.id) e.named e.deleted ≡ Ok parent) × (last_generation < generation_after parent)) }
+    ensures merge { (d : Database) (m : Merge) (w : Written) → merge_in d m ≡ Ok w ↔ ((u : Tree)
+        × (graft (m.newest ∷ m.older) m.body m.deleted (unwrap_or (tree_at d m.id) empty) ≡ Some u)
+        × (w ≡ record { rev = m.newest; tree = stem d.revs_limit u })) }
+    ensures contradicts { (d : Database) (m : Merge) (f : Refusal) → merge_in d m ≡ Err f ↔ ((f ≡ BadHistory)
+        × Contradicts (unwrap_or (tree_at d m.id) empty) (m.newest ∷ m.older)) }
+{}
 
 /// A refused edit or merge changes nothing, and so does one whose tree stands already. Another one gives its document
 /// that tree at the next update number, and no other document changes.
