@@ -24,6 +24,8 @@ pub mod RisingLaws
 pub mod TouchedLaws
 pub mod CatchUpLaws
 pub mod WriteLaws
+pub mod PurgeLaws
+pub mod BulkLaws
 pub mod UnseenLaws
 pub mod ShownLaws
 pub mod LocalLaws

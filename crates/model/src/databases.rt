@@ -7,12 +7,12 @@ ghost use Rattle.model.specs.Body.{Body};
 ghost use Rattle.model.specs.Revision.{Rev, IsRev, child, generation_after, last_generation};
 ghost use Rattle.model.specs.Tree.{Tree, Leaf, body_of, is_leaf, winner};
 ghost use Rattle.model.specs.TreeChange.{Contradicts, cut, graft, stem};
-ghost use Rattle.model.specs.Command.{Id, IsId, names, numbers, Edit, Merge, Command, PutLocal, SetLimit, Compact, Refusal, BadHistory, Missing, Deleted, GenerationLimit, Seat, Entry, IsCommand, FitsReply};
+ghost use Rattle.model.specs.Command.{Id, IsId, names, numbers, Edit, Merge, Command, PutLocal, Purge, SetLimit, Compact, Purged, Refusal, BadHistory, Missing, Deleted, GenerationLimit, Seat, Entry, IsCommand, FitsReply};
 ghost use Rattle.model.specs.Query.{Options, Style, RevsDiff, AllDocuments, Info, GetLocal, RevsLimit};
 ghost use Rattle.model.specs.PurgeLog.{PurgeInfo, PurgeLog, AreNumbered, IsLog, has_number, is_overrun, logged, purges_since};
 ghost use Rattle.model.specs.Edit.{Written, parent_for, parent_path};
 ghost use Rattle.model.specs.Local.{store_local};
-ghost use Rattle.model.specs.Database.{Database, Record, IsDatabase, IsNumbered, act, after_edit, after_edits, after_merge, after_merges, after_purge, after_purges, after_put_local, calls_of, edit_in, empty_database, merge_in, put_local_reply, removed_of, reply_to, tree_at, with_tree};
+ghost use Rattle.model.specs.Database.{Database, Record, IsDatabase, IsNumbered, act, after_edit, after_edits, after_merge, after_merges, after_purge, after_purges, after_put_local, calls_of, edit_in, edit_replies, empty_database, merge_in, merge_replies, purge_reply, put_local_reply, removed_of, reply_to, tree_at, with_tree};
 ghost use Rattle.model.specs.History.{replay};
 ghost use Rattle.model.specs.Changes.{at_numbers, by_seq, changes_page};
 ghost use Rattle.model.specs.Documents.{found, opened};
@@ -99,7 +99,8 @@ pub fn writes_take_the_next_number_or_change_nothing()
 {}
 
 /// A purge that removes no leaf changes nothing. A document that loses leaves is logged with them at the next purge
-/// number; it takes the next update number where a leaf is left, and otherwise it goes. No other document changes.
+/// number; it takes the next update number where a leaf is left, and otherwise it goes. No other document changes, so
+/// what stood before the purge tells all that it removes. It answers the last purge number.
 pub fn purges_are_logged()
     ensures nothing { (d : Database) (id : Id) (named : List Rev) →
         removed_of d id named ≡ [] → after_purge d (id, named) ≡ d }
@@ -114,6 +115,23 @@ pub fn purges_are_logged()
         (get (after_purge d (id, named)).docs id ≡ None) × ((after_purge d (id, named)).update_seq ≡ d.update_seq) }
     ensures others { (d : Database) (id other : Id) (named : List Rev) →
         other ≢ id → get (after_purge d (id, named)).docs other ≡ get d.docs other }
+    ensures before { (d : Database) (front : List (Id × List Rev)) (id : Id) (named : List Rev) →
+        All (λ e. id ≢ e.0) front → removed_of (after_purges d front) id named ≡ removed_of d id named }
+    ensures number { (d : Database) (seat : Seat) (named : Map names (List Rev)) →
+        reply_to d (Purge named) ≡ Purged (act d seat (Purge named)).purges.purge_seq (purge_reply d named) }
+{}
+
+/// A bulk acts in the order listed, its first part and then the rest, and so does a purge.
+pub fn bulks_act_in_order()
+    ensures edits { (d : Database) (es fs : List Edit) → after_edits d (es ++ fs) ≡ after_edits (after_edits d es) fs }
+    ensures edit_replies { (d : Database) (es fs : List Edit) →
+        edit_replies d (es ++ fs) ≡ edit_replies d es ++ edit_replies (after_edits d es) fs }
+    ensures merges { (d : Database) (ms ns : List Merge) →
+        after_merges d (ms ++ ns) ≡ after_merges (after_merges d ms) ns }
+    ensures merge_replies { (d : Database) (ms ns : List Merge) →
+        merge_replies d (ms ++ ns) ≡ merge_replies d ms ++ merge_replies (after_merges d ms) ns }
+    ensures purges { (d : Database) (es fs : List (Id × List Rev)) →
+        after_purges d (es ++ fs) ≡ after_purges (after_purges d es) fs }
 {}
 
 /// Edits and merges change documents and the update number alone, and purges these and the log, of which the limit stays.
