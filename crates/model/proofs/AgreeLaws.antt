@@ -1,21 +1,23 @@
 -- A copy that agrees with a database agrees with every later one.
-use Rattle.std.specs.Prelude.{◌≡◌, ℕ, ◌+◌, ◌<◌, ◌≤◌, ◌⊎◌, Bool, true, false, cond, ◌||◌, List, [], ◌∷◌, ◌++◌, nat_lt, Option, Some, None, option_map, option_and_then, unwrap_or, refl}
+use Rattle.std.specs.Prelude.{◌≡◌, ℕ, ◌+◌, ◌≤◌, ◌⊎◌, true, false, ◌||◌, List, nat_lt, Option, Some, None, option_map, unwrap_or, refl}
 use Rattle.std.specs.List.{list_any}
 use Rattle.std.proofs.Common.{sym, ap, subst, ◌∙◌, inl, inr, arith, lt-ltb}
-use Rattle.std.proofs.lemmas.Bool.{true≢false, or_left, or_right}
+use Rattle.std.proofs.lemmas.Bool.{or_left, or_right}
 use Rattle.std.proofs.lemmas.List.Folds.{list_any-append}
-use Rattle.model.specs.Map.{get, put, get-put, get-refine, same_key, same_key-equal, same_key_itself}
+use Rattle.model.specs.Map.{Map, get, without, same_key, same_key-equal, same_key_itself}
 use Rattle.model.specs.Revision.{Rev}
 use Rattle.model.specs.Tree.{Tree}
-use Rattle.model.specs.Command.{Id, names, Entry}
-use Rattle.model.specs.PurgeLog.{PurgeLog, PurgeInfo, logged, purges_since, is_overrun, AreNumbered}
-use Rattle.model.specs.Database.{Database, Record, with_tree, without_document, stripped, compacted}
+use Rattle.model.specs.Command.{Id, names, Command, Seat, Entry}
+use Rattle.model.specs.PurgeLog.{PurgeLog, logged, purges_since, is_overrun, AreNumbered}
+use Rattle.model.specs.Database.{Database, Record, with_tree, stripped, compacted, act}
 use Rattle.model.specs.History.{replay}
 use Rattle.model.specs.Compaction.{Marks, marks_of, is_logged, is_updated, strip_at, Agrees}
 use Rattle.model.proofs.ListLaws.{by_cases}
+use Rattle.model.proofs.MapLaws.{get-refine_all}
+use Rattle.model.proofs.LookupLaws.{get-put_same, get-put_other, get-without_other}
 use Rattle.model.proofs.StripLaws.{strip-strip}
 use Rattle.model.proofs.LogLaws.{AreNumbered-logged, since-logged, is_overrun-logged}
-use Rattle.model.proofs.StepLaws.{KeptByEntries, purged, of_replay}
+use Rattle.model.proofs.StepLaws.{KeptByEntries, purged, of_act, of_replay}
 
 -- e is a later database than d
 record Later (d e : Database) : Type 0 where
@@ -78,80 +80,60 @@ Later-tree d id t h = record {
   numbered = h;
   update = omega arith;
   purge = omega arith;
-  agrees = λ copy m u p. Agrees-same copy m d (with_tree d id t) refl (λ q a. by_cases (same_key names q id) (λ same. inr (inl (fresh m u q same))) (λ other. AgreesAt-same copy m d (with_tree d id t) q refl (ap (option_map stripped) (got q false other)) a));
+  agrees = λ copy m u p. Agrees-same copy m d (with_tree d id t) refl (λ q a. by_cases (same_key names q id)
+      (λ same. inr (inl (ap (λ o. unwrap_or (option_map (λ r. nat_lt m.update r.seq) o) false) (get-put_same d.docs id new q same) ∙ lt-ltb m.update (d.update_seq + 1) (omega (arith, u)))))
+      (λ other. AgreesAt-same copy m d (with_tree d id t) q refl (ap (option_map stripped) (get-put_other d.docs id new q other)) a));
 }
   where
     new : Record
     new = record { tree = t; seq = d.update_seq + 1 }
 
-    got : (q : Id) (b : Bool) → same_key names q id ≡ b → get (put d.docs id new) q ≡ cond b (Some new) (get d.docs q)
-    got q b e = get-put d.docs id new q ∙ ap (λ c. cond c (Some new) (get d.docs q)) e
-
-    fresh : (m : Marks) → m.update ≤ d.update_seq → (q : Id) → same_key names q id ≡ true → is_updated (with_tree d id t) m.update q ≡ true
-    fresh m u q same = ap (λ o. unwrap_or (option_map (λ r. nat_lt m.update r.seq) o) false) (got q true same) ∙ lt-ltb m.update (d.update_seq + 1) (omega (arith, u))
-
 -- ---- a purge is logged
 
-abbrev with_log : Database → PurgeLog → Database
-with_log d l = record d { purges = l }
+-- with other documents and another log
+abbrev with_log : Database → Map names Record → PurgeLog → Database
+with_log d docs log = record d { docs = docs; purges = log }
 
 module _ (d : Database) (id : Id) (leaves : List Rev) (h : AreNumbered d.purges.purge_seq d.purges.infos) where
   abbrev log : PurgeLog
   log = logged d.purges id leaves
 
-  logged_now : (m : Marks) (q : Id) → m.purge ≤ d.purges.purge_seq → is_overrun log m.purge ≡ false → is_logged (with_log d log) m.purge q ≡ (is_logged d m.purge q || (same_key names id q || false))
+  logged_now : (m : Marks) (q : Id) → m.purge ≤ d.purges.purge_seq → is_overrun log m.purge ≡ false → list_any (λ p. same_key names p.id q) (purges_since log m.purge) ≡ (is_logged d m.purge q || (same_key names id q || false))
   logged_now m q p within = ap (list_any (λ p. same_key names p.id q)) (since-logged d.purges id leaves h m.purge p within) ∙ list_any-append (λ p. same_key names p.id q) (purges_since d.purges m.purge) _
 
-  -- each document is as it was, or gone and logged
-  module _ (e : Database) (same_log : e.purges ≡ log) (docs : (q : Id) → (strip_at e q ≡ strip_at d q) ⊎ (same_key names id q ≡ true)) where
-    agrees_at : (copy : Id → Option Record) (m : Marks) → m.purge ≤ d.purges.purge_seq → is_overrun log m.purge ≡ false → (q : Id) → AgreesAt copy m d q → AgreesAt copy m e q
-    agrees_at copy m p within q a = at (docs q) a
-      where
-        logged_in : (is_logged (with_log d log) m.purge q ≡ true) → is_logged e m.purge q ≡ true
-        logged_in t = ap (λ l. list_any (λ p. same_key names p.id q) (purges_since l m.purge)) same_log ∙ t
-
-        at : (strip_at e q ≡ strip_at d q) ⊎ (same_key names id q ≡ true) → AgreesAt copy m d q → AgreesAt copy m e q
-        at (inr gone) a = inr (inr (logged_in (logged_now m q p within ∙ or_right (is_logged d m.purge q) _ (or_left _ false gone))))
-        at (inl is) (inl a) = inl (a ∙ sym is)
-        at (inl is) (inr (inl a)) = inr (inl (same_updated d e m.update q is ∙ a))
-        at (inl is) (inr (inr a)) = inr (inr (logged_in (logged_now m q p within ∙ or_left _ _ a)))
-
-    later_logged : e.update_seq ≡ d.update_seq → Later d e
-    later_logged update_seq = record {
-      numbered = subst (λ (l : PurgeLog). AreNumbered l.purge_seq l.infos) (sym same_log) (AreNumbered-logged d.purges id leaves h);
-      update = omega arith;
-      purge = omega (arith, ap (λ l. l.purge_seq) same_log);
-      agrees = agrees;
-    }
-      where
-        agrees : (copy : Id → Option Record) (m : Marks) → m.update ≤ d.update_seq → m.purge ≤ d.purges.purge_seq → Agrees copy m d → Agrees copy m e
-        agrees copy m u p (inl over) = inl (ap (λ l. is_overrun l m.purge) same_log ∙ is_overrun-logged d.purges id leaves h m.purge over)
-        agrees copy m u p (inr a) = by_cases (is_overrun log m.purge) (λ over. inl (ap (λ l. is_overrun l m.purge) same_log ∙ over)) (λ within. inr (λ q. agrees_at copy m p within q (a q)))
-
-  Later-logged : Later d (with_log d log)
-  Later-logged = later_logged (with_log d log) refl (λ q. inl refl) refl
-
-  Later-gone : Later d (without_document (with_log d log) id)
-  Later-gone = later_logged (without_document (with_log d log) id) refl (λ q. by_cases (same_key names q id) (λ t. inr (turned q t)) (λ f. inl (ap (option_map stripped) (get-refine (λ k r. cond (same_key names k id) None (Some r)) d.docs q ∙ left (same_key names q id) (get d.docs q) f)))) refl
+  -- each document is as it was, or it is the one that is logged
+  Later-logged : (docs : Map names Record) → ((q : Id) → (get docs q ≡ get d.docs q) ⊎ (same_key names id q ≡ true)) → Later d (with_log d docs log)
+  Later-logged docs each = record {
+    numbered = AreNumbered-logged d.purges id leaves h;
+    update = omega arith;
+    purge = omega arith;
+    agrees = agrees;
+  }
     where
-      left : (b : Bool) (o : Option Record) → b ≡ false → option_and_then (λ r. cond b None (Some r)) o ≡ o
-      left true o e = absurd (true≢false e)
-      left false None e = refl
-      left false (Some r) e = refl
+      at : (copy : Id → Option Record) (m : Marks) (q : Id) → m.purge ≤ d.purges.purge_seq → is_overrun log m.purge ≡ false → (get docs q ≡ get d.docs q) ⊎ (same_key names id q ≡ true) → AgreesAt copy m d q → AgreesAt copy m (with_log d docs log) q
+      at copy m q p within (inr its) a = inr (inr (logged_now m q p within ∙ or_right (is_logged d m.purge q) _ (or_left _ false its)))
+      at copy m q p within (inl is) (inl a) = inl (a ∙ ap (option_map stripped) (sym is))
+      at copy m q p within (inl is) (inr (inl a)) = inr (inl (ap (λ o. unwrap_or (option_map (λ r. nat_lt m.update r.seq) o) false) is ∙ a))
+      at copy m q p within (inl is) (inr (inr a)) = inr (inr (logged_now m q p within ∙ or_left _ _ a))
 
-      turned : (q : Id) → same_key names q id ≡ true → same_key names id q ≡ true
-      turned q e = ap (same_key names id) (same_key-equal names q id e) ∙ same_key_itself names id
+      agrees : (copy : Id → Option Record) (m : Marks) → m.update ≤ d.update_seq → m.purge ≤ d.purges.purge_seq → Agrees copy m d → Agrees copy m (with_log d docs log)
+      agrees copy m u p (inl over) = inl (is_overrun-logged d.purges id leaves h m.purge over)
+      agrees copy m u p (inr a) = by_cases (is_overrun log m.purge) (λ over. inl over) (λ within. inr (λ q. at copy m q p within (each q) (a q)))
 
 Later-purged : (d : Database) (id : Id) (leaves : List Rev) (left : Option Tree) → IsLater d (purged d id leaves left)
-Later-purged d id leaves (Some t) = Later-more d (with_log d (logged d.purges id leaves)) _ (Later-logged d id leaves) (Later-tree (with_log d (logged d.purges id leaves)) id t)
-Later-purged d id leaves None = Later-gone d id leaves
+Later-purged d id leaves (Some t) =
+    let log = logged d.purges id leaves in
+    Later-more d (with_log d d.docs log) _ (λ h. Later-logged d id leaves h d.docs (λ q. inl refl)) (Later-tree (with_log d d.docs log) id t)
+Later-purged d id leaves None = λ h. Later-logged d id leaves h (without d.docs id) (λ q. by_cases (same_key names q id)
+    (λ same. inr (ap (same_key names id) (same_key-equal names q id same) ∙ same_key_itself names id))
+    (λ other. inl (get-without_other d.docs id q other)))
 
 -- ---- a compaction strips what a copy has stripped
 
 strip_at-compacted : (d : Database) (id : Id) → strip_at (compacted d) id ≡ strip_at d id
-strip_at-compacted d id = ap (option_map stripped) (get-refine (λ k r. Some (stripped r)) d.docs id) ∙ twice (get d.docs id)
+strip_at-compacted d id = ap (option_map stripped) (get-refine_all (λ _ r. stripped r) d.docs id) ∙ twice (get d.docs id)
   where
-    twice : (o : Option Record) → option_map stripped (option_and_then (λ r. Some (stripped r)) o) ≡ option_map stripped o
+    twice : (o : Option Record) → option_map stripped (option_map stripped o) ≡ option_map stripped o
     twice None = refl
     twice (Some r) = λ i. Some (record { tree = strip-strip r.tree i; seq = r.seq })
 
@@ -173,6 +155,6 @@ later = record {
 pub Agrees-replay : (copy : Id → Option Record) (m : Marks) (d : Database) (es : List Entry) → AreNumbered d.purges.purge_seq d.purges.infos → m.update ≤ d.update_seq → m.purge ≤ d.purges.purge_seq → Agrees copy m d → Agrees copy m (replay d es)
 Agrees-replay copy m d es h u p a = (of_replay IsLater later d es h).agrees copy m u p a
 
--- a copy of all strips agrees at the database's own numbers
-pub Agrees-start : (d : Database) → Agrees (strip_at d) (marks_of d) d
-Agrees-start d = inr (λ id. inl refl)
+-- what one entry does: a copy of all strips agrees at the database's own numbers
+pub Agrees-entry : (d : Database) (seat : Seat) (c : Command) → AreNumbered d.purges.purge_seq d.purges.infos → Agrees (strip_at d) (marks_of d) (act d seat c)
+Agrees-entry d seat c h = (of_act IsLater later d seat c h).agrees (strip_at d) (marks_of d) (omega arith) (omega arith) (inr (λ id. inl refl))

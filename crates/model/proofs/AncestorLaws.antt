@@ -50,7 +50,8 @@ module _ (t : Tree) (forest : IsForest t) where
   slice_get-ancestors zero r k = ap (λ rs. slice_get rs 0) (ancestors-Some r k)
   slice_get-ancestors (suc n) r k = ap (λ rs. slice_get rs (suc n)) (ancestors-Some r k) ∙ at (slice_get-ancestors n) (parent_of t r) refl
     where
-      at : ((p : Rev) → knows t p ≡ true → slice_get (ancestors t (Some p)) n ≡ ancestor t n (Some p)) → (o : Option Rev) → parent_of t r ≡ o → slice_get (ancestors t o) n ≡ ancestor t n o
+      at : ((p : Rev) → knows t p ≡ true → slice_get (ancestors t (Some p)) n ≡ ancestor t n (Some p))
+          → (o : Option Rev) → parent_of t r ≡ o → slice_get (ancestors t o) n ≡ ancestor t n o
       at above None is = sym (ancestor-None t n)
       at above (Some p) is = above p (forest.parents r p is).0
 
@@ -69,7 +70,14 @@ among-place rs r = (
 )
 
 pub among-take : (m : ℕ) (rs : List Rev) (r : Rev) → (among (take m rs) r ≡ true) ↔ ((n : ℕ) × (n < m) × (slice_get rs n ≡ Some r))
-among-take m rs r = (
-  λ h. let c = (Contains-among (take m rs) r).0 h in let less : c.0 < m = omega (arith, c.1, length-take m rs) in (c.0, less, slice_get_read rs (length rs) c.0 r refl (omega (arith, c.1, length-take m rs)) (sym c.2 ∙ get_or-take m rs c.0 r less)),
-  λ p. (Contains-among (take m rs) r).1 (p.0, omega (arith, p.1, slice_get_within rs p.0 r p.2, length-take m rs), get_or-take m rs p.0 r p.1 ∙ get_or_from_slice_get rs p.0 r r p.2),
-)
+among-take m rs r = (λ h. placed ((Contains-among (take m rs) r).0 h), λ p. (Contains-among (take m rs) r).1 (taken p))
+  where
+    placed : Contains (take m rs) r → (n : ℕ) × (n < m) × (slice_get rs n ≡ Some r)
+    placed c =
+        let less : c.0 < m = omega (arith, c.1, length-take m rs) in
+        (c.0, less, slice_get_read rs (length rs) c.0 r refl (omega (arith, c.1, length-take m rs)) (sym c.2 ∙ get_or-take m rs c.0 r less))
+
+    taken : (n : ℕ) × (n < m) × (slice_get rs n ≡ Some r) → Contains (take m rs) r
+    taken p =
+        let within = slice_get_within rs p.0 r p.2 in
+        (p.0, omega (arith, p.1, within, length-take m rs), get_or-take m rs p.0 r p.1 ∙ get_or_from_slice_get rs p.0 r r p.2)

@@ -1,22 +1,21 @@
 -- Taking over touched documents keeps a copy in agreement, and once nothing is touched it has the strip of each record.
-use Rattle.std.specs.Prelude.{◌≡◌, ℕ, ◌⊎◌, Bool, true, false, cond, ◌&&◌, List, [], ◌∷◌, ◌++◌, take, drop, map, filter, nat_lt, Contains, Option, Some, None, option_map, unwrap_or, refl}
+use Rattle.std.specs.Prelude.{◌≡◌, ℕ, ◌⊎◌, true, false, cond, ◌&&◌, List, [], take, drop, map, nat_lt, Contains, Option, Some, None, option_map, unwrap_or, refl}
 use Rattle.std.specs.List.{list_any}
 use Rattle.std.specs.Cmp.{eq_by_cmp_equiv}
-use Rattle.std.proofs.Common.{sym, ap, subst, ◌∙◌, inl, inr, arith, ⊎_elim}
+use Rattle.std.proofs.Common.{sym, ap, subst, ◌∙◌, inl, inr, ⊎_elim}
 use Rattle.std.proofs.lemmas.Bool.{true≢false, and_parts, and_from}
 use Rattle.std.proofs.lemmas.List.{take-append-drop}
 use Rattle.std.proofs.lemmas.List.Elements.{Contains-append_left, Contains-append_right, Contains-append_cases}
 use Rattle.std.proofs.lemmas.Map.Views.{list_any-from_Contains}
-use Rattle.model.specs.Map.{get, entries, same_key, same_key-equal, same_key_itself}
-use Rattle.model.specs.Command.{Id, names, numbers}
-use Rattle.model.specs.PurgeLog.{PurgeInfo, AreNumbered, purges_since, is_overrun}
+use Rattle.model.specs.Map.{get, same_key, same_key-equal, same_key_itself}
+use Rattle.model.specs.Command.{Id, names}
+use Rattle.model.specs.PurgeLog.{AreNumbered, purges_since, is_overrun}
 use Rattle.model.specs.Database.{Database, Record, IsNumbered}
-use Rattle.model.specs.Changes.{every_id, at_numbers, by_seq, changed_since}
+use Rattle.model.specs.Changes.{every_id, by_seq, changed_since}
 use Rattle.model.specs.Compaction.{Marks, Touched, WasUpdated, of_purge, of_update, touched, touched_id, passed, is_logged, is_updated, strip_at, Agrees, taken_over}
 use Rattle.model.proofs.ListLaws.{by_cases, Source, source_of, Contains-map, passing_of, any_passing, Contains-filter}
-use Rattle.model.proofs.MapLaws.{Contains-entries}
-use Rattle.model.proofs.IndexLaws.{at_number}
-use Rattle.model.proofs.TouchedLaws.{Update, listed_number, touched-rest}
+use Rattle.model.proofs.IndexLaws.{listed_number, number_listed}
+use Rattle.model.proofs.TouchedLaws.{Update, touched-rest}
 
 -- ---- a document is touched exactly where it was updated or purged after the marks
 
@@ -31,14 +30,13 @@ module _ (d : Database) (m : Marks) (id : Id) where
       record { element = of_purge p.element; listed = Contains-append_left _ _ _ (Contains-map of_purge purges p.element p.listed); gives = same_key-equal names p.element.id id p.passes }
 
   updated-touched : IsNumbered d → is_updated d m.update id ≡ true → WasTouched
-  unfolding by_seq
   updated-touched num h = at (get d.docs id) refl h
     where
       at : (o : Option Record) → get d.docs id ≡ o → unwrap_or (option_map (λ r. nat_lt m.update r.seq) o) false ≡ true → WasTouched
       at None e h = absurd (true≢false (sym h))
       at (Some r) e h =
           let update : Update = (r.seq, (id, r)) in
-          let listed : Contains (by_seq d) update = (Contains-entries numbers (at_numbers d) r.seq (id, r)).1 (at_number d id r num e) in
+          let listed : Contains (by_seq d) update = number_listed d r.seq id r num (e, refl) in
           let changed : Contains (changed_since every_id d m.update) update = (Contains-filter (λ e. nat_lt m.update e.0 && true) (by_seq d) update).1 (listed, and_from _ true h refl) in
           record { element = WasUpdated r.seq id; listed = Contains-append_right _ _ _ (Contains-map of_update (changed_since every_id d m.update) update changed); gives = refl }
 

@@ -1,21 +1,19 @@
 -- A follower's map stays right: after the rows that it takes, up to the last of them, or up to the update number where none is left.
 use Rattle.std.specs.Prelude.{◌≡◌, ℕ, ◌<◌, ◌≤◌, ◌⊎◌, Bool, true, false, ◌&&◌, List, [], ◌∷◌, length, map, take, drop, nat_lt, Some, All, Contains, refl}
 use Rattle.std.specs.List.{take-map}
-use Rattle.std.proofs.Common.{sym, ap, subst, ◌∙◌, inl, inr, arith, ltb-true, ltb-false, lt-ltb}
+use Rattle.std.proofs.Common.{sym, ap, subst, ◌∙◌, inl, inr, arith, ltb-true, ltb-false}
 use Rattle.std.proofs.Math.ListN.{length-map}
 use Rattle.std.proofs.lemmas.Option.{same_Some}
-use Rattle.std.proofs.lemmas.Bool.{and_parts, and_from, cond-true, cond-false}
+use Rattle.std.proofs.lemmas.Bool.{cond-true, cond-false}
 use Rattle.std.proofs.lemmas.List.{take-append-drop, take_all}
-use Rattle.std.proofs.lemmas.List.Elements.{All-head, All-tail, All-map, All-take, All-weaker, All-contains_itself, All-filter, Contains-append_cases}
+use Rattle.std.proofs.lemmas.List.Elements.{All-head, All-tail, All-map, All-take, All-weaker, All-filter, Contains-append_cases}
 use Rattle.model.specs.Map.{Map, get, put, get-put, same_key, same_key-equal, same_key_itself}
-use Rattle.model.specs.Command.{Id, names, numbers}
+use Rattle.model.specs.Command.{Id, names}
 use Rattle.model.specs.Query.{Style, Row}
 use Rattle.model.specs.Database.{Database, Record, IsNumbered}
-use Rattle.model.specs.Changes.{at_numbers, by_seq, changed_since, row, rows_since, last_seq_of, IsRightFeed, fed}
+use Rattle.model.specs.Changes.{by_seq, changed_since, row, rows_since, last_seq_of, IsRightFeed, fed}
 use Rattle.model.proofs.ListLaws.{by_cases, Contains-cons_cases, Contains-map, Contains-filter}
-use Rattle.model.proofs.MapLaws.{Contains-entries}
-use Rattle.model.proofs.IndexLaws.{at_number}
-use Rattle.model.proofs.RisingLaws.{Rising, last_number, last_number-le, last_number-most, above, above-last_number}
+use Rattle.model.proofs.RisingLaws.{last_number, last_number-le, last_number-most, above, above-last_number}
 use Rattle.model.proofs.TouchedLaws.{Update, number, numbers_within}
 use Rattle.model.proofs.RowLaws.{IsListed, update_of, above_since, all_listed, each_listed}
 

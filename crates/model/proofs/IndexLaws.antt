@@ -1,14 +1,14 @@
 -- The index of records by their update numbers has just the records, each at its number.
-use Rattle.std.specs.Prelude.{◌≡◌, ◌↔◌, ℕ, ◌<◌, Bool, true, false, List, map, Option, Some, None, Contains, is_some, refl}
+use Rattle.std.specs.Prelude.{◌≡◌, ℕ, true, map, Option, Some, None, Contains, is_some, refl}
 use Rattle.std.proofs.Common.{sym, ap, subst, ◌∙◌}
 use Rattle.std.proofs.lemmas.Bool.{true≢false}
-use Rattle.std.proofs.lemmas.Option.{none-some, same_Some}
-use Rattle.model.specs.Map.{Map, get, entries, from_list, get-from_list}
+use Rattle.std.proofs.lemmas.Option.{same_Some}
+use Rattle.model.specs.Map.{IsRising, get, entries, get-from_list}
 use Rattle.model.specs.Command.{Id, names, numbers}
 use Rattle.model.specs.Database.{Database, Record, IsNumbered}
-use Rattle.model.specs.Changes.{at_numbers}
+use Rattle.model.specs.Changes.{at_numbers, by_seq}
 use Rattle.model.proofs.ListLaws.{source_of, Contains-map}
-use Rattle.model.proofs.MapLaws.{found_listed, Contains-entries, Contains-keys, Contains-keys-from_list}
+use Rattle.model.proofs.MapLaws.{found_listed, Contains-entries, Contains-keys, Contains-keys-from_list, IsRising-keys}
 
 abbrev numbered : Id × Record → ℕ × (Id × Record)
 numbered e = (e.1.seq, e)
@@ -35,3 +35,20 @@ at_number d id r num has = from (get (at_numbers d) r.seq) refl known
         let one : f.0 ≡ id = num.distinct f.0 id f.1 r was.0 has was.1 in
         let two : f.1 ≡ r = same_Some f.1 r (sym was.0 ∙ ap (get d.docs) one ∙ has) in
         e ∙ (λ i. Some (one i, two i))
+
+-- ---- as a list
+
+pub at_its_number : (d : Database) (n : ℕ) (id : Id) (r : Record) → IsNumbered d → (get d.docs id ≡ Some r) × (r.seq ≡ n) → get (at_numbers d) n ≡ Some (id, r)
+at_its_number d n id r num h = subst (λ k. get (at_numbers d) k ≡ Some (id, r)) h.1 (at_number d id r num h.0)
+
+pub listed_number : (d : Database) (e : ℕ × (Id × Record)) → Contains (by_seq d) e → (get d.docs e.1.0 ≡ Some e.1.1) × (e.1.1.seq ≡ e.0)
+unfolding by_seq
+listed_number d e c = of_number d e.0 e.1.0 e.1.1 ((Contains-entries numbers (at_numbers d) e.0 e.1).0 c)
+
+pub number_listed : (d : Database) (n : ℕ) (id : Id) (r : Record) → IsNumbered d → (get d.docs id ≡ Some r) × (r.seq ≡ n) → Contains (by_seq d) (n, (id, r))
+unfolding by_seq
+number_listed d n id r num h = (Contains-entries numbers (at_numbers d) n (id, r)).1 (at_its_number d n id r num h)
+
+pub numbers_rise : (d : Database) → IsRising numbers (map (λ e. e.0) (by_seq d))
+unfolding by_seq
+numbers_rise d = IsRising-keys numbers (at_numbers d)

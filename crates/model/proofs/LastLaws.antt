@@ -1,19 +1,17 @@
 -- A later version has no lower number, and what it has at an old number it had before, but for the bodies that a strip drops.
-use Rattle.std.specs.Prelude.{◌≡◌, ◌+◌, ◌≤◌, true, List, Option, Some, None, option_map, refl}
-use Rattle.std.proofs.Common.{sym, ap, subst, ◌∙◌, arith}
+use Rattle.std.specs.Prelude.{◌≡◌, ◌+◌, ◌≤◌, List, Option, Some, None, option_map, refl}
+use Rattle.std.proofs.Common.{◌⊎◌, inl, inr, sym, ap, subst, ◌∙◌, arith}
 use Rattle.std.proofs.lemmas.Option.{none-some, same_Some}
-use Rattle.std.proofs.lemmas.Bool.{cond-true}
-use Rattle.model.specs.Map.{get, put, get-put, same_key}
+use Rattle.model.specs.Map.{get}
 use Rattle.model.specs.Revision.{Rev}
 use Rattle.model.specs.Tree.{Tree}
-use Rattle.model.specs.Command.{Id, names, Entry}
+use Rattle.model.specs.Command.{Id, Entry}
 use Rattle.model.specs.PurgeLog.{logged}
 use Rattle.model.specs.Database.{Database, Record, IsNumbered, with_tree, without_document, leave, stripped, compacted}
 use Rattle.model.specs.History.{replay, Chronicle, now, successor, Extends, Follows, extends, reopened}
 use Rattle.model.specs.Compaction.{strip_at}
-use Rattle.model.proofs.ListLaws.{by_cases}
 use Rattle.model.proofs.MapLaws.{get-refine_all}
-use Rattle.model.proofs.LookupLaws.{get-put_other, get-without, get-without_other}
+use Rattle.model.proofs.LookupLaws.{put-cases, without-some}
 use Rattle.model.proofs.StripLaws.{strip-strip}
 use Rattle.model.proofs.StepLaws.{KeptByEntries, purged, of_replay}
 use Rattle.model.proofs.NumberLaws.{IsNumbered-replay, purge_seq-replay}
@@ -52,24 +50,18 @@ Lasts-more d e f g h = record {
 Lasts-docs : (d e : Database) → e.docs ≡ d.docs → d.update_seq ≤ e.update_seq → Lasts d e
 Lasts-docs d e docs le = record { updates = le; old = λ id r h _. ap (λ m. option_map stripped (get m id)) docs }
 
-module _ (d : Database) (id : Id) where
-  module _ (t : Tree) where
-    abbrev updated : Record
-    updated = record { tree = t; seq = d.update_seq + 1 }
+abbrev updated : Database → Tree → Record
+updated d t = record { tree = t; seq = d.update_seq + 1 }
 
-    above_all : (a : Id) (r : Record) → same_key names a id ≡ true → get (put d.docs id updated) a ≡ Some r → r.seq ≤ d.update_seq → ⊥
-    above_all a r is h le = let one = same_Some updated r (sym (get-put d.docs id updated a ∙ cond-true _ _ _ is) ∙ h) in omega (arith, ap (λ (x : Record). x.seq) one)
+Lasts-tree : (d : Database) (id : Id) (t : Tree) → Lasts d (with_tree d id t)
+Lasts-tree d id t = record { updates = omega arith; old = λ a r h le. from a r h le (put-cases d.docs id (updated d t) a r h) }
+  where
+    from : (a : Id) (r : Record) → get (with_tree d id t).docs a ≡ Some r → r.seq ≤ d.update_seq → ((a ≡ id) × (updated d t ≡ r)) ⊎ (get d.docs a ≡ Some r) → strip_at (with_tree d id t) a ≡ strip_at d a
+    from a r h le (inl new) = absurd (omega (arith, ap (λ (x : Record). x.seq) new.1))
+    from a r h le (inr was) = ap (option_map stripped) (h ∙ sym was)
 
-    Lasts-tree : Lasts d (with_tree d id t)
-    Lasts-tree = record { updates = omega arith; old = λ a r h le. by_cases (same_key names a id) (λ is. absurd (above_all a r is h le)) (λ other. ap (option_map stripped) (get-put_other d.docs id updated a other)) }
-
-  Lasts-without : Lasts d (without_document d id)
-  Lasts-without = record {
-    updates = omega arith;
-    old = λ a r h le. by_cases (same_key names a id)
-        (λ is. absurd (none-some r (sym (get-without d.docs id a ∙ cond-true _ _ _ is) ∙ h)))
-        (λ other. ap (option_map stripped) (get-without_other d.docs id a other));
-  }
+Lasts-without : (d : Database) (id : Id) → Lasts d (without_document d id)
+Lasts-without d id = record { updates = omega arith; old = λ a r h le. ap (option_map stripped) (h ∙ sym (without-some d.docs id a r h)) }
 
 Lasts-purge : (d : Database) (id : Id) (leaves : List Rev) (left : Option Tree) → Lasts d (purged d id leaves left)
 Lasts-purge d id leaves left =

@@ -24,9 +24,16 @@ pub mod RisingLaws
 pub mod TouchedLaws
 pub mod CatchUpLaws
 pub mod WriteLaws
+pub mod PurgeLaws
+pub mod BulkLaws
 pub mod UnseenLaws
 pub mod ShownLaws
 pub mod LocalLaws
+pub mod IdentityLaws
+pub mod EditLaws
+pub mod WrittenLaws
+pub mod KeptLaws
+pub mod ReplyLaws
 pub mod HistoryLaws
 pub mod CallLaws
 pub mod TellLaws

@@ -1,12 +1,12 @@
 -- Laws of tests and lists.
-use Rattle.std.specs.Prelude.{◌≡◌, ◌↔◌, ◌⊎◌, zero, suc, Bool, true, false, cond, List, [], ◌∷◌, filter, map, Option, Some, None, All, AllPairs, Contains, refl}
+use Rattle.std.specs.Prelude.{◌≡◌, ◌↔◌, ◌⊎◌, zero, suc, Bool, true, false, List, [], ◌∷◌, filter, map, Option, Some, None, All, AllPairs, Contains, refl}
 use Rattle.std.specs.List.{list_any}
 use Rattle.std.proofs.Common.{get_or, ⊎_elim, sym, ap, subst, ◌∙◌, inl, inr, arith}
 use Rattle.std.proofs.lemmas.Option.{none-some, same_Some}
-use Rattle.std.proofs.lemmas.Bool.{cond_both}
+use Rattle.std.proofs.lemmas.Bool.{true≢false, cond-true, cond_both}
 use Rattle.std.proofs.Math.ListN.{length-map}
 use Rattle.std.proofs.lemmas.List.{get_or-map}
-use Rattle.std.proofs.lemmas.List.Elements.{All-nil, All-cons, All-head, All-tail, All-weaker, All-contains, All-filter, All-contains_itself, filter_passes}
+use Rattle.std.proofs.lemmas.List.Elements.{All-head, All-tail, All-contains, All-filter, All-contains_itself, filter_passes}
 use Rattle.std.proofs.lemmas.List.Folds.{Any-from_list_any, list_any-from_Any}
 use Rattle.model.specs.Lists.{first_of}
 
@@ -41,21 +41,27 @@ module _ {X : Type 0} where
   Contains-cons_cases x xs y (zero, lt, is) = inl is
   Contains-cons_cases x xs y (suc k, lt, is) = inr (k, omega (arith, lt), is)
 
-  passing_kept : (p : X → Bool) (xs : List X) → All (λ x. p x ≡ true → Contains (filter p xs) x) xs
-  passing_kept p [] = All-nil _
-  passing_kept p (y ∷ ys) = All-cons (λ x. p x ≡ true → Contains (filter p (y ∷ ys)) x) y ys
-      (λ e. subst (λ b. Contains (cond b (y ∷ filter p ys) (filter p ys)) y) (sym e) (Contains-head y _))
-      (All-weaker (λ x. p x ≡ true → Contains (filter p ys) x) (λ x. p x ≡ true → Contains (filter p (y ∷ ys)) x) (λ x h e. cond_both (p y) (y ∷ filter p ys) (filter p ys) (λ zs. Contains zs x) (λ _. Contains-tail y _ x (h e)) (λ _. h e)) ys (passing_kept p ys))
+  kept_passing : (p : X → Bool) (xs : List X) (x : X) → p x ≡ true → Contains xs x → Contains (filter p xs) x
+  kept_passing p [] x e c = c
+  kept_passing p (y ∷ ys) x e c =
+      let later = kept_passing p ys x e in
+      let cases = Contains-cons_cases y ys x c in
+      cond_both (p y) (y ∷ filter p ys) (filter p ys) (λ zs. Contains zs x)
+      (λ _. ⊎_elim (λ is. subst (Contains (y ∷ filter p ys)) is (Contains-head y (filter p ys))) (λ d. Contains-tail y (filter p ys) x (later d)) cases)
+      (λ n. ⊎_elim (λ is. absurd (true≢false (sym e ∙ ap p (sym is) ∙ n))) later cases)
+
+  passing_kept : (p : X → Bool) (xs : List X) (x : X) → Contains (filter p xs) x → Contains xs x × (p x ≡ true)
+  passing_kept p xs x c =
+      let listed = All-filter p (Contains xs) xs (All-contains_itself xs) in
+      (All-contains (Contains xs) (filter p xs) x listed c, All-contains (λ y. p y ≡ true) (filter p xs) x (filter_passes p xs) c)
 
   pub Contains-filter : (p : X → Bool) (xs : List X) (x : X) → Contains (filter p xs) x ↔ (Contains xs x × (p x ≡ true))
-  Contains-filter p xs x = (
-    λ c. (All-contains (Contains xs) (filter p xs) x (All-filter p (Contains xs) xs (All-contains_itself xs)) c, All-contains (λ y. p y ≡ true) (filter p xs) x (filter_passes p xs) c),
-    λ h. All-contains (λ y. p y ≡ true → Contains (filter p xs) y) xs x (passing_kept p xs) h.0 h.1,
-  )
+  Contains-filter p xs x = (passing_kept p xs x, λ h. kept_passing p xs x h.1 h.0)
 
   pub filter_all : (p : X → Bool) (xs : List X) → All (λ x. p x ≡ true) xs → filter p xs ≡ xs
   filter_all p [] h = refl
-  filter_all p (x ∷ xs) h = ap (λ b. cond b (x ∷ filter p xs) (filter p xs)) (All-head (λ x. p x ≡ true) x xs h) ∙ ap (λ ys. x ∷ ys) (filter_all p xs (All-tail (λ x. p x ≡ true) x xs h))
+  filter_all p (x ∷ xs) h =
+      cond-true _ (x ∷ filter p xs) (filter p xs) (All-head (λ x. p x ≡ true) x xs h) ∙ ap (λ ys. x ∷ ys) (filter_all p xs (All-tail (λ x. p x ≡ true) x xs h))
 
   -- ---- the first of a list in order
 

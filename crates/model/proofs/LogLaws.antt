@@ -1,11 +1,11 @@
 -- The purge log: numbers that rise by one up to the last purge's, what one more purge keeps, and which marks are overrun.
-use Rattle.std.specs.Prelude.{◌≡◌, ℕ, zero, suc, ◌+◌, ◌-◌, ◌<◌, ◌≤◌, ◌==◌, ◌≢◌, ◌⊎◌, Bool, true, false, not, ◌||◌, List, [], ◌∷◌, ◌++◌, length, drop, filter, cond, get_or, nat_lt, All, refl}
-use Rattle.std.specs.List.{list_any, range_with_len}
+use Rattle.std.specs.Prelude.{◌≡◌, ℕ, zero, suc, ◌+◌, ◌-◌, ◌<◌, ◌≤◌, ◌≢◌, ◌⊎◌, true, false, not, List, [], ◌∷◌, ◌++◌, length, drop, filter, cond, get_or, nat_lt, All, refl}
+use Rattle.std.specs.List.{range_with_len}
 use Rattle.std.specs.Cmp.{both_ways}
-use Rattle.std.proofs.Common.{inl, inr, sym, ap, subst, ◌∙◌, arith, eqb-true, eq-eqb, ltb-true, lt-ltb}
-use Rattle.std.proofs.lemmas.Bool.{true≢false, or_cases, or_from, not-true, ne_eqb, cases_lt, cond-false, ltb-false, le-ltb}
+use Rattle.std.proofs.Common.{inl, inr, sym, ap, subst, ◌∙◌, arith, ltb-true, lt-ltb}
+use Rattle.std.proofs.lemmas.Bool.{true≢false, or_from, not-true, ne_eqb, cases_lt, cond-false, ltb-false, le-ltb}
 use Rattle.std.proofs.lemmas.Bool.Decides.{nat_tests}
-use Rattle.std.proofs.lemmas.List.{length-drop, length_push, drop-append-le, drop-drop}
+use Rattle.std.proofs.lemmas.List.{length-drop, length_push}
 use Rattle.std.proofs.lemmas.List.FromFn.{length-range_with_len, get_or-range_with_len}
 use Rattle.std.proofs.lemmas.List.Folds.{Any-from_list_any, list_any_at}
 use Rattle.std.proofs.lemmas.List.Elements.{All-push, All-drop, filter-append}
@@ -15,10 +15,6 @@ use Rattle.model.specs.Command.{Id, IsId}
 use Rattle.model.specs.PurgeLog.{PurgeInfo, PurgeLog, logged, has_number, purges_since, is_overrun, AreNumbered, IsPurgeInfo, IsLog}
 
 -- ---- the numbers
-
-pub length-AreNumbered : (n : ℕ) (ps : List PurgeInfo) → AreNumbered n ps → length ps ≤ n
-length-AreNumbered n [] h = omega arith
-length-AreNumbered n (p ∷ ps) h = omega (arith, h.0, h.1)
 
 AreNumbered-drop : (n k : ℕ) (ps : List PurgeInfo) → AreNumbered n ps → AreNumbered n (drop k ps)
 AreNumbered-drop n zero ps h = h
@@ -41,7 +37,7 @@ has_each n k (p ∷ ps) h above below = grind (arith, nat_tests, has_each n k ps
 -- ---- overrun
 
 -- a number above the mark was given and is in no entry of the log
-abbrev pub Lost : PurgeLog → ℕ → Type 0
+abbrev Lost : PurgeLog → ℕ → Type 0
 Lost l mark = (n : ℕ) × (mark < n) × (n ≤ l.purge_seq) × (has_number l.infos n ≡ false)
 
 pub lost-is_overrun : (l : PurgeLog) (mark : ℕ) → is_overrun l mark ≡ true → Lost l mark

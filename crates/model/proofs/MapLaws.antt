@@ -50,7 +50,9 @@ module _ (O : Order) {X : Type 0} where
   each_found [] s = All-nil _
   each_found (f ∷ es) s = All-cons (λ e. find O.cmp e.0 (f ∷ es) ≡ Some e.1) f es
       (ap (λ b. cond b (Some f.1) (find O.cmp f.0 es)) (same_key_itself O f.0))
-      (λ i d lt. let e = get_or es i d in ap (λ b. cond b (Some f.1) (find O.cmp e.0 es)) (same_key-apart O f.0 e.0 (above_all f.0 es (first _ _ s) i d lt)) ∙ each_found es (second _ _ s) i d lt)
+      (λ i d lt.
+      let e = get_or es i d in
+      ap (λ b. cond b (Some f.1) (find O.cmp e.0 es)) (same_key-apart O f.0 e.0 (above_all f.0 es (first _ _ s) i d lt)) ∙ each_found es (second _ _ s) i d lt)
 
   pub found_listed : (es : List (O.key × X)) (k : O.key) (x : X) → find O.cmp k es ≡ Some x → Contains es (k, x)
   found_listed [] k x h = absurd (none-some x h)
@@ -60,7 +62,8 @@ module _ (O : Order) {X : Type 0} where
 
   keys_ascend : (es : List (O.key × X)) → T (is_sorted O.cmp es) → IsRising O (map (λ e. e.0) es)
   keys_ascend [] s = λ i j d less lt. absurd (omega arith)
-  keys_ascend (e ∷ es) s = AllPairs-cons (Before O) e.0 (map (λ e. e.0) es) (All-map (λ k. O.cmp e.0 k ≡ Less) (λ e. e.0) es (above_all e.0 es (first _ _ s))) (keys_ascend es (second _ _ s))
+  keys_ascend (e ∷ es) s =
+      AllPairs-cons (Before O) e.0 (map (λ e. e.0) es) (All-map (Before O e.0) (λ e. e.0) es (above_all e.0 es (first _ _ s))) (keys_ascend es (second _ _ s))
 
   module _ (m : Map O X) where
     pub Contains-entries : (k : O.key) (x : X) → Contains (entries m) (k, x) ↔ (get m k ≡ Some x)
@@ -101,7 +104,8 @@ module _ (O : Order) where
 
   below_bare : (k : O.key) (ks : List O.key) → All (λ q. O.cmp k q ≡ Less) ks → T (below_all O.cmp k (bare ks))
   below_bare k [] h = tt
-  below_bare k (q ∷ ks) h = both _ _ (subst (λ o. T (is_lt o)) (sym (All-head (λ q. O.cmp k q ≡ Less) q ks h)) tt) (below_bare k ks (All-tail (λ q. O.cmp k q ≡ Less) q ks h))
+  below_bare k (q ∷ ks) h =
+      both _ _ (subst (λ o. T (is_lt o)) (sym (All-head (Before O k) q ks h)) tt) (below_bare k ks (All-tail (Before O k) q ks h))
 
   sorted_bare : (ks : List O.key) → IsRising O ks → T (is_sorted O.cmp (bare ks))
   sorted_bare [] h = tt
@@ -125,6 +129,7 @@ module _ (O : Order) where
   same_rising ks ls g h is =
       let m = bare_map ks g in
       let n = bare_map ls h in
-      let alike : (q : O.key) → is_some (get m q) ≡ is_some (get n q) = λ q. both_ways _ _ (λ e. (Contains-bare ls h q).1 ((is q).0 ((Contains-bare ks g q).0 e))) (λ e. (Contains-bare ks g q).1 ((is q).1 ((Contains-bare ls h q).0 e))) in
-      let same : m ≡ n = same_map m n (λ q. marked (get m q) ∙ ap (λ b. cond b (Some tt) None) (alike q) ∙ sym (marked (get n q))) in
+      let to : (q : O.key) → is_some (get m q) ≡ true → is_some (get n q) ≡ true = λ q e. (Contains-bare ls h q).1 ((is q).0 ((Contains-bare ks g q).0 e)) in
+      let from : (q : O.key) → is_some (get n q) ≡ true → is_some (get m q) ≡ true = λ q e. (Contains-bare ks g q).1 ((is q).1 ((Contains-bare ls h q).0 e)) in
+      let same : m ≡ n = same_map m n (λ q. marked (get m q) ∙ ap (λ b. cond b (Some tt) None) (both_ways _ _ (to q) (from q)) ∙ sym (marked (get n q))) in
       sym (keys-bare ks) ∙ ap keys same ∙ keys-bare ls

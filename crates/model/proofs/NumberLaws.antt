@@ -1,14 +1,13 @@
 -- Update numbers of records: from 1 to the database's, and no two alike. No number falls.
-use Rattle.std.specs.Prelude.{◌≡◌, ◌+◌, ◌<◌, ◌≤◌, Bool, true, false, cond, List, Option, Some, None, option_and_then, refl}
-use Rattle.std.proofs.Common.{sym, ap, ◌∙◌, arith}
-use Rattle.std.proofs.lemmas.Option.{none-some, same_Some, cond_some, option_and_then_some}
-use Rattle.model.specs.Map.{get, put, get-put, get-refine, same_key, same_key-equal}
+use Rattle.std.specs.Prelude.{◌≡◌, ◌+◌, ◌<◌, ◌≤◌, ◌⊎◌, List, Option, Some, None, refl}
+use Rattle.std.proofs.Common.{sym, ap, ◌∙◌, inl, inr, arith}
+use Rattle.model.specs.Map.{get}
 use Rattle.model.specs.Revision.{Rev}
 use Rattle.model.specs.Tree.{Tree}
-use Rattle.model.specs.Command.{Id, names, Command, Seat, Entry}
+use Rattle.model.specs.Command.{Id, Command, Seat, Entry}
 use Rattle.model.specs.Database.{Database, Record, IsNumbered, with_tree, without_document, stripped, compacted, act}
 use Rattle.model.specs.History.{replay}
-use Rattle.model.proofs.ListLaws.{by_cases}
+use Rattle.model.proofs.LookupLaws.{put-cases, without-some, refined-some}
 use Rattle.model.proofs.StepLaws.{KeptByEntries, purged, of_act, of_replay}
 
 -- each record of e was in d with that number
@@ -18,7 +17,7 @@ IsNumbered-fewer d e le old h = record {
   distinct = λ a b r s g k n. let o = old a r g in let p = old b s k in h.distinct a b o.0 p.0 o.1 p.1 (sym o.2 ∙ n ∙ p.2);
 }
 
-IsNumbered-same : (d e : Database) → e.docs ≡ d.docs → d.update_seq ≤ e.update_seq → IsNumbered d → IsNumbered e
+pub IsNumbered-same : (d e : Database) → e.docs ≡ d.docs → d.update_seq ≤ e.update_seq → IsNumbered d → IsNumbered e
 IsNumbered-same d e docs le h = IsNumbered-fewer d e le (λ id r g. (r, ap (λ m. get m id) (sym docs) ∙ g, refl)) h
 
 module _ (d : Database) (id : Id) (h : IsNumbered d) where
@@ -26,48 +25,31 @@ module _ (d : Database) (id : Id) (h : IsNumbered d) where
     abbrev updated : Record
     updated = record { tree = t; seq = d.update_seq + 1 }
 
-    -- the record with the new number, or an older one
-    data Origin (a : Id) (r : Record) : Type 0 where
-      new : a ≡ id → r.seq ≡ d.update_seq + 1 → Origin a r
-      old : get d.docs a ≡ Some r → Origin a r
+    abbrev NewOrOld : Id → Record → Type 0
+    NewOrOld a r = ((a ≡ id) × (updated ≡ r)) ⊎ (get d.docs a ≡ Some r)
 
-    origin : (a : Id) (r : Record) → get (put d.docs id updated) a ≡ Some r → Origin a r
-    origin a r e = by_cases (same_key names a id)
-        (λ t. new (same_key-equal names a id t) (ap (λ (x : Record). x.seq) (sym (same_Some updated r (ap (λ b. cond b (Some updated) (get d.docs a)) (sym t) ∙ sym (get-put d.docs id updated a) ∙ e)))))
-        (λ f. old (ap (λ b. cond b (Some updated) (get d.docs a)) (sym f) ∙ sym (get-put d.docs id updated a) ∙ e))
-
-    IsNumbered-with_tree : IsNumbered (with_tree d id t)
-    IsNumbered-with_tree = record { within = λ a r e. within a r (origin a r e); distinct = λ a b r s e f n. distinct a b r s (origin a r e) (origin b s f) n }
+    pub IsNumbered-with_tree : IsNumbered (with_tree d id t)
+    IsNumbered-with_tree = record { within = λ a r e. within a r (put-cases d.docs id updated a r e); distinct = λ a b r s e f n. distinct a b r s n (put-cases d.docs id updated a r e) (put-cases d.docs id updated b s f) }
       where
-        within : (a : Id) (r : Record) → Origin a r → (0 < r.seq) × (r.seq ≤ d.update_seq + 1)
-        within a r (new is n) = (omega arith, omega arith)
-        within a r (old e) = let w = h.within a r e in (w.0, omega (arith, w.1))
+        within : (a : Id) (r : Record) → NewOrOld a r → (0 < r.seq) × (r.seq ≤ d.update_seq + 1)
+        within a r (inl new) = let n = ap (λ (x : Record). x.seq) new.1 in (omega arith, omega arith)
+        within a r (inr old) = let w = h.within a r old in (w.0, omega (arith, w.1))
 
-        distinct : (a b : Id) (r s : Record) → Origin a r → Origin b s → r.seq ≡ s.seq → a ≡ b
-        distinct a b r s (new x m) (new y n) e = x ∙ sym y
-        distinct a b r s (old x) (old y) e = h.distinct a b r s x y e
-        distinct a b r s (new x m) (old y) e = let w = h.within b s y in absurd (omega (arith, w.1))
-        distinct a b r s (old x) (new y n) e = let w = h.within a r x in absurd (omega (arith, w.1))
+        distinct : (a b : Id) (r s : Record) → r.seq ≡ s.seq → NewOrOld a r → NewOrOld b s → a ≡ b
+        distinct a b r s e (inl x) (inl y) = x.0 ∙ sym y.0
+        distinct a b r s e (inr x) (inr y) = h.distinct a b r s x y e
+        distinct a b r s e (inl x) (inr y) = let n = ap (λ (x : Record). x.seq) x.1 in absurd (omega (arith, (h.within b s y).1))
+        distinct a b r s e (inr x) (inl y) = let n = ap (λ (x : Record). x.seq) y.1 in absurd (omega (arith, (h.within a r x).1))
 
-  IsNumbered-without : IsNumbered (without_document d id)
-  IsNumbered-without = IsNumbered-fewer d (without_document d id) (omega arith)
-      (λ a r g. (r, left (same_key names a id) (get d.docs a) r (sym (get-refine (λ k x. cond (same_key names k id) None (Some x)) d.docs a) ∙ g), refl)) h
-    where
-      left : (b : Bool) (o : Option Record) (r : Record) → option_and_then (λ x. cond b None (Some x)) o ≡ Some r → o ≡ Some r
-      left b None r e = absurd (none-some r e)
-      left true (Some x) r e = absurd (none-some r e)
-      left false (Some x) r e = e
+  pub IsNumbered-without : IsNumbered (without_document d id)
+  IsNumbered-without = IsNumbered-fewer d (without_document d id) (omega arith) (λ a r g. (r, without-some d.docs id a r g, refl)) h
 
 IsNumbered-purged : (d : Database) (id : Id) (leaves : List Rev) (left : Option Tree) → IsNumbered d → IsNumbered (purged d id leaves left)
 IsNumbered-purged d id leaves (Some t) h = IsNumbered-with_tree _ id (IsNumbered-same d _ refl (omega arith) h) t
 IsNumbered-purged d id leaves None h = IsNumbered-without _ id (IsNumbered-same d _ refl (omega arith) h)
 
-IsNumbered-compacted : (d : Database) → IsNumbered d → IsNumbered (compacted d)
-IsNumbered-compacted d h = IsNumbered-fewer d (compacted d) (omega arith) (λ a r g. old (get d.docs a) r (sym (get-refine (λ k x. Some (stripped x)) d.docs a) ∙ g)) h
-  where
-    old : (o : Option Record) (r : Record) → option_and_then (λ x. Some (stripped x)) o ≡ Some r → (s : Record) × (o ≡ Some s) × (r.seq ≡ s.seq)
-    old None r e = absurd (none-some r e)
-    old (Some x) r e = (x, refl, sym (ap (λ (y : Record). y.seq) (same_Some (stripped x) r e)))
+pub IsNumbered-compacted : (d : Database) → IsNumbered d → IsNumbered (compacted d)
+IsNumbered-compacted d h = IsNumbered-fewer d (compacted d) (omega arith) (λ a r g. let s = refined-some (λ _ x. stripped x) d.docs a r g in (s.0, s.1, sym (ap (λ (x : Record). x.seq) s.2))) h
 
 numbered : KeptByEntries (λ d e. IsNumbered d → IsNumbered e)
 numbered = record {

@@ -18,8 +18,8 @@ module _ {X : Type 0} (same : X → X → Bool) where
   AllPairs-each_once [] = λ i j d less lt. absurd (omega arith)
   AllPairs-each_once (x ∷ xs) =
       let others = filter (λ y. not (same x y)) (each_once same xs) in
-      AllPairs-cons Differ x others (All-weaker (λ y. not (same x y) ≡ true) (Differ x) (λ y h. not-true _ h) others (filter_passes (λ y. not (same x y)) (each_once same xs)))
-      (AllPairs-filter Differ (λ y. not (same x y)) (each_once same xs) (AllPairs-each_once xs))
+      let apart = All-weaker (λ y. not (same x y) ≡ true) (Differ x) (λ y h. not-true _ h) others (filter_passes (λ y. not (same x y)) (each_once same xs)) in
+      AllPairs-cons Differ x others apart (AllPairs-filter Differ (λ y. not (same x y)) (each_once same xs) (AllPairs-each_once xs))
 
   each_once_listed : (xs : List X) (x : X) → Contains (each_once same xs) x → Contains xs x
   each_once_listed [] x c = c
@@ -40,7 +40,9 @@ module _ {X : Type 0} (same : X → X → Bool) where
         here e = subst (Contains (y ∷ others)) e (Contains-head y others)
 
         later : Contains (each_once same ys) x → Contains (y ∷ others) x
-        later d = by_cases (same y x) (λ e. here (exact y x e)) (λ n. Contains-tail y others x ((Contains-filter (λ z. not (same y z)) (each_once same ys) x).1 (d, not_from_false _ n)))
+        later d = by_cases (same y x)
+            (λ e. here (exact y x e))
+            (λ n. Contains-tail y others x ((Contains-filter (λ z. not (same y z)) (each_once same ys) x).1 (d, not_from_false _ n)))
 
     pub Contains-each_once : (xs : List X) (x : X) → Contains (each_once same xs) x ↔ Contains xs x
     Contains-each_once xs x = (each_once_listed xs x, listed_each_once xs x)
@@ -49,7 +51,8 @@ module _ {X : Type 0} (same : X → X → Bool) where
   each_once_distinct [] h = refl
   each_once_distinct (x ∷ xs) h =
       let rest = each_once_distinct xs (AllPairs-tail Differ x xs h) in
-      ap (λ ys. x ∷ filter (λ y. not (same x y)) ys) rest ∙ ap (λ ys. x ∷ ys) (filter_all (λ y. not (same x y)) xs (All-weaker (Differ x) (λ y. not (same x y) ≡ true) (λ y n. not_from_false _ n) xs (AllPairs-head Differ x xs h)))
+      let apart = All-weaker (Differ x) (λ y. not (same x y) ≡ true) (λ y n. not_from_false _ n) xs (AllPairs-head Differ x xs h) in
+      ap (λ ys. x ∷ filter (λ y. not (same x y)) ys) rest ∙ ap (λ ys. x ∷ ys) (filter_all (λ y. not (same x y)) xs apart)
 
 -- ---- the leaves that a cut takes
 
@@ -60,10 +63,15 @@ Contains-removed_leaves named t r =
     (λ c. kept.0 (once.0 c), λ h. once.1 (kept.1 h))
 
 different : (a b : Rev) → (same_rev a b ≡ false) ↔ (a ≢ b)
-different a b = (λ n e. true≢false (sym ((same_rev-equal a b).1 e) ∙ n), λ n. by_cases (same_rev a b) (λ e. absurd (n ((same_rev-equal a b).0 e))) (λ f. f))
+different a b = (
+  λ n e. true≢false (sym ((same_rev-equal a b).1 e) ∙ n),
+  λ n. by_cases (same_rev a b) (λ e. absurd (n ((same_rev-equal a b).0 e))) (λ f. f),
+)
 
 pub AllPairs-removed_leaves : (named : List Rev) (t : Tree) → AllPairs (λ a b. a ≢ b) (removed_leaves named t)
 AllPairs-removed_leaves named t = λ i j d less lt. (different _ _).0 (AllPairs-each_once same_rev (filter (is_leaf t) named) i j d less lt)
 
 pub removed_leaves_distinct : (named : List Rev) (t : Tree) → AllPairs (λ a b. a ≢ b) named → removed_leaves named t ≡ filter (is_leaf t) named
-removed_leaves_distinct named t h = each_once_distinct same_rev (filter (is_leaf t) named) (AllPairs-filter (λ a b. same_rev a b ≡ false) (is_leaf t) named (λ i j d less lt. (different _ _).1 (h i j d less lt)))
+removed_leaves_distinct named t h =
+    let apart : AllPairs (λ a b. same_rev a b ≡ false) named = λ i j d less lt. (different _ _).1 (h i j d less lt) in
+    each_once_distinct same_rev (filter (is_leaf t) named) (AllPairs-filter (λ a b. same_rev a b ≡ false) (is_leaf t) named apart)

@@ -3,10 +3,11 @@ use Rattle.std.specs.Prelude.{◌≡◌, ◌↔◌, ◌⊎◌, ◌+◌, ◌<◌,
 use Rattle.std.specs.Cmp.{eq_by_cmp_equiv}
 use Rattle.std.proofs.Common.{sym, ap, subst, ◌∙◌, ⊎_elim, inl, inr, arith}
 use Rattle.std.proofs.lemmas.Bool.{true≢false, and_parts, and_from, and_cases, and_left, and_right, or_cases, or_left, or_right}
-use Rattle.model.proofs.ListLaws.{by_cases}
-use Rattle.model.specs.Revision.{Rev, rev_total, same_rev, same_rev-equal}
+use Rattle.model.specs.Map.{same_key_itself}
+use Rattle.model.specs.Revision.{Rev, revs, rev_total, same_rev, same_rev-equal}
 use Rattle.model.specs.Tree.{Tree, parent_of, among}
 use Rattle.model.specs.TreeChange.{IsPath, Contradicts, fits, agrees, is_pair}
+use Rattle.model.proofs.ListLaws.{by_cases}
 
 pub same_rev-symm : (a b : Rev) → same_rev a b ≡ same_rev b a
 same_rev-symm = (eq_by_cmp_equiv rev_total).symm
@@ -14,13 +15,14 @@ same_rev-symm = (eq_by_cmp_equiv rev_total).symm
 -- ---- neighbours
 
 pub pair_cases : (r next : Rev) (rest : List Rev) (c p : Rev) → is_pair (r ∷ next ∷ rest) c p ≡ true → ((r ≡ c) × (next ≡ p)) ⊎ (is_pair (next ∷ rest) c p ≡ true)
-pair_cases r next rest c p h = ⊎_elim (λ e. let g = and_parts _ _ e in inl ((same_rev-equal r c).0 g.0, (same_rev-equal next p).0 g.1)) inr (or_cases _ _ h)
+pair_cases r next rest c p h =
+    ⊎_elim (λ e. let g = and_parts _ _ e in inl ((same_rev-equal r c).0 g.0, (same_rev-equal next p).0 g.1)) inr (or_cases _ _ h)
 
 pub first_pair : (r next : Rev) (rest : List Rev) → is_pair (r ∷ next ∷ rest) r next ≡ true
-first_pair r next rest = or_left _ _ (and_from _ _ ((same_rev-equal r r).1 refl) ((same_rev-equal next next).1 refl))
+first_pair r next rest = or_left _ _ (and_from _ _ (same_key_itself revs r) (same_key_itself revs next))
 
-among_itself : (r : Rev) (rest : List Rev) → among (r ∷ rest) r ≡ true
-among_itself r rest = or_left _ _ ((same_rev-equal r r).1 refl)
+pub first_among : (r : Rev) (rest : List Rev) → among (r ∷ rest) r ≡ true
+first_among r rest = or_left _ _ (same_key_itself revs r)
 
 apart : (r q : Rev) → same_rev q r ≡ true → same_rev r q ≡ false → ⊥
 apart r q e n = true≢false (sym e ∙ same_rev-symm q r ∙ n)
@@ -30,7 +32,11 @@ pub pair_members : (path : List Rev) (c p : Rev) → IsPath path → is_pair pat
 pair_members [] c p path h = absurd path
 pair_members (r ∷ []) c p path h = absurd (true≢false (sym h))
 pair_members (r ∷ next ∷ rest) c p path h = ⊎_elim
-    (λ e. (subst (λ q. among (r ∷ next ∷ rest) q ≡ true) e.0 (among_itself r (next ∷ rest)), subst (λ q. among (r ∷ next ∷ rest) q ≡ true) e.1 (or_right (same_rev next r) _ (among_itself next rest)), omega (arith, path.0, ap (λ (q : Rev). q.generation) e.0, ap (λ (q : Rev). q.generation) e.1)))
+    (λ e. (
+      subst (λ q. among (r ∷ next ∷ rest) q ≡ true) e.0 (first_among r (next ∷ rest)),
+      subst (λ q. among (r ∷ next ∷ rest) q ≡ true) e.1 (or_right (same_rev next r) _ (first_among next rest)),
+      omega (arith, path.0, ap (λ (q : Rev). q.generation) e.0, ap (λ (q : Rev). q.generation) e.1),
+    ))
     (λ e. let m = pair_members (next ∷ rest) c p path.1 e in (or_right (same_rev c r) _ m.0, or_right (same_rev p r) _ m.1, m.2))
     (pair_cases r next rest c p h)
 
@@ -39,7 +45,10 @@ generation q r e = ap (λ (a : Rev). a.generation) ((same_rev-equal q r).0 e)
 
 -- no member is younger than the first
 pub member_generation : (r : Rev) (rest : List Rev) (q : Rev) → IsPath (r ∷ rest) → among (r ∷ rest) q ≡ true → (0 < q.generation) × (q.generation ≤ r.generation)
-member_generation r [] q path h = ⊎_elim (λ e. (omega (arith, path, generation q r e), omega (arith, generation q r e))) (λ e. absurd (true≢false (sym e))) (or_cases (same_rev q r) false h)
+member_generation r [] q path h = ⊎_elim
+    (λ e. (omega (arith, path, generation q r e), omega (arith, generation q r e)))
+    (λ e. absurd (true≢false (sym e)))
+    (or_cases (same_rev q r) false h)
 member_generation r (next ∷ rest) q path h = ⊎_elim
     (λ e. (omega (arith, path.0, generation q r e), omega (arith, generation q r e)))
     (λ e. let m = member_generation next rest q path.1 e in (m.0, omega (arith, path.0, m.1)))
@@ -50,10 +59,11 @@ pub pair_above : (r : Rev) (rest : List Rev) (q : Rev) → among (r ∷ rest) q 
 pair_above r [] q h n = ⊎_elim (λ e. absurd (apart r q e n)) (λ e. absurd (true≢false (sym e))) (or_cases (same_rev q r) false h)
 pair_above r (next ∷ rest) q h n = ⊎_elim
     (λ e. absurd (apart r q e n))
-    (λ e. by_cases (same_rev next q)
-    (λ g. (r, subst (λ p. is_pair (r ∷ next ∷ rest) r p ≡ true) ((same_rev-equal next q).0 g) (first_pair r next rest)))
-    (λ g. let c = pair_above next rest q e g in (c.0, or_right _ _ c.1)))
+    (λ e. by_cases (same_rev next q) here (λ g. let c = pair_above next rest q e g in (c.0, or_right _ _ c.1)))
     (or_cases (same_rev q r) (among (next ∷ rest) q) h)
+  where
+    here : same_rev next q ≡ true → (c : Rev) × (is_pair (r ∷ next ∷ rest) c q ≡ true)
+    here g = (r, subst (λ p. is_pair (r ∷ next ∷ rest) r p ≡ true) ((same_rev-equal next q).0 g) (first_pair r next rest))
 
 -- the first is no child in the rest
 pub first_apart : (r next : Rev) (rest : List Rev) (p : Rev) → IsPath (r ∷ next ∷ rest) → is_pair (next ∷ rest) r p ≡ false

@@ -1,5 +1,5 @@
 -- What commands leave as it was: edits and merges all but documents and the update number, purges all but these and the log.
-use Rattle.std.specs.Prelude.{◌≡◌, ℕ, ◌+◌, true, false, cond, List, Option, Some, None, unwrap_or, refl}
+use Rattle.std.specs.Prelude.{◌≡◌, ℕ, ◌+◌, cond, List, Option, Some, None, unwrap_or, refl}
 use Rattle.std.proofs.Common.{sym, ap, ◌∙◌}
 use Rattle.model.specs.Map.{Map, get, entries, put, get-put, same_key, same_key-equal}
 use Rattle.model.specs.Revision.{Rev}

@@ -1,5 +1,5 @@
--- A tree with just some revisions of another: which there is, that it is one, and that it is a document's where all is
--- kept that a kept leaf descends from.
+-- A tree with just some revisions of another: a test of revisions makes one, there is no second, and its leaves are leaves
+-- where each kept revision that has children has a kept one.
 use Rattle.std.specs.Prelude.{◌≡◌, ◌↔◌, Bool, true, false, cond, ◌&&◌, Option, Some, None, is_some, option_map, option_and_then, if◌then◌else◌, refl}
 use Rattle.std.specs.Cmp.{both_ways}
 use Rattle.std.proofs.Common.{sym, ap, subst, ◌∙◌}
@@ -10,7 +10,7 @@ use Rattle.model.specs.Revision.{Rev}
 use Rattle.model.specs.Tree.{Revision, Tree, Leaf, IsForest, IsInRange, IsLeafOf, knows, parent_of, body_of, is_deleted, has_child, is_leaf}
 use Rattle.model.specs.TreeChange.{IsRestriction, restrict}
 use Rattle.model.proofs.ListLaws.{by_cases, same_option}
-use Rattle.model.proofs.TreeLaws.{parent_in, body_in, flag_in, left_alone, knows_child, child_of, leaf_known, unknown_body, unknown_flag, knows_bodied, childless_leaf, no_parent_of_leaf, same_trees}
+use Rattle.model.proofs.TreeLaws.{parent_in, body_in, flag_in, kept_by, knows_child, Child, child_of, leaf_known, unknown_body, unknown_flag, knows_bodied, childless_leaf, no_parent_of_leaf, same_trees}
 
 -- ---- the restriction to what passes a test
 
@@ -40,7 +40,7 @@ module _ (keep : Rev → Bool) (t : Tree) where
       same false o = refl
 
   parent_of-restrict : (r : Rev) → parent_of (restrict keep t) r ≡ cond (keep r) (kept_parent (parent_of t r)) None
-  parent_of-restrict r = ap (parent_in) (get-restrict r) ∙ same (keep r) (get t r)
+  parent_of-restrict r = ap parent_in (get-restrict r) ∙ same (keep r) (get t r)
     where
       same : (b : Bool) (o : Option Revision) → parent_in (cond b (option_map shortened o) None) ≡ cond b (kept_parent (parent_in o)) None
       same true None = refl
@@ -48,10 +48,10 @@ module _ (keep : Rev → Bool) (t : Tree) where
       same false o = refl
 
   body_of-restrict : (r : Rev) → keep r ≡ true → body_of (restrict keep t) r ≡ body_of t r
-  body_of-restrict r k = ap body_in (get-restrict r ∙ cond-true _ _ None k) ∙ left_alone body_in shortened (λ v. refl) (get t r)
+  body_of-restrict r k = ap body_in (get-restrict r ∙ cond-true _ _ None k) ∙ kept_by body_in shortened (λ v. refl) (get t r)
 
   is_deleted-restrict : (r : Rev) → keep r ≡ true → is_deleted (restrict keep t) r ≡ is_deleted t r
-  is_deleted-restrict r k = ap flag_in (get-restrict r ∙ cond-true _ _ None k) ∙ left_alone flag_in shortened (λ v. refl) (get t r)
+  is_deleted-restrict r k = ap flag_in (get-restrict r ∙ cond-true _ _ None k) ∙ kept_by flag_in shortened (λ v. refl) (get t r)
 
   kept_parents : (c p : Rev) → parent_of (restrict keep t) c ≡ Some p → (parent_of t c ≡ Some p) × (keep c ≡ true) × (keep p ≡ true)
   kept_parents c p e = of_child (keep c) refl (sym (parent_of-restrict c) ∙ e)
@@ -69,7 +69,10 @@ module _ (keep : Rev → Bool) (t : Tree) where
 
   pub IsRestriction-restrict : (Keeps : Rev → Type 0) → IsForest t → ((r : Rev) → (keep r ≡ true) × (knows t r ≡ true) ↔ Keeps r) → IsRestriction Keeps t (restrict keep t)
   IsRestriction-restrict Keeps f is = record {
-    known = λ r. (λ k. let h = and_parts _ _ (sym (knows-restrict r) ∙ k) in (is r).0 (h.0, h.1), λ k. let h = (is r).1 k in knows-restrict r ∙ and_from _ _ h.0 h.1);
+    known = λ r. (
+      λ k. let h = and_parts _ _ (sym (knows-restrict r) ∙ k) in (is r).0 (h.0, h.1),
+      λ k. let h = (is r).1 k in knows-restrict r ∙ and_from _ _ h.0 h.1,
+    );
     parents = λ c p. (
       λ e. let h = kept_parents c p e in (h.0, (is c).0 (h.1, knows_child t c p h.0), (is p).0 (h.2, (f.parents c p h.0).0)),
       λ h. parent_kept c p h.0 ((is c).1 h.1).0 ((is p).1 h.2).0,
@@ -80,23 +83,26 @@ module _ (keep : Rev → Bool) (t : Tree) where
 
 -- ---- what a restriction has
 
-pub other_words : (Keeps Others : Rev → Type 0) (t u : Tree) → ((r : Rev) → Keeps r ↔ Others r) → IsRestriction Keeps t u → IsRestriction Others t u
-other_words Keeps Others t u is h = record {
-  known = λ r. (λ k. (is r).0 ((h.known r).0 k), λ k. (h.known r).1 ((is r).1 k));
-  parents = λ c p. (λ e. let g = (h.parents c p).0 e in (g.0, (is c).0 g.1, (is p).0 g.2), λ g. (h.parents c p).1 (g.0, (is c).1 g.1, (is p).1 g.2));
-  bodies = λ r k. h.bodies r ((is r).1 k);
-  flags = λ r k. h.flags r ((is r).1 k);
-}
-
 module _ (Keeps : Rev → Type 0) (t u : Tree) (h : IsRestriction Keeps t u) where
   -- there is one restriction
   pub same_restriction : (v : Tree) → IsRestriction Keeps t v → u ≡ v
-  same_restriction v g =
-      let known : (r : Rev) → knows u r ≡ knows v r = λ r. both_ways _ _ (λ k. (g.known r).1 ((h.known r).0 k)) (λ k. (h.known r).1 ((g.known r).0 k)) in
-      same_trees u v known
-      (λ r. same_option _ _ (λ p. (λ e. (g.parents r p).1 ((h.parents r p).0 e), λ e. (h.parents r p).1 ((g.parents r p).0 e))))
-      (λ r. by_cases (knows u r) (λ k. h.bodies r ((h.known r).0 k) ∙ sym (g.bodies r ((h.known r).0 k))) (λ k. unknown_body u r k ∙ sym (unknown_body v r (sym (known r) ∙ k))))
-      (λ r. by_cases (knows u r) (λ k. h.flags r ((h.known r).0 k) ∙ sym (g.flags r ((h.known r).0 k))) (λ k. unknown_flag u r k ∙ sym (unknown_flag v r (sym (known r) ∙ k))))
+  same_restriction v g = same_trees u v known parents bodies flags
+    where
+      known : (r : Rev) → knows u r ≡ knows v r
+      known r = both_ways _ _ (λ k. (g.known r).1 ((h.known r).0 k)) (λ k. (h.known r).1 ((g.known r).0 k))
+
+      parents : (r : Rev) → parent_of u r ≡ parent_of v r
+      parents r = same_option _ _ (λ p. (λ e. (g.parents r p).1 ((h.parents r p).0 e), λ e. (h.parents r p).1 ((g.parents r p).0 e)))
+
+      bodies : (r : Rev) → body_of u r ≡ body_of v r
+      bodies r = by_cases (knows u r)
+          (λ k. let kept = (h.known r).0 k in h.bodies r kept ∙ sym (g.bodies r kept))
+          (λ k. unknown_body u r k ∙ sym (unknown_body v r (sym (known r) ∙ k)))
+
+      flags : (r : Rev) → is_deleted u r ≡ is_deleted v r
+      flags r = by_cases (knows u r)
+          (λ k. let kept = (h.known r).0 k in h.flags r kept ∙ sym (g.flags r kept))
+          (λ k. unknown_flag u r k ∙ sym (unknown_flag v r (sym (known r) ∙ k)))
 
   -- and where all is kept it is the tree
   pub whole_restriction : IsForest t → ((r : Rev) → knows t r ≡ true ↔ Keeps r) → u ≡ t
@@ -107,16 +113,24 @@ module _ (Keeps : Rev → Type 0) (t u : Tree) (h : IsRestriction Keeps t u) whe
     flags = λ r k. refl;
   })
 
-  -- ---- with all that lies on the way from a kept leaf
+  -- ---- where each kept revision that has children has a kept one
 
-  module _ (f : IsForest t) (known : (r : Rev) → Keeps r → knows t r ≡ true) (below : (r : Rev) → Keeps r → has_child t r ≡ true → (c : Rev) × (parent_of t c ≡ Some r) × Keeps c) where
+  module _ (f : IsForest t) (known : (r : Rev) → Keeps r → knows t r ≡ true)
+      (below : (r : Rev) → Keeps r → has_child t r ≡ true → (c : Rev) × (parent_of t c ≡ Some r) × Keeps c) where
     kept_leaf : (r : Rev) → is_leaf u r ≡ true → is_leaf t r ≡ true
-    kept_leaf r l =
-        let k = (h.known r).0 (leaf_known u r l) in
-        childless_leaf t r (known r k) (by_cases (has_child t r) (λ c. let d = below r k c in absurd (no_parent_of_leaf u r d.0 l ((h.parents d.0 r).1 (d.1, d.2, k)))) (λ c. c))
+    kept_leaf r l = childless_leaf t r (known r kept) (by_cases (has_child t r) (λ c. absurd (clash (below r kept c))) (λ c. c))
+      where
+        kept : Keeps r
+        kept = (h.known r).0 (leaf_known u r l)
+
+        clash : (c : Rev) × (parent_of t c ≡ Some r) × Keeps c → ⊥
+        clash d = no_parent_of_leaf u r d.0 l ((h.parents d.0 r).1 (d.1, d.2, kept))
 
     leaf_kept : (r : Rev) → Keeps r → is_leaf t r ≡ true → is_leaf u r ≡ true
-    leaf_kept r k l = childless_leaf u r ((h.known r).1 k) (by_cases (has_child u r) (λ c. let d = child_of u r c in absurd (no_parent_of_leaf t r d.child l ((h.parents d.child r).0 d.parent).0)) (λ c. c))
+    leaf_kept r k l = childless_leaf u r ((h.known r).1 k) (by_cases (has_child u r) (λ c. absurd (clash (child_of u r c))) (λ c. c))
+      where
+        clash : Child u r → ⊥
+        clash d = no_parent_of_leaf t r d.child l ((h.parents d.child r).0 d.parent).0
 
     pub IsLeafOf-restriction : (l : Leaf) → IsLeafOf u l ↔ (Keeps l.rev × IsLeafOf t l)
     IsLeafOf-restriction l = (

@@ -1,5 +1,5 @@
 -- Lists in the rising order of their numbers, from above a mark; the last number of some of them; and what is above a mark.
-use Rattle.std.specs.Prelude.{◌≡◌, ℕ, zero, suc, ◌+◌, ◌-◌, ◌<◌, ◌≤◌, Bool, true, false, cond, List, [], ◌∷◌, ◌++◌, length, take, drop, map, get_or, filter, nat_lt, All, AllPairs, ⊤, refl}
+use Rattle.std.specs.Prelude.{◌≡◌, ℕ, zero, suc, ◌<◌, ◌≤◌, List, [], ◌∷◌, take, drop, map, get_or, filter, nat_lt, All, AllPairs, ⊤, refl}
 use Rattle.std.proofs.Common.{sym, ap, subst, ◌∙◌, arith, ltb-true, lt-ltb, le-ltb}
 use Rattle.std.proofs.lemmas.List.{get_or-map}
 use Rattle.std.proofs.Math.ListN.{length-map}

@@ -1,19 +1,18 @@
 -- The rows of a feed are those of the wanted documents with a later update, each once, in rising order.
-use Rattle.std.specs.Prelude.{◌≡◌, ◌↔◌, ℕ, ◌<◌, ◌≤◌, Bool, true, false, ◌&&◌, List, [], ◌∷◌, map, filter, nat_lt, All, AllPairs, Contains, Some, refl}
-use Rattle.std.proofs.Common.{sym, ap, subst, ◌∙◌, arith, ltb-true, lt-ltb}
+use Rattle.std.specs.Prelude.{◌≡◌, ◌↔◌, ℕ, ◌<◌, Bool, true, ◌&&◌, List, [], ◌∷◌, map, nat_lt, All, AllPairs, Contains, Some, refl}
+use Rattle.std.proofs.Common.{sym, subst, arith, ltb-true, lt-ltb}
 use Rattle.std.proofs.lemmas.Bool.{and_parts, and_from}
 use Rattle.std.proofs.lemmas.List.Elements.{All-nil, All-cons, All-map, All-weaker, All-contains_itself, All-filter}
 use Rattle.std.proofs.lemmas.List.Kept.{AllPairs-cons}
 use Rattle.model.specs.Map.{get}
-use Rattle.model.specs.Command.{Id, numbers}
+use Rattle.model.specs.Command.{Id}
 use Rattle.model.specs.Query.{Style, Row}
 use Rattle.model.specs.Database.{Database, Record, IsNumbered}
-use Rattle.model.specs.Changes.{at_numbers, by_seq, changed_since, row, rows_since, IsRowOf}
+use Rattle.model.specs.Changes.{by_seq, changed_since, row, rows_since, IsRowOf}
 use Rattle.model.proofs.ListLaws.{Source, source_of, Contains-map, Contains-filter}
-use Rattle.model.proofs.MapLaws.{Contains-entries}
-use Rattle.model.proofs.IndexLaws.{at_number}
+use Rattle.model.proofs.IndexLaws.{listed_number, number_listed}
 use Rattle.model.proofs.RisingLaws.{Rising}
-use Rattle.model.proofs.TouchedLaws.{Update, number, passing_rises, listed_number}
+use Rattle.model.proofs.TouchedLaws.{Update, number, passing_rises}
 
 -- an update that the database has
 abbrev pub IsListed : Database → Update → Type 0
@@ -33,8 +32,7 @@ module _ (wanted : Id → Bool) (d : Database) (since : ℕ) where
   all_listed = All-weaker (Contains (by_seq d)) (IsListed d) (listed_number d) (changed_since wanted d since) (All-filter passes (Contains (by_seq d)) (by_seq d) (All-contains_itself (by_seq d)))
 
   pub each_listed : IsNumbered d → (id : Id) (r : Record) → get d.docs id ≡ Some r → wanted id ≡ true → since < r.seq → Contains (changed_since wanted d since) (update_of id r)
-  unfolding by_seq
-  each_listed num id r has w less = (Contains-filter passes (by_seq d) (r.seq, (id, r))).1 ((Contains-entries numbers (at_numbers d) r.seq (id, r)).1 (at_number d id r num has), and_from _ _ (lt-ltb since r.seq less) w)
+  each_listed num id r has w less = (Contains-filter passes (by_seq d) (update_of id r)).1 (number_listed d r.seq id r num (has, refl), and_from _ _ (lt-ltb since r.seq less) w)
 
   module _ (style : Style) where
     row_of : (r : Row) → Source (row style) (changed_since wanted d since) r → IsRowOf wanted d since style r

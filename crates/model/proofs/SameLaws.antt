@@ -9,7 +9,7 @@ use base.Stored.{Gv, gnil, gnum, gcons}
 use Rattle.model.specs.JsonCode.{members_code, members_inj}
 use Rattle.model.specs.Body.{Body, same_code, same_body}
 use Rattle.model.specs.Map.{entries, same_list, same_key-equal, same_key_itself}
-use Rattle.model.specs.Revision.{revs, same_rev}
+use Rattle.model.specs.Revision.{Rev, revs, same_rev}
 use Rattle.model.specs.Tree.{Tree, Revision}
 use Rattle.model.specs.Database.{same_revision, same_entry, same_tree}
 
@@ -83,9 +83,12 @@ revision_equal v w h =
 revision_itself : (v : Revision) → same_revision v v ≡ true
 revision_itself v = and_from _ _ (and_from _ _ (option_eq_itself same_rev (same_key_itself revs) v.parent) (beq_itself v.deleted)) (option_eq_itself same_body body_itself v.body)
 
+entry_equal : (a b : Rev × Revision) → same_entry a b ≡ true → a ≡ b
+entry_equal a b e = let p = and_parts _ _ e in λ i. (same_key-equal revs a.0 b.0 p.0 i, revision_equal a.1 b.1 p.1 i)
+
 tree_equal : (s t : Tree) → same_tree s t ≡ true → s ≡ t
 unfolding same_tree
-tree_equal s t h = same_list s t (pointwise-equal same_entry (λ a b e. let p = and_parts _ _ e in λ i. (same_key-equal revs a.0 b.0 p.0 i, revision_equal a.1 b.1 p.1 i)) (entries s) (entries t) h)
+tree_equal s t h = same_list s t (pointwise-equal same_entry entry_equal (entries s) (entries t) h)
 
 tree_itself : (t : Tree) → same_tree t t ≡ true
 unfolding same_tree

@@ -1,17 +1,17 @@
 -- A strip keeps what is shown of a tree's leaves, but for which of their ancestors have a body.
-use Rattle.std.specs.Prelude.{◌≡◌, ℕ, zero, suc, Bool, true, false, not, cond, List, [], ◌∷◌, drop, map, filter, All, Contains, Option, Some, None, option_map, unwrap_or, ok_or, Result, Err, if◌then◌else◌, refl}
+use Rattle.std.specs.Prelude.{◌≡◌, ℕ, zero, suc, true, false, not, List, [], ◌∷◌, drop, map, filter, All, Contains, Option, Some, None, option_map, unwrap_or, ok_or, Err, if◌then◌else◌, refl}
 use Rattle.std.proofs.Common.{sym, ap, ◌∙◌}
 use Rattle.std.proofs.lemmas.Bool.{cond-true}
 use Rattle.std.proofs.lemmas.List.Elements.{All-head, All-tail, All-weaker, All-contains_itself}
 use Rattle.model.specs.Lists.{first_of}
 use Rattle.model.specs.Body.{Body}
 use Rattle.model.specs.Revision.{Rev}
-use Rattle.model.specs.Tree.{Tree, Leaf, knows, body_of, is_leaf, leaves, winner, revs_of, upward, path_of}
+use Rattle.model.specs.Tree.{Tree, Leaf, body_of, is_leaf, leaves, winner, revs_of, upward, path_of}
 use Rattle.model.specs.TreeChange.{strip}
 use Rattle.model.specs.Command.{Id}
-use Rattle.model.specs.Query.{Options, Status, Document, Absent, IsMissing, WasDeleted}
+use Rattle.model.specs.Query.{Options, Status, IsMissing, WasDeleted}
 use Rattle.model.specs.Database.{Database, tree_at, compacted}
-use Rattle.model.specs.Documents.{document, status_of, stored, of_winner, found_in, found, opened_at, opened_in, opened_unknown, opened}
+use Rattle.model.specs.Documents.{document, status_of, stored, of_winner, found_in, found, opened_at, opened_in, opened}
 use Rattle.model.proofs.LeafLaws.{Contains-leaves, winner-greatest}
 use Rattle.model.proofs.StripLaws.{knows-strip, parent_of-strip, is_deleted-strip, body_of-strip, leaves-strip}
 use Rattle.model.proofs.UnseenLaws.{tree_at-compacted}

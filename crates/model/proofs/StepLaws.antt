@@ -1,5 +1,5 @@
 -- A relation of databases that each step keeps is kept by the commands: the steps are a document's new tree, a purge, and a compaction.
-use Rattle.std.specs.Prelude.{◌≡◌, Bool, true, false, cond, List, [], ◌∷◌, Option, Some, None, Result, Ok, Err, option_map, option_and_then, unwrap_or, refl}
+use Rattle.std.specs.Prelude.{◌≡◌, true, false, cond, List, [], ◌∷◌, Option, Result, Ok, Err, option_map, option_and_then, unwrap_or, refl}
 use Rattle.model.specs.Map.{entries}
 use Rattle.model.specs.Revision.{Rev}
 use Rattle.model.specs.Tree.{Tree}

@@ -9,12 +9,16 @@ use Rattle.model.specs.Revision.{Rev}
 use Rattle.model.specs.Tree.{Revision, Tree, IsForest, IsTree, IsInRange, knows, parent_of, body_of, is_deleted, is_leaf, leaves}
 use Rattle.model.specs.TreeChange.{strip}
 use Rattle.model.proofs.MapLaws.{get-refine_all}
-use Rattle.model.proofs.TreeLaws.{parent_in, body_in, flag_in, left_alone, same_leaf_test, same_trees}
+use Rattle.model.proofs.TreeLaws.{parent_in, body_in, flag_in, kept_by, same_leaf_test, same_trees}
 use Rattle.model.proofs.LeafLaws.{same_leaves}
 
 -- a revision without its body, unless it is a leaf
 abbrev bared : Bool → Revision → Revision
 bared leaf v = if leaf then v else record v { body = None }
+
+-- what is the same without a body is the same after
+same_bared : {A : Type 0} (said : Revision → A) → ((v : Revision) → said (record v { body = None }) ≡ said v) → (leaf : Bool) (v : Revision) → said (bared leaf v) ≡ said v
+same_bared said same leaf v = cond_both leaf v (record v { body = None }) (λ w. said w ≡ said v) (λ _. refl) (λ _. same v)
 
 module _ (t : Tree) where
   pub get-strip : (r : Rev) → get (strip t) r ≡ option_map (bared (is_leaf t r)) (get t r)
@@ -22,13 +26,13 @@ module _ (t : Tree) where
   get-strip r = get-refine_all (λ q v. bared (is_leaf t q) v) t r
 
   pub knows-strip : (r : Rev) → knows (strip t) r ≡ knows t r
-  knows-strip r = ap is_some (get-strip r) ∙ left_alone is_some (bared (is_leaf t r)) (λ v. refl) (get t r)
+  knows-strip r = ap is_some (get-strip r) ∙ kept_by is_some (bared (is_leaf t r)) (λ v. refl) (get t r)
 
   pub parent_of-strip : (r : Rev) → parent_of (strip t) r ≡ parent_of t r
-  parent_of-strip r = ap parent_in (get-strip r) ∙ left_alone parent_in (bared (is_leaf t r)) (λ v. cond_both (is_leaf t r) v (record v { body = None }) (λ w. w.parent ≡ v.parent) (λ _. refl) (λ _. refl)) (get t r)
+  parent_of-strip r = ap parent_in (get-strip r) ∙ kept_by parent_in (bared (is_leaf t r)) (same_bared (λ v. v.parent) (λ v. refl) (is_leaf t r)) (get t r)
 
   pub is_deleted-strip : (r : Rev) → is_deleted (strip t) r ≡ is_deleted t r
-  is_deleted-strip r = ap flag_in (get-strip r) ∙ left_alone flag_in (bared (is_leaf t r)) (λ v. cond_both (is_leaf t r) v (record v { body = None }) (λ w. w.deleted ≡ v.deleted) (λ _. refl) (λ _. refl)) (get t r)
+  is_deleted-strip r = ap flag_in (get-strip r) ∙ kept_by flag_in (bared (is_leaf t r)) (same_bared (λ v. v.deleted) (λ v. refl) (is_leaf t r)) (get t r)
 
   pub body_of-strip : (r : Rev) → body_of (strip t) r ≡ cond (is_leaf t r) (body_of t r) None
   body_of-strip r = ap body_in (get-strip r) ∙ same (is_leaf t r) (get t r)
@@ -69,8 +73,13 @@ module _ (t : Tree) where
   IsInRange-strip h = record { known = λ r k. h.known r (sym (knows-strip r) ∙ k); body = λ r b e. h.body r b (kept_body r b e) }
 
 pub strip-strip : (t : Tree) → strip (strip t) ≡ strip t
-strip-strip t = same_trees (strip (strip t)) (strip t) (knows-strip (strip t)) (parent_of-strip (strip t)) (λ r. body_of-strip (strip t) r ∙ (λ i. cond (is_leaf-strip t r i) (body_of-strip t r i) None) ∙ twice (is_leaf t r) (body_of t r) ∙ sym (body_of-strip t r)) (is_deleted-strip (strip t))
+strip-strip t = same_trees (strip (strip t)) (strip t) (knows-strip (strip t)) (parent_of-strip (strip t)) bodies (is_deleted-strip (strip t))
   where
     twice : (b : Bool) (o : Option Body) → cond b (cond b o None) None ≡ cond b o None
     twice true o = refl
     twice false o = refl
+
+    bodies : (r : Rev) → body_of (strip (strip t)) r ≡ body_of (strip t) r
+    bodies r =
+        body_of-strip (strip t) r ∙ (λ i. cond (is_leaf-strip t r i) (body_of-strip t r i) None)
+        ∙ twice (is_leaf t r) (body_of t r) ∙ sym (body_of-strip t r)

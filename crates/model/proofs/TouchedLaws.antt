@@ -1,26 +1,20 @@
 -- What is touched after the marks have passed the first of it is the rest.
-use Rattle.std.specs.Prelude.{◌≡◌, ℕ, zero, suc, ◌+◌, ◌-◌, ◌<◌, ◌≤◌, ◌⊎◌, Bool, true, false, ◌&&◌, T, List, [], ◌∷◌, ◌++◌, length, take, drop, map, filter, nat_lt, All, Contains, Option, Some, None, option_map, unwrap_or, refl}
-use Rattle.std.specs.declared.cmp.Ordering.{Ordering}
-use Rattle.std.specs.declared.cmp.Ordering.TheVariants.{Less, Equal, Greater}
-use Rattle.std.specs.Ordering.{is_lt, nat_cmp}
+use Rattle.std.specs.Prelude.{◌≡◌, ℕ, zero, suc, ◌-◌, ◌<◌, ◌≤◌, Bool, true, ◌&&◌, List, [], ◌∷◌, ◌++◌, length, take, drop, map, filter, nat_lt, All, Contains, refl}
+use Rattle.std.specs.declared.cmp.Ordering.TheVariants.{Less}
+use Rattle.std.specs.Ordering.{nat_cmp}
 use Rattle.std.specs.Cmp.{ranked}
-use Rattle.std.specs.FinMap.Entries.{is_sorted, below_all}
-use Rattle.std.proofs.Common.{sym, ap, subst, ◌∙◌, inl, inr, arith, ltb-true, lt-ltb}
+use Rattle.std.proofs.Common.{sym, ap, subst, ◌∙◌, arith, ltb-true}
 use Rattle.std.proofs.Math.Bool.{and-true}
-use Rattle.std.proofs.lemmas.Bool.{true≢false}
 use Rattle.std.proofs.Math.ListN.{length-map}
 use Rattle.std.proofs.lemmas.List.{take-map, drop-map}
 use Rattle.std.proofs.lemmas.List.Elements.{filter_agree, filter_passes, All-nil, All-cons, All-weaker, All-filter, All-contains_itself}
 use Rattle.std.proofs.lemmas.List.Kept.{AllPairs-filter}
-use Rattle.model.specs.Map.{Map, get, entries, same_key, same_key-equal, same_key_itself}
-use Rattle.model.specs.Command.{Id, names, numbers}
+use Rattle.model.specs.Command.{Id}
 use Rattle.model.specs.PurgeLog.{PurgeInfo, AreNumbered, purges_since}
 use Rattle.model.specs.Database.{Database, Record, IsNumbered}
-use Rattle.model.specs.Changes.{every_id, at_numbers, by_seq, changed_since}
-use Rattle.model.specs.Compaction.{Marks, Touched, WasPurged, WasUpdated, of_purge, of_update, touched, touched_id, past, passed, is_logged, is_updated}
-use Rattle.model.proofs.ListLaws.{Source, source_of, Contains-map, passing_of, any_passing, Contains-filter}
-use Rattle.model.proofs.MapLaws.{Contains-entries, IsRising-keys}
-use Rattle.model.proofs.IndexLaws.{of_number, at_number}
+use Rattle.model.specs.Changes.{every_id, by_seq, changed_since}
+use Rattle.model.specs.Compaction.{Marks, Touched, of_purge, of_update, touched, past, passed}
+use Rattle.model.proofs.IndexLaws.{listed_number, numbers_rise}
 use Rattle.model.proofs.RisingLaws.{AllPairs-map, Rising, Rising-lower, Rising-pairs, last_number, above, Rising-above, last_number-le, last_number-most, above-last_number, above-above}
 
 abbrev pub Update : Type 0
@@ -37,12 +31,10 @@ log_rises n (p ∷ ps) h = (omega (arith, h.0, h.1), Rising-lower (λ p. p.seq) 
 
 -- the updates that pass a test, which lets none pass up to the mark
 pub passing_rises : (d : Database) (mark : ℕ) (test : Update → Bool) → ((e : Update) → test e ≡ true → mark < e.0) → Rising number mark (filter test (by_seq d))
-unfolding by_seq
 passing_rises d mark test high =
-    let updates = entries (at_numbers d) in
-    Rising-pairs number mark (filter test updates)
-    (All-weaker (λ e. test e ≡ true) (λ e. mark < e.0) high _ (filter_passes test updates))
-    (AllPairs-filter (λ e f. e.0 < f.0) test updates (λ i j e less lt. ranked _ _ Less (sym (AllPairs-map (λ m n. nat_cmp m n ≡ Less) number updates (IsRising-keys numbers (at_numbers d)) i j e less lt))))
+    Rising-pairs number mark (filter test (by_seq d))
+    (All-weaker (λ e. test e ≡ true) (λ e. mark < e.0) high _ (filter_passes test (by_seq d)))
+    (AllPairs-filter (λ e f. e.0 < f.0) test (by_seq d) (λ i j e less lt. ranked _ _ Less (sym (AllPairs-map (λ m n. nat_cmp m n ≡ Less) number (by_seq d) (numbers_rise d) i j e less lt))))
 
 changed_rises : (d : Database) (mark : ℕ) → Rising number mark (above number mark (by_seq d))
 changed_rises d mark = passing_rises d mark (λ e. nat_lt mark e.0) (λ e h. ltb-true mark e.0 h)
@@ -52,10 +44,6 @@ changed_rises d mark = passing_rises d mark (λ e. nat_lt mark e.0) (λ e h. ltb
 purges_within : (n : ℕ) (ps : List PurgeInfo) → AreNumbered n ps → All (λ p. p.seq ≤ n) ps
 purges_within n [] h = All-nil _
 purges_within n (p ∷ ps) h = All-cons (λ q. q.seq ≤ n) p ps (omega (arith, h.0)) (purges_within n ps h.2)
-
-pub listed_number : (d : Database) (e : Update) → Contains (by_seq d) e → (get d.docs e.1.0 ≡ Some e.1.1) × (e.1.1.seq ≡ e.0)
-unfolding by_seq
-listed_number d e c = of_number d e.0 e.1.0 e.1.1 ((Contains-entries numbers (at_numbers d) e.0 e.1).0 c)
 
 pub numbers_within : (d : Database) → IsNumbered d → All (λ e. e.0 ≤ d.update_seq) (by_seq d)
 numbers_within d num = All-weaker (Contains (by_seq d)) (λ e. e.0 ≤ d.update_seq) (λ e c. let at = listed_number d e c in let w = num.within e.1.0 e.1.1 at.0 in omega (arith, at.1, w.1)) (by_seq d) (All-contains_itself (by_seq d))
@@ -136,6 +124,7 @@ module _ (d : Database) (m : Marks) (n : ℕ) where
         (last_number-le number m.update (n - length purges) updates (changed_rises d m.update), last_number-le (λ p. p.seq) m.purge n purges purges_rise)
 
     pub passed-most : IsNumbered d → m.update ≤ d.update_seq → m.purge ≤ d.purges.purge_seq → ((passed m (take n (touched d m))).update ≤ d.update_seq) × ((passed m (take n (touched d m))).purge ≤ d.purges.purge_seq)
-    passed-most num u p = subst (λ k. (k.update ≤ d.update_seq) × (k.purge ≤ d.purges.purge_seq)) (sym passed-first)
-        (last_number-most number m.update d.update_seq (n - length purges) updates u (All-filter _ (λ e. e.0 ≤ d.update_seq) (by_seq d) (numbers_within d num)),
-        last_number-most (λ p. p.seq) m.purge d.purges.purge_seq n purges p (All-filter _ (λ p. p.seq ≤ d.purges.purge_seq) d.purges.infos (purges_within d.purges.purge_seq d.purges.infos h)))
+    passed-most num u p = subst (λ k. (k.update ≤ d.update_seq) × (k.purge ≤ d.purges.purge_seq)) (sym passed-first) (
+      last_number-most number m.update d.update_seq (n - length purges) updates u (All-filter _ (λ e. e.0 ≤ d.update_seq) (by_seq d) (numbers_within d num)),
+      last_number-most (λ p. p.seq) m.purge d.purges.purge_seq n purges p (All-filter _ (λ p. p.seq ≤ d.purges.purge_seq) d.purges.infos (purges_within d.purges.purge_seq d.purges.infos h)),
+    )

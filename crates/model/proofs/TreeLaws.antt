@@ -22,10 +22,11 @@ body_in o = option_and_then (λ v. v.body) o
 abbrev pub flag_in : Option Revision → Bool
 flag_in o = unwrap_or (option_map (λ v. v.deleted) o) false
 
--- a change of what is known leaves what it leaves of each revision
-pub left_alone : {A : Type 0} (said : Option Revision → A) (f : Revision → Revision) → ((v : Revision) → said (Some (f v)) ≡ said (Some v)) → (o : Option Revision) → said (option_map f o) ≡ said o
-left_alone said f h None = refl
-left_alone said f h (Some v) = h v
+-- what a change keeps of each revision it keeps of a look-up
+pub kept_by : {A : Type 0} (said : Option Revision → A) (f : Revision → Revision) → ((v : Revision) → said (Some (f v)) ≡ said (Some v))
+    → (o : Option Revision) → said (option_map f o) ≡ said o
+kept_by said f h None = refl
+kept_by said f h (Some v) = h v
 
 -- ---- parents and children
 
@@ -82,13 +83,15 @@ pub has_child-parent : (t : Tree) (r c : Rev) → parent_of t c ≡ Some r → h
 unfolding has_child
 has_child-parent t r c e =
     let k = known_of t c (knows_child t c r e) in
-    any_passing (λ e. is_at e.1.parent r) (entries t) (c, k.revision) ((Contains-entries revs t c k.revision).1 k.got) ((is_at-equal k.revision.parent r).1 (ap parent_in (sym k.got) ∙ e))
+    let at = (is_at-equal k.revision.parent r).1 (ap parent_in (sym k.got) ∙ e) in
+    any_passing (λ e. is_at e.1.parent r) (entries t) (c, k.revision) ((Contains-entries revs t c k.revision).1 k.got) at
 
 pub child_of : (t : Tree) (r : Rev) → has_child t r ≡ true → Child t r
 unfolding has_child
 child_of t r h =
     let p = passing_of (λ e. is_at e.1.parent r) (entries t) h in
-    record { child = p.element.0; parent = ap parent_in ((Contains-entries revs t p.element.0 p.element.1).0 p.listed) ∙ (is_at-equal p.element.1.parent r).0 p.passes }
+    let got = (Contains-entries revs t p.element.0 p.element.1).0 p.listed in
+    record { child = p.element.0; parent = ap parent_in got ∙ (is_at-equal p.element.1.parent r).0 p.passes }
 
 pub leaf_known : (t : Tree) (r : Rev) → is_leaf t r ≡ true → knows t r ≡ true
 leaf_known t r h = (and_parts _ _ h).0

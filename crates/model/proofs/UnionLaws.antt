@@ -9,9 +9,9 @@ use Rattle.model.specs.Revision.{Rev, IsRev, same_rev, same_rev-equal}
 use Rattle.model.specs.Tree.{Tree, IsForest, IsTree, IsInRange, knows, parent_of, body_of, is_deleted, is_at, has_child, is_leaf}
 use Rattle.model.specs.TreeChange.{IsPath, IsUnion, Contradicts, is_pair, graft}
 use Rattle.model.proofs.ListLaws.{by_cases, same_option}
-use Rattle.model.proofs.TreeLaws.{is_at-equal, leaf_known, childless_leaf, no_parent_of_leaf, child_of, same_trees}
+use Rattle.model.proofs.TreeLaws.{is_at-equal, leaf_known, childless_leaf, no_parent_of_leaf, Child, child_of, same_trees}
 use Rattle.model.proofs.AncestorLaws.{Contains-among}
-use Rattle.model.proofs.PathLaws.{pair_members, member_generation, pair_above}
+use Rattle.model.proofs.PathLaws.{first_among, pair_members, member_generation, pair_above}
 use Rattle.model.proofs.GraftLaws.{IsUnion-graft, graft-None}
 
 module _ (newest : Rev) (older : List Rev) (body : Body) (deleted : Bool) (t u : Tree) (h : IsUnion newest older body deleted t u) where
@@ -20,20 +20,25 @@ module _ (newest : Rev) (older : List Rev) (body : Body) (deleted : Bool) (t u :
 
   -- there is one union
   pub same_union : (v : Tree) → IsUnion newest older body deleted t v → u ≡ v
-  same_union v g = same_trees u v (λ r. h.known r ∙ sym (g.known r))
-      (λ r. same_option _ _ (λ p. (λ e. (is_at-equal _ p).0 (g.parents r p ∙ sym (h.parents r p) ∙ (is_at-equal _ p).1 e), λ e. (is_at-equal _ p).0 (h.parents r p ∙ sym (g.parents r p) ∙ (is_at-equal _ p).1 e))))
-      (λ r. by_cases (same_rev newest r) (λ e. subst (λ q. body_of u q ≡ body_of v q) ((same_rev-equal newest r).0 e) newest_bodies) (λ n. (h.others r n).0 ∙ sym (g.others r n).0))
-      (λ r. by_cases (same_rev newest r) (λ e. subst (λ q. is_deleted u q ≡ is_deleted v q) ((same_rev-equal newest r).0 e) newest_flags) (λ n. (h.others r n).1 ∙ sym (g.others r n).1))
+  same_union v g = same_trees u v (λ r. h.known r ∙ sym (g.known r)) parents (λ r. (both r).0) (λ r. (both r).1)
     where
-      newest_both : (o : Option Body) → body_of t newest ≡ o → (body_of u newest ≡ body_of v newest) × (is_deleted u newest ≡ is_deleted v newest)
-      newest_both None e = ((h.had_none e).0 ∙ sym (g.had_none e).0, (h.had_none e).1 ∙ sym (g.had_none e).1)
-      newest_both (Some b) e = ((h.had_body b e).0 ∙ sym (g.had_body b e).0, (h.had_body b e).1 ∙ sym (g.had_body b e).1)
+      to : (r p : Rev) → is_at (parent_of u r) p ≡ is_at (parent_of v r) p
+      to r p = h.parents r p ∙ sym (g.parents r p)
 
-      newest_bodies : body_of u newest ≡ body_of v newest
-      newest_bodies = (newest_both (body_of t newest) refl).0
+      parents : (r : Rev) → parent_of u r ≡ parent_of v r
+      parents r = same_option _ _ (λ p. (
+        λ e. (is_at-equal _ p).0 (sym (to r p) ∙ (is_at-equal _ p).1 e),
+        λ e. (is_at-equal _ p).0 (to r p ∙ (is_at-equal _ p).1 e),
+      ))
 
-      newest_flags : is_deleted u newest ≡ is_deleted v newest
-      newest_flags = (newest_both (body_of t newest) refl).1
+      at_newest : (o : Option Body) → body_of t newest ≡ o → (body_of u newest ≡ body_of v newest) × (is_deleted u newest ≡ is_deleted v newest)
+      at_newest None e = ((h.had_none e).0 ∙ sym (g.had_none e).0, (h.had_none e).1 ∙ sym (g.had_none e).1)
+      at_newest (Some b) e = ((h.had_body b e).0 ∙ sym (g.had_body b e).0, (h.had_body b e).1 ∙ sym (g.had_body b e).1)
+
+      both : (r : Rev) → (body_of u r ≡ body_of v r) × (is_deleted u r ≡ is_deleted v r)
+      both r = by_cases (same_rev newest r)
+          (λ e. subst (λ q. (body_of u q ≡ body_of v q) × (is_deleted u q ≡ is_deleted v q)) ((same_rev-equal newest r).0 e) (at_newest (body_of t newest) refl))
+          (λ n. ((h.others r n).0 ∙ sym (g.others r n).0, (h.others r n).1 ∙ sym (g.others r n).1))
 
   -- where a parent in the union comes from
   parent_cases : (r p : Rev) → parent_of u r ≡ Some p → (parent_of t r ≡ Some p) ⊎ (is_pair path r p ≡ true)
@@ -59,9 +64,15 @@ module _ (newest : Rev) (older : List Rev) (body : Body) (deleted : Bool) (t u :
       at (Some b) e = ap is_some (h.had_body b e).0
 
   module _ (is : IsPath path) (f : IsForest t) where
+    old_leaf : (r : Rev) → is_leaf u r ≡ true → knows t r ≡ true → is_leaf t r ≡ true
+    old_leaf r l k = childless_leaf t r k (by_cases (has_child t r) (λ c. absurd (clash (child_of t r c))) (λ c. c))
+      where
+        clash : Child t r → ⊥
+        clash d = no_parent_of_leaf u r d.child l (old_parent d.child r d.parent)
+
     leaf_bodied : (r : Rev) → is_leaf u r ≡ true → same_rev newest r ≡ false → is_some (body_of u r) ≡ true
     leaf_bodied r l n = ⊎_elim
-        (λ k. ap is_some (h.others r n).0 ∙ f.bodies r (childless_leaf t r k (by_cases (has_child t r) (λ c. let d = child_of t r c in absurd (no_parent_of_leaf u r d.child l (old_parent d.child r d.parent))) (λ c. c))))
+        (λ k. ap is_some (h.others r n).0 ∙ f.bodies r (old_leaf r l k))
         (λ m. let c = pair_above newest older r m n in absurd (no_parent_of_leaf u r c.0 l (new_parent c.0 r c.1)))
         (or_cases _ _ (sym (h.known r) ∙ leaf_known u r l))
 
@@ -73,9 +84,11 @@ module _ (newest : Rev) (older : List Rev) (body : Body) (deleted : Bool) (t u :
             (λ a. let m = pair_members path r p is a in (h.known p ∙ or_right (knows t p) _ m.1, m.2))
             (parent_cases r p e);
         generations = λ r k. ⊎_elim (f.generations r) (λ m. (member_generation newest older r is m).0) (or_cases _ _ (sym (h.known r) ∙ k));
-        bodies = λ r l. by_cases (same_rev newest r) (λ e. subst (λ q. is_some (body_of u q) ≡ true) ((same_rev-equal newest r).0 e) newest_bodied) (leaf_bodied r l);
+        bodies = λ r l. by_cases (same_rev newest r)
+            (λ e. subst (λ q. is_some (body_of u q) ≡ true) ((same_rev-equal newest r).0 e) newest_bodied)
+            (leaf_bodied r l);
       };
-      some_known = (newest, h.known newest ∙ or_right (knows t newest) _ (or_left _ _ ((same_rev-equal newest newest).1 refl)));
+      some_known = (newest, h.known newest ∙ or_right (knows t newest) _ (first_among newest older));
     }
 
   pub IsInRange-union : All IsRev path → IsBody body → IsInRange t → IsInRange u
@@ -92,7 +105,8 @@ module _ (newest : Rev) (older : List Rev) (body : Body) (deleted : Bool) (t u :
 
 -- ---- so of a graft
 
-pub graft-union : (newest : Rev) (older : List Rev) (body : Body) (deleted : Bool) (t u : Tree) → IsPath (newest ∷ older) → (graft (newest ∷ older) body deleted t ≡ Some u) ↔ IsUnion newest older body deleted t u
+pub graft-union : (newest : Rev) (older : List Rev) (body : Body) (deleted : Bool) (t u : Tree) → IsPath (newest ∷ older)
+    → (graft (newest ∷ older) body deleted t ≡ Some u) ↔ IsUnion newest older body deleted t u
 graft-union newest older body deleted t u path = (IsUnion-graft newest older body deleted t u path, λ h. at h (graft (newest ∷ older) body deleted t) refl)
   where
     at : IsUnion newest older body deleted t u → (o : Option Tree) → graft (newest ∷ older) body deleted t ≡ o → o ≡ Some u
@@ -101,8 +115,11 @@ graft-union newest older body deleted t u path = (IsUnion-graft newest older bod
 
 pub IsTree-graft : (path : List Rev) (body : Body) (deleted : Bool) (t u : Tree) → IsPath path → IsForest t → graft path body deleted t ≡ Some u → IsTree u
 IsTree-graft [] body deleted t u path f e = absurd path
-IsTree-graft (newest ∷ older) body deleted t u path f e = IsTree-union newest older body deleted t u (IsUnion-graft newest older body deleted t u path e) path f
+IsTree-graft (newest ∷ older) body deleted t u path f e =
+    IsTree-union newest older body deleted t u (IsUnion-graft newest older body deleted t u path e) path f
 
-pub IsInRange-graft : (path : List Rev) (body : Body) (deleted : Bool) (t u : Tree) → IsPath path → All IsRev path → IsBody body → IsInRange t → graft path body deleted t ≡ Some u → IsInRange u
+pub IsInRange-graft : (path : List Rev) (body : Body) (deleted : Bool) (t u : Tree) → IsPath path → All IsRev path → IsBody body → IsInRange t
+    → graft path body deleted t ≡ Some u → IsInRange u
 IsInRange-graft [] body deleted t u path revs ranged g e = absurd path
-IsInRange-graft (newest ∷ older) body deleted t u path revs ranged g e = IsInRange-union newest older body deleted t u (IsUnion-graft newest older body deleted t u path e) revs ranged g
+IsInRange-graft (newest ∷ older) body deleted t u path revs ranged g e =
+    IsInRange-union newest older body deleted t u (IsUnion-graft newest older body deleted t u path e) revs ranged g

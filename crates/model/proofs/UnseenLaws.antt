@@ -1,5 +1,5 @@
 -- A compaction strips each tree and changes nothing else, so no query can tell it that asks of leaves, of known revisions or of numbers.
-use Rattle.std.specs.Prelude.{◌≡◌, ℕ, Bool, true, false, not, ◌&&◌, cond, List, [], ◌∷◌, length, map, filter, filter_map, nat_lt, ◌-◌, ◌==◌, take, if◌then◌else◌, Option, Some, None, option_map, option_and_then, unwrap_or, refl}
+use Rattle.std.specs.Prelude.{◌≡◌, ℕ, Bool, true, false, not, ◌&&◌, cond, List, [], ◌∷◌, length, map, filter, filter_map, nat_lt, ◌-◌, ◌==◌, take, if◌then◌else◌, Option, Some, None, option_map, unwrap_or, refl}
 use Rattle.std.specs.List.{cons_option}
 use Rattle.std.specs.FinMap.Entries.{find}
 use Rattle.std.proofs.Common.{sym, ap, ◌∙◌}
@@ -7,11 +7,11 @@ use Rattle.model.specs.Map.{Order, Map, entries, empty, get, from_list, refine, 
 use Rattle.std.proofs.Math.ListN.{length-map}
 use Rattle.model.specs.Lists.{first_of, each_once}
 use Rattle.model.specs.Revision.{Rev, same_rev}
-use Rattle.model.specs.Tree.{Tree, Leaf, leaves, revs_of}
+use Rattle.model.specs.Tree.{Tree, revs_of}
 use Rattle.model.specs.TreeChange.{strip}
-use Rattle.model.specs.Command.{Id, names, numbers, Compact, Seat}
+use Rattle.model.specs.Command.{Id, names, numbers}
 use Rattle.model.specs.Query.{Style, Row, ChangesPage, Difference, MainOnly, AllDocs}
-use Rattle.model.specs.Database.{Database, Record, tree_at, stripped, compacted, act, changed_by}
+use Rattle.model.specs.Database.{Database, Record, tree_at, stripped, compacted}
 use Rattle.model.specs.Documents.{largest_generation, in_order, difference_of, missing_from, difference, differences}
 use Rattle.model.specs.Changes.{at_numbers, by_seq, changed_since, row, rows_since, first_rows, last_seq_of, changes_page}
 use Rattle.model.specs.Answers.{is_live, live_document, live_documents, counts}

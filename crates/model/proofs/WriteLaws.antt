@@ -1,17 +1,13 @@
--- What becomes of a database with one edit, one merge and one purge.
-use Rattle.std.specs.Prelude.{◌≡◌, ◌≢◌, ◌+◌, ◌<◌, Bool, true, false, cond, List, [], ◌∷◌, length, Option, Some, None, option_map, option_and_then, unwrap_or, Result, Ok, Err, refl}
-use Rattle.std.proofs.Common.{sym, ap, ◌∙◌, arith}
+-- What becomes of a database with the answer to one edit or merge.
+use Rattle.std.specs.Prelude.{◌≡◌, ◌≢◌, ◌+◌, false, cond, Option, Some, None, option_map, unwrap_or, Result, Ok, refl}
+use Rattle.std.proofs.Common.{sym, ap, ◌∙◌}
 use Rattle.std.proofs.lemmas.Bool.{false_from_ne_true}
-use Rattle.model.specs.Map.{get}
-use Rattle.model.specs.Revision.{Rev}
+use Rattle.model.specs.Map.{get, same_key_itself}
 use Rattle.model.specs.Tree.{Tree}
-use Rattle.model.specs.TreeChange.{cut}
-use Rattle.model.specs.Command.{Id, Refusal}
-use Rattle.model.specs.PurgeLog.{logged}
+use Rattle.model.specs.Command.{Id, names, Refusal}
 use Rattle.model.specs.Edit.{Written}
-use Rattle.model.specs.Database.{Database, Record, tree_at, same_tree, with_tree, without_document, store, store_written, removed_of, purge_removed, after_purge}
-use Rattle.model.proofs.LookupLaws.{apart, get-put_same, get-put_other, get-without_same, get-without_other}
-use Rattle.model.proofs.StepLaws.{purged}
+use Rattle.model.specs.Database.{Database, tree_at, same_tree, with_tree, store, store_written}
+use Rattle.model.proofs.LookupLaws.{apart, get-put_same, get-put_other}
 use Rattle.model.proofs.SameLaws.{same_tree-equal}
 
 module _ (d : Database) (id : Id) where
@@ -27,63 +23,16 @@ module _ (d : Database) (id : Id) where
       at None e = refl
       at (Some s) e = false_from_ne_true _ (λ same. other (e ∙ ap Some (sym ((same_tree-equal t s).0 same))))
 
-  pub written-refused : (w : Result Written Refusal) (f : Refusal) → w ≡ Err f → store_written d id w ≡ d
-  written-refused w f e = ap (store_written d id) e
-
   pub written-same : (w : Result Written Refusal) (v : Written) → w ≡ Ok v → tree_at d id ≡ Some v.tree → store_written d id w ≡ d
   written-same w v e is = ap (store_written d id) e ∙ store-same v.tree is
 
   pub written-other : (w : Result Written Refusal) (v : Written) → w ≡ Ok v → tree_at d id ≢ Some v.tree → store_written d id w ≡ with_tree d id v.tree
   written-other w v e other = ap (store_written d id) e ∙ store-other v.tree other
 
--- ---- a new tree
+  -- ---- a new tree
 
   pub with_tree-there : (t : Tree) → get (with_tree d id t).docs id ≡ Some (record { tree = t; seq = d.update_seq + 1 })
-  with_tree-there t = get-put_same d.docs id (record { tree = t; seq = d.update_seq + 1 })
+  with_tree-there t = get-put_same d.docs id (record { tree = t; seq = d.update_seq + 1 }) id (same_key_itself names id)
 
   pub with_tree-others : (t : Tree) (other : Id) → other ≢ id → get (with_tree d id t).docs other ≡ get d.docs other
   with_tree-others t other ne = get-put_other d.docs id (record { tree = t; seq = d.update_seq + 1 }) other (apart d.docs id other ne)
-
--- ---- a purge
-
-module _ (d : Database) (id : Id) (named : List Rev) where
-  abbrev after : Database
-  after = after_purge d (id, named)
-
-  pub purge-nothing : removed_of d id named ≡ [] → after ≡ d
-  purge-nothing e = ap (purge_removed d id named) e
-
-  module _ (some : 0 < length (removed_of d id named)) where
-    purge-some : after ≡ purged d id (removed_of d id named) (option_and_then (cut named) (tree_at d id))
-    purge-some = at (removed_of d id named) some
-      where
-        at : (rs : List Rev) → 0 < length rs → purge_removed d id named rs ≡ purged d id rs (option_and_then (cut named) (tree_at d id))
-        at [] less = absurd (omega arith)
-        at (r ∷ rs) less = refl
-
-    pub purge-logged : after.purges ≡ logged d.purges id (removed_of d id named)
-    purge-logged = ap (λ (e : Database). e.purges) purge-some ∙ at (option_and_then (cut named) (tree_at d id))
-      where
-        at : (left : Option Tree) → (purged d id (removed_of d id named) left).purges ≡ logged d.purges id (removed_of d id named)
-        at (Some t) = refl
-        at None = refl
-
-    purge-is : (left : Option Tree) → option_and_then (cut named) (tree_at d id) ≡ left → after ≡ purged d id (removed_of d id named) left
-    purge-is left e = purge-some ∙ ap (purged d id (removed_of d id named)) e
-
-    pub purge-left : (t : Tree) → option_and_then (cut named) (tree_at d id) ≡ Some t → (get after.docs id ≡ Some (record { tree = t; seq = d.update_seq + 1 })) × (after.update_seq ≡ d.update_seq + 1)
-    purge-left t e = (ap (λ (e : Database). get e.docs id) (purge-is (Some t) e) ∙ with_tree-there d id t, ap (λ (e : Database). e.update_seq) (purge-is (Some t) e))
-
-    pub purge-gone : option_and_then (cut named) (tree_at d id) ≡ None → (get after.docs id ≡ None) × (after.update_seq ≡ d.update_seq)
-    purge-gone e = (ap (λ (e : Database). get e.docs id) (purge-is None e) ∙ get-without_same d.docs id, ap (λ (e : Database). e.update_seq) (purge-is None e))
-
-  pub purge-others : (other : Id) → other ≢ id → get after.docs other ≡ get d.docs other
-  purge-others other ne = at (removed_of d id named)
-    where
-      left : (rs : List Rev) (o : Option Tree) → get (purged d id rs o).docs other ≡ get d.docs other
-      left rs (Some t) = with_tree-others d id t other ne
-      left rs None = get-without_other d.docs id other (apart d.docs id other ne)
-
-      at : (rs : List Rev) → get (purge_removed d id named rs).docs other ≡ get d.docs other
-      at [] = refl
-      at (r ∷ rs) = left (r ∷ rs) (option_and_then (cut named) (tree_at d id))

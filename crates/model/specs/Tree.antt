@@ -95,10 +95,10 @@ leaves t = map (λ e. e.0) (entries (from_list {O = ranks} (map as_leaf (filter 
 abbrev pub winner : Tree → Option Leaf
 winner t = first_of (leaves t)
 
--- the greatest leaf, told with no list
+-- the greatest leaf, told with no list: deleted only where each leaf is, and with no greater revision at a leaf of its flag
 pub record IsGreatestLeaf (t : Tree) (w : Leaf) : Type 0 where
   pub leaf : IsLeafOf t w
-  pub live : w.deleted ≡ true → (l : Leaf) → IsLeafOf t l → l.deleted ≡ true
+  pub live_first : w.deleted ≡ true → (l : Leaf) → IsLeafOf t l → l.deleted ≡ true
   pub greatest : (l : Leaf) → IsLeafOf t l → l.deleted ≡ w.deleted → rev_cmp w.rev l.rev ≢ Less
 
 abbrev pub revs_of : List Leaf → List Rev
