@@ -21,8 +21,8 @@ pub fn replay_goes_on()
         batch_entries d (js ++ ks) ≡ batch_entries d js ++ batch_entries (replay d (batch_entries d js)) ks }
 {}
 
-/// A history is legal exactly where a beginning of it is, and the rest from the database after that; its entries are
-/// those of its jobs, one after another.
+/// A history is legal exactly where a beginning of it is, and the rest from the database after that. Its entries
+/// are those of its jobs, one after another.
 pub fn legal_histories_go_on()
     ensures next { (base : Database) (es : List Entry) (e : Entry) →
         IsLegal base (es ++ e ∷ []) ↔ (IsLegal base es × IsNext (replay base es) e) }
@@ -32,7 +32,8 @@ pub fn legal_histories_go_on()
         IsLegal base es → es ≡ batch_entries base (map job_of es) }
 {}
 
-/// In a legal history each session's calls are numbered one by one, on from those of the base, and no call stands twice.
+/// In a legal history each session's calls are numbered one by one, on from those of the base, and no call stands
+/// twice.
 pub fn calls_are_numbered()
     ensures numbers { (base : Database) (es : List Entry) (s : ℕ) → IsLegal base es →
         calls_in (of_session s es) ≡ range_with_len (calls_of base s + 1) (length (of_session s es)) }
@@ -42,14 +43,15 @@ pub fn calls_are_numbered()
         slice_get es m ≡ Some e → slice_get es n ≡ Some f → e.seat ≡ f.seat → m ≡ n }
 {}
 
-/// A history that extends another tells all that it told; the commands that it tells have places from 1 to its length.
+/// A history that extends another tells all that it told. The commands that it tells have places from 1 to its
+/// length.
 pub fn longer_histories_tell_more()
     ensures each { (later earlier : Chronicle) (c : Completed) → Extends later earlier →
         Tells earlier.base earlier.entries c → Tells later.base later.entries c }
     ensures all { (later earlier : Chronicle) (cs : List Completed) → Extends later earlier →
         AllTold earlier.base earlier.entries cs → AllTold later.base later.entries cs }
-    ensures places { (base : Database) (h : List Entry) (seat : Seat) (command : Command) (place : ℕ) (reply : Reply) →
-        Tells base h (WroteAt seat command place reply) → (0 < place) × (place ≤ length h) }
+    ensures places { (base : Database) (h : List Entry) (seat : Seat) (c : Command) (place : ℕ) (reply : Reply) →
+        Tells base h (WroteAt seat c place reply) → (0 < place) × (place ≤ length h) }
 {}
 
 /// Versions follow one another in an order in which no update number and no purge number falls.
@@ -64,8 +66,8 @@ pub fn versions_follow_in_order()
         (now earlier).purges.purge_seq ≤ (now later).purges.purge_seq }
 {}
 
-/// After every list of events the history is legal, tells each completed call and holds no other entry, and no
-/// session's place has gone back.
+/// After every list of events the history is legal, tells each completed call and holds no other entry, and the
+/// places of a session's calls never fall.
 pub fn every_run_is_legal()
     ensures legal { (base : Database) (c : Config) (es : List Event) →
         IsLegal base (run base c (start_world c) es).history }
@@ -77,8 +79,8 @@ pub fn every_run_is_legal()
         NoneFalls 0 (places_of s (run base c (start_world c) es).completed) }
 {}
 
-/// A Put adds the entries of its batch in order, a Swap at most a Compact, which strips the database, and no other
-/// event adds an entry.
+/// A Put adds the entries of its batch in order, a Swap at most a Compact, which strips the database, and no
+/// other event adds an entry.
 pub fn events_add_entries()
     ensures put { (base : Database) (c : Config) (w : World) →
         0 < length w.batch → length w.history + length w.batch ≤ c.max_places →
@@ -91,8 +93,8 @@ pub fn events_add_entries()
         e ≢ Put → e ≢ Swap → (step base c w e).history ≡ w.history }
 {}
 
-/// The changes since a number are the rows of the wanted documents that were updated later, in the order of their
-/// last updates.
+/// The changes since a number are the rows of the wanted documents that were updated later, in the order of
+/// their last updates.
 pub fn changes_list_later_updates()
     ensures rows { (wanted : Id → Bool) (d : Database) (since : ℕ) (style : Style) (r : Row) → IsNumbered d →
         Contains (rows_since wanted d since style) r ↔ IsRowOf wanted d since style r }
@@ -100,19 +102,20 @@ pub fn changes_list_later_updates()
         AllPairs (λ q r. q.seq < r.seq) (rows_since wanted d since style) }
 {}
 
-/// A follower's map that is right for a version is right, with its next rows, for each version that follows; and a
+/// A follower's map that is right for a version is right, with its next rows, for each version that follows. A
 /// map that is right up to a number is right, with a page of changes since then, up to the page's last number.
 pub fn feeds_stay_right()
-    ensures next { (wanted : Id → Bool) (style : Style) (m : Map names Row) (s c n : ℕ) (later earlier : Chronicle) →
-        IsNumbered earlier.base → Follows later earlier → c ≤ (now earlier).update_seq →
-        IsRightFeed wanted style m s c (now earlier) →
+    ensures next { (wanted : Id → Bool) (style : Style) (m : Map names Row) (s c n : ℕ)
+        (later earlier : Chronicle) → IsNumbered earlier.base → Follows later earlier →
+        c ≤ (now earlier).update_seq → IsRightFeed wanted style m s c (now earlier) →
         let rows = take n (rows_since wanted (now later) c style) in
         IsRightFeed wanted style (fed m rows) s (last_seq_of c rows) (now later) }
     ensures cursor { (wanted : Id → Bool) (style : Style) (c n : ℕ) (d : Database) →
         IsNumbered d → c ≤ d.update_seq →
-        let last = last_seq_of c (take n (rows_since wanted d c style)) in (c ≤ last) × (last ≤ d.update_seq) }
-    ensures page { (wanted : Id → Bool) (style : Style) (m : Map names Row) (s since : ℕ) (limit : Option ℕ) (d : Database) →
-        IsNumbered d → IsRightFeed wanted style m s since d →
+        let last = last_seq_of c (take n (rows_since wanted d c style)) in
+        (c ≤ last) × (last ≤ d.update_seq) }
+    ensures page { (wanted : Id → Bool) (style : Style) (m : Map names Row) (s since : ℕ) (limit : Option ℕ)
+        (d : Database) → IsNumbered d → IsRightFeed wanted style m s since d →
         let page = changes_page wanted d since limit style in
         IsRightFeed wanted style (fed m page.rows) s page.last_seq d }
 {}
