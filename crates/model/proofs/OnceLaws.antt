@@ -1,14 +1,12 @@
--- A list with each member at its first place has the members of the list, each once, and is the list where none repeats.
-use Rattle.std.specs.Prelude.{◌≡◌, ◌≢◌, ◌↔◌, Bool, true, false, not, List, [], ◌∷◌, filter, AllPairs, Contains, refl}
-use Rattle.std.proofs.Common.{sym, ap, subst, ◌∙◌, ⊎_elim, arith}
-use Rattle.std.proofs.lemmas.Bool.{true≢false, not-true, not_from_false}
-use Rattle.std.proofs.lemmas.List.Elements.{All-weaker, filter_passes}
+-- A list with each member at its first place has the members of the list, each once, in the order of those places.
+use Rattle.std.specs.Prelude.{◌≡◌, ◌↔◌, Bool, true, false, cond, not, ◌||◌, List, [], ◌∷◌, ◌++◌, if◌then◌else◌, filter, AllPairs, Contains, refl}
+use Rattle.std.specs.List.{list_any}
+use Rattle.std.proofs.Common.{append-nil, sym, ap, subst, ◌∙◌, ⊎_elim, arith}
+use Rattle.std.proofs.lemmas.Bool.{or_right, not-true, not_from_false}
+use Rattle.std.proofs.lemmas.List.Elements.{All-weaker, filter-append, filter_passes}
 use Rattle.std.proofs.lemmas.List.Kept.{AllPairs-cons, AllPairs-filter}
 use Rattle.model.specs.Lists.{each_once}
-use Rattle.model.specs.Revision.{Rev, same_rev, same_rev-equal}
-use Rattle.model.specs.Tree.{Tree, is_leaf}
-use Rattle.model.specs.TreeChange.{removed_leaves}
-use Rattle.model.proofs.ListLaws.{by_cases, Contains-head, Contains-tail, Contains-cons_cases, Contains-filter, filter_all, AllPairs-head, AllPairs-tail}
+use Rattle.model.proofs.ListLaws.{by_cases, Contains-head, Contains-tail, Contains-cons_cases, Contains-filter}
 
 module _ {X : Type 0} (same : X → X → Bool) where
   abbrev Differ : X → X → Type 0
@@ -47,31 +45,21 @@ module _ {X : Type 0} (same : X → X → Bool) where
     pub Contains-each_once : (xs : List X) (x : X) → Contains (each_once same xs) x ↔ Contains xs x
     Contains-each_once xs x = (each_once_listed xs x, listed_each_once xs x)
 
-  pub each_once_distinct : (xs : List X) → AllPairs (λ a b. same a b ≡ false) xs → each_once same xs ≡ xs
-  each_once_distinct [] h = refl
-  each_once_distinct (x ∷ xs) h =
-      let rest = each_once_distinct xs (AllPairs-tail Differ x xs h) in
-      let apart = All-weaker (Differ x) (λ y. not (same x y) ≡ true) (λ y n. not_from_false _ n) xs (AllPairs-head Differ x xs h) in
-      ap (λ ys. x ∷ filter (λ y. not (same x y)) ys) rest ∙ ap (λ ys. x ∷ ys) (filter_all (λ y. not (same x y)) xs apart)
+  abbrev pub once_more : Bool → List X → X → List X
+  once_more seen xs x = if seen then xs else xs ++ x ∷ []
 
--- ---- the leaves that a cut takes
+  -- one more member goes last, unless it repeats another
+  pub each_once-push : (xs : List X) (x : X) → each_once same (xs ++ x ∷ []) ≡ once_more (list_any (λ y. same y x) xs) (each_once same xs) x
+  each_once-push [] x = refl
+  each_once-push (y ∷ ys) x = ap (λ zs. y ∷ filter (λ z. not (same y z)) zs) (each_once-push ys x) ∙ at (list_any (λ z. same z x) ys)
+    where
+      others : List X
+      others = filter (λ z. not (same y z)) (each_once same ys)
 
-pub Contains-removed_leaves : (named : List Rev) (t : Tree) (r : Rev) → Contains (removed_leaves named t) r ↔ (Contains named r × (is_leaf t r ≡ true))
-Contains-removed_leaves named t r =
-    let once = Contains-each_once same_rev (λ a b. (same_rev-equal a b).0) (filter (is_leaf t) named) r in
-    let kept = Contains-filter (is_leaf t) named r in
-    (λ c. kept.0 (once.0 c), λ h. once.1 (kept.1 h))
+      last : (b : Bool) → y ∷ (others ++ cond (not b) (x ∷ []) []) ≡ once_more (b || false) (y ∷ others) x
+      last true = ap (λ zs. y ∷ zs) (append-nil others)
+      last false = refl
 
-different : (a b : Rev) → (same_rev a b ≡ false) ↔ (a ≢ b)
-different a b = (
-  λ n e. true≢false (sym ((same_rev-equal a b).1 e) ∙ n),
-  λ n. by_cases (same_rev a b) (λ e. absurd (n ((same_rev-equal a b).0 e))) (λ f. f),
-)
-
-pub AllPairs-removed_leaves : (named : List Rev) (t : Tree) → AllPairs (λ a b. a ≢ b) (removed_leaves named t)
-AllPairs-removed_leaves named t = λ i j d less lt. (different _ _).0 (AllPairs-each_once same_rev (filter (is_leaf t) named) i j d less lt)
-
-pub removed_leaves_distinct : (named : List Rev) (t : Tree) → AllPairs (λ a b. a ≢ b) named → removed_leaves named t ≡ filter (is_leaf t) named
-removed_leaves_distinct named t h =
-    let apart : AllPairs (λ a b. same_rev a b ≡ false) named = λ i j d less lt. (different _ _).1 (h i j d less lt) in
-    each_once_distinct same_rev (filter (is_leaf t) named) (AllPairs-filter (λ a b. same_rev a b ≡ false) (is_leaf t) named apart)
+      at : (b : Bool) → y ∷ filter (λ z. not (same y z)) (once_more b (each_once same ys) x) ≡ once_more (same y x || b) (y ∷ others) x
+      at true = ap (λ b. once_more b (y ∷ others) x) (sym (or_right (same y x) true refl))
+      at false = ap (λ zs. y ∷ zs) (filter-append (λ z. not (same y z)) (each_once same ys) (x ∷ [])) ∙ last (same y x)
