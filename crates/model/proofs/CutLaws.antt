@@ -1,24 +1,18 @@
 -- A cut keeps just what some leaf that isn't named descends from, and takes the named leaves away.
-use Rattle.std.specs.Prelude.{◌≡◌, ◌≢◌, ◌↔◌, ◌⊎◌, ℕ, Bool, true, false, cond, not, ◌&&◌, List, [], ◌∷◌, ◌++◌, filter, Option, Some, None, if◌then◌else◌, AllPairs, Contains, refl}
+use Rattle.std.specs.Prelude.{◌≡◌, ◌↔◌, ◌⊎◌, ℕ, Bool, true, false, not, List, [], ◌∷◌, filter, Option, Some, None, Contains, refl}
 use Rattle.std.specs.List.{list_any}
-use Rattle.std.specs.Cmp.{both_ways}
 use Rattle.std.specs.declared.cmp.Ordering.TheVariants.{Less}
-use Rattle.std.proofs.Common.{append-nil, ⊎_elim, inl, inr, sym, ap, subst, ◌∙◌, arith}
+use Rattle.std.proofs.Common.{⊎_elim, inl, inr, sym, ap, subst, ◌∙◌, arith}
 use Rattle.std.proofs.lemmas.Bool.{true≢false, not-true, not_from_false}
 use Rattle.std.proofs.lemmas.Option.{none-some, same_Some}
-use Rattle.std.proofs.lemmas.List.Elements.{filter-append}
 use Rattle.std.proofs.lemmas.List.Kept.{AllPairs-filter}
-use Rattle.model.specs.Lists.{each_once}
-use Rattle.model.specs.Map.{same_key_itself}
-use Rattle.model.specs.Revision.{Rev, revs, same_rev, same_rev-equal}
+use Rattle.model.specs.Revision.{Rev}
 use Rattle.model.specs.Tree.{Tree, Leaf, IsForest, IsTree, IsInRange, IsLeafOf, knows, parent_of, has_child, is_deleted, is_leaf, among, leaves, leaf_cmp, path_of}
-use Rattle.model.specs.TreeChange.{IsHeld, IsRestriction, held_by, cut, removed_leaves}
-use Rattle.model.proofs.ListLaws.{by_cases, Passing, passing_of, any_passing, Contains-head, Contains-filter}
+use Rattle.model.specs.TreeChange.{IsHeld, IsRestriction, held_by, cut}
+use Rattle.model.proofs.ListLaws.{by_cases, passing_of, any_passing, Contains-head, Contains-filter}
 use Rattle.model.proofs.TreeLaws.{leaf_known}
 use Rattle.model.proofs.LeafLaws.{Contains-leaves, IsRising-leaves, only_leaves}
-use Rattle.model.proofs.AncestorLaws.{slice_get-path_of, Contains-among, among-place}
-use Rattle.model.proofs.OnceLaws.{AllPairs-each_once, Contains-each_once, once_more, each_once-push}
-use Rattle.model.proofs.PathLaws.{same_rev-symm}
+use Rattle.model.proofs.AncestorLaws.{slice_get-path_of, among-place}
 use Rattle.model.proofs.ReachLaws.{IsReached, reached_itself, reached_above, reached_cases, reached_leaf, reached_below, reached_known, known_reached, some_leaf}
 use Rattle.model.proofs.RestrictLaws.{IsRestriction-restrict, same_restriction, whole_restriction, IsLeafOf-restriction, IsForest-restriction, IsInRange-restriction}
 
@@ -147,39 +141,3 @@ module _ (named : List Rev) (t : Tree) where
       at : (o : Option Tree) → cut named t ≡ o → o ≡ Some t
       at None e = let l = some_leaf t h in let leaf = ((Contains-leaves t l.0).0 l.1).leaf in absurd (true≢false (sym (cut-None.0 e l.0.rev leaf) ∙ none l.0.rev leaf))
       at (Some u) e = ap Some (whole_restriction (IsHeld named t) t u (IsRestriction-cut h.forest u e) h.forest (λ r. (held_of r, held_known h.forest r)))
-
--- ---- the leaves that a cut takes
-
-pub Contains-removed_leaves : (named : List Rev) (t : Tree) (r : Rev) → Contains (removed_leaves named t) r ↔ (Contains named r × (is_leaf t r ≡ true))
-Contains-removed_leaves named t r =
-    let once = Contains-each_once same_rev (λ a b. (same_rev-equal a b).0) (filter (is_leaf t) named) r in
-    let kept = Contains-filter (is_leaf t) named r in
-    (λ c. kept.0 (once.0 c), λ h. once.1 (kept.1 h))
-
-pub AllPairs-removed_leaves : (named : List Rev) (t : Tree) → AllPairs (λ a b. a ≢ b) (removed_leaves named t)
-AllPairs-removed_leaves named t i j d less lt e =
-    true≢false (sym ((same_rev-equal _ _).1 e) ∙ AllPairs-each_once same_rev (filter (is_leaf t) named) i j d less lt)
-
--- a leaf stands among the named leaves exactly where it is named
-seen_named : (named : List Rev) (t : Tree) (r : Rev) → is_leaf t r ≡ true → list_any (λ q. same_rev q r) (filter (is_leaf t) named) ≡ among named r
-seen_named named t r l = both_ways _ _
-    (λ h. to (passing_of (λ q. same_rev q r) (filter (is_leaf t) named) h))
-    (λ h. any_passing (λ q. same_rev q r) (filter (is_leaf t) named) r ((Contains-filter (is_leaf t) named r).1 ((Contains-among named r).0 h, l)) (same_key_itself revs r))
-  where
-    to : Passing (λ q. same_rev q r) (filter (is_leaf t) named) → among named r ≡ true
-    to p = any_passing (same_rev r) named p.element ((Contains-filter (is_leaf t) named p.element).0 p.listed).0 (same_rev-symm r p.element ∙ p.passes)
-
-pub removed_leaves-push : (named : List Rev) (t : Tree) (r : Rev)
-    → removed_leaves (named ++ r ∷ []) t ≡ (if is_leaf t r && not (among named r) then removed_leaves named t ++ r ∷ [] else removed_leaves named t)
-removed_leaves-push named t r = ap (each_once same_rev) (filter-append (is_leaf t) named (r ∷ [])) ∙ at (is_leaf t r) refl
-  where
-    kept : List Rev
-    kept = filter (is_leaf t) named
-
-    turned : (b : Bool) → once_more same_rev b (each_once same_rev kept) r ≡ cond (not b) (each_once same_rev kept ++ r ∷ []) (each_once same_rev kept)
-    turned true = refl
-    turned false = refl
-
-    at : (b : Bool) → is_leaf t r ≡ b → each_once same_rev (kept ++ cond b (r ∷ []) []) ≡ cond (b && not (among named r)) (each_once same_rev kept ++ r ∷ []) (each_once same_rev kept)
-    at true l = each_once-push same_rev kept r ∙ ap (λ b. once_more same_rev b (each_once same_rev kept) r) (seen_named named t r l) ∙ turned (among named r)
-    at false l = ap (each_once same_rev) (append-nil kept)

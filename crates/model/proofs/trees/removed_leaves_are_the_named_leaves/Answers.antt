@@ -1,4 +1,4 @@
-use Rattle.model.proofs.CutLaws.{Contains-removed_leaves, AllPairs-removed_leaves, removed_leaves-push}
+use Rattle.model.proofs.OnceLaws.{Contains-removed_leaves, AllPairs-removed_leaves, removed_leaves-push}
 use Rattle.model.proofs.trees.removed_leaves_are_the_named_leaves.Goals as goal
 
 pub returns-clause-members : goal.returns-clause-members
