@@ -75,8 +75,8 @@ pub fn stem_keeps_what_is_near_a_leaf()
         → stem limit t ≡ t }
 {}
 
-/// A cut keeps just the revisions above leaves that aren't named. So the named leaves go, nothing is left exactly where
-/// each leaf is named, and everything where none is.
+/// A cut keeps just the leaves that aren't named and the revisions above them. So the named leaves go, nothing is left
+/// exactly where each leaf is named, and everything where none is.
 pub fn cut_keeps_what_other_leaves_hold()
     ensures kept { (named : List Rev) (t u : Tree) → IsForest t
         → (cut named t ≡ Some u) ↔ (IsRestriction (IsHeld named t) t u × ((r : Rev) × (knows u r ≡ true))) }
