@@ -24,13 +24,14 @@ record Later (d e : Database) : Type 0 where
   numbered : AreNumbered e.purges.purge_seq e.purges.infos
   update : d.update_seq ≤ e.update_seq
   purge : d.purges.purge_seq ≤ e.purges.purge_seq
+  overrun : (mark : ℕ) → is_overrun d.purges mark ≡ true → is_overrun e.purges mark ≡ true
   agrees : (copy : Id → Option Record) (m : Marks) → m.update ≤ d.update_seq → m.purge ≤ d.purges.purge_seq → Agrees copy m d → Agrees copy m e
 
 abbrev IsLater : Database → Database → Type 0
 IsLater d e = AreNumbered d.purges.purge_seq d.purges.infos → Later d e
 
 Later-none : (d : Database) → IsLater d d
-Later-none d h = record { numbered = h; update = omega arith; purge = omega arith; agrees = λ copy m u p a. a }
+Later-none d h = record { numbered = h; update = omega arith; purge = omega arith; overrun = λ mark over. over; agrees = λ copy m u p a. a }
 
 Later-more : (d e f : Database) → IsLater d e → IsLater e f → IsLater d f
 Later-more d e f g k h =
@@ -40,6 +41,7 @@ Later-more d e f g k h =
       numbered = two.numbered;
       update = omega (arith, one.update, two.update);
       purge = omega (arith, one.purge, two.purge);
+      overrun = λ mark over. two.overrun mark (one.overrun mark over);
       agrees = λ copy m u p a. two.agrees copy m (omega (arith, u, one.update)) (omega (arith, p, one.purge)) (one.agrees copy m u p a);
     }
 
@@ -52,6 +54,7 @@ Later-aside d e docs purges update_seq h = record {
   numbered = subst (λ (l : PurgeLog). AreNumbered l.purge_seq l.infos) (sym purges) h;
   update = omega arith;
   purge = omega (arith, ap (λ l. l.purge_seq) purges);
+  overrun = λ mark over. ap (λ l. is_overrun l mark) purges ∙ over;
   agrees = λ copy m u p a. subst (λ x. Agrees copy m (record e { docs = x })) (sym docs) (subst (λ x. Agrees copy m (record d { purges = x })) (sym purges) a);
 }
 
@@ -80,6 +83,7 @@ Later-tree d id t h = record {
   numbered = h;
   update = omega arith;
   purge = omega arith;
+  overrun = λ mark over. over;
   agrees = λ copy m u p. Agrees-same copy m d (with_tree d id t) refl (λ q a. by_cases (same_key names q id)
       (λ same. inr (inl (ap (λ o. unwrap_or (option_map (λ r. nat_lt m.update r.seq) o) false) (get-put_same d.docs id new q same) ∙ lt-ltb m.update (d.update_seq + 1) (omega (arith, u)))))
       (λ other. AgreesAt-same copy m d (with_tree d id t) q refl (ap (option_map stripped) (get-put_other d.docs id new q other)) a));
@@ -107,6 +111,7 @@ module _ (d : Database) (id : Id) (leaves : List Rev) (h : AreNumbered d.purges.
     numbered = AreNumbered-logged d.purges id leaves h;
     update = omega arith;
     purge = omega arith;
+    overrun = is_overrun-logged d.purges id leaves h;
     agrees = agrees;
   }
     where
@@ -142,6 +147,7 @@ Later-compacted d h = record {
   numbered = h;
   update = omega arith;
   purge = omega arith;
+  overrun = λ mark over. over;
   agrees = λ copy m u p. Agrees-same copy m d (compacted d) refl (λ id. AgreesAt-same copy m d (compacted d) id refl (strip_at-compacted d id));
 }
 
@@ -158,3 +164,6 @@ Agrees-replay copy m d es h u p a = (of_replay IsLater later d es h).agrees copy
 -- what one entry does: a copy of all strips agrees at the database's own numbers
 pub Agrees-entry : (d : Database) (seat : Seat) (c : Command) → AreNumbered d.purges.purge_seq d.purges.infos → Agrees (strip_at d) (marks_of d) (act d seat c)
 Agrees-entry d seat c h = (of_act IsLater later d seat c h).agrees (strip_at d) (marks_of d) (omega arith) (omega arith) (inr (λ id. inl refl))
+
+pub is_overrun-replay : (d : Database) (es : List Entry) (mark : ℕ) → AreNumbered d.purges.purge_seq d.purges.infos → is_overrun d.purges mark ≡ true → is_overrun (replay d es).purges mark ≡ true
+is_overrun-replay d es mark h over = (of_replay IsLater later d es h).overrun mark over

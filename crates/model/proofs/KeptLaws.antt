@@ -9,11 +9,12 @@ use Rattle.model.specs.Body.{Body, IsBody}
 use Rattle.model.specs.Revision.{Rev, IsRev}
 use Rattle.model.specs.Tree.{Tree, Leaf, IsTree, IsInRange, body_of, winner}
 use Rattle.model.specs.TreeChange.{cut, removed_leaves}
-use Rattle.model.specs.Command.{Id, IsId, names, Edit, Merge, Command, Edits, Merges, PutLocal, Purge, SetLimit, Compact, Refusal, Seat, IsEdit, IsMerge, NamesRevs, IsCommand}
+use Rattle.model.specs.Command.{Id, IsId, names, Edit, Merge, Command, Edits, Merges, PutLocal, Purge, SetLimit, Compact, Refusal, Seat, Entry, IsEdit, IsMerge, NamesRevs, IsCommand}
 use Rattle.model.specs.PurgeLog.{logged}
 use Rattle.model.specs.Edit.{Written}
 use Rattle.model.specs.Local.{Local, store_local}
 use Rattle.model.specs.Database.{Database, Record, tree_at, same_tree, with_tree, store, store_written, edit_in, merge_in, after_edit, after_edits, after_merge, after_merges, put_local_reply, after_put_local, removed_of, purge_removed, after_purge, after_purges, stripped, compacted, changed_by, act, IsRecord, IsLocal, IsDatabase}
+use Rattle.model.specs.History.{replay}
 use Rattle.model.proofs.TreeLaws.{leaf_known}
 use Rattle.model.proofs.OnceLaws.{Contains-removed_leaves}
 use Rattle.model.proofs.StripLaws.{IsTree-strip, IsInRange-strip}
@@ -146,6 +147,10 @@ unfolding act
 IsDatabase-act d seat c is h =
     let e = IsDatabase-changed d c is h in
     record { docs = e.docs; numbered = IsNumbered-same (changed_by d c) _ refl (omega arith) e.numbered; locals = e.locals; log = e.log; revs_limit = e.revs_limit }
+
+pub IsDatabase-replay : (d : Database) (es : List Entry) → All (λ e. IsCommand e.command) es → IsDatabase d → IsDatabase (replay d es)
+IsDatabase-replay d [] all h = h
+IsDatabase-replay d (e ∷ es) all h = IsDatabase-replay (act d e.seat e.command) es (All-tail (λ f. IsCommand f.command) e es all) (IsDatabase-act d e.seat e.command (All-head (λ f. IsCommand f.command) e es all) h)
 
 -- a document has a winner, whose body is there
 pub winner_has_body : (d : Database) (id : Id) (t : Tree) → IsDatabase d → tree_at d id ≡ Some t → (w : Leaf) × (winner t ≡ Some w) × (body : Body) × (body_of t w.rev ≡ Some body)

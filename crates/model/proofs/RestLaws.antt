@@ -1,71 +1,71 @@
 -- What commands leave as it was: edits and merges all but documents and the update number, purges all but these and the log.
 use Rattle.std.specs.Prelude.{◌≡◌, ℕ, ◌+◌, cond, List, Option, Some, None, unwrap_or, refl}
 use Rattle.std.proofs.Common.{sym, ap, ◌∙◌}
-use Rattle.model.specs.Map.{Map, get, entries, put, get-put, same_key, same_key-equal}
+use Rattle.std.proofs.lemmas.Bool.{cond-true, cond-false}
+use Rattle.model.specs.Map.{Map, get, entries, put, same_key, same_key-equal}
 use Rattle.model.specs.Revision.{Rev}
 use Rattle.model.specs.Tree.{Tree}
 use Rattle.model.specs.Command.{Id, numbers, Edit, Merge, Command, Edits, Merges, PutLocal, Purge, SetLimit, Compact, Seat}
 use Rattle.model.specs.Database.{Database, after_edits, after_merges, after_purges, changed_by, act, calls_of}
 use Rattle.model.proofs.ListLaws.{by_cases}
+use Rattle.model.proofs.LookupLaws.{get-put_same, get-put_other}
 use Rattle.model.proofs.StepLaws.{KeptByWrites, KeptByPurges, purged, of_edits, of_merges, of_purges}
 
--- e is d but for documents and numbers
-record Rest (d e : Database) : Type 0 where
-  locals : e.locals ≡ d.locals
-  revs_limit : e.revs_limit ≡ d.revs_limit
-  calls : e.calls ≡ d.calls
-  log_limit : e.purges.limit ≡ d.purges.limit
+-- e is d but for documents and the update number
+abbrev Documents : Database → Database → Type 0
+Documents d e = e ≡ record d { docs = e.docs; update_seq = e.update_seq }
 
-record RestAndLog (d e : Database) : Type 0 where
-  rest : Rest d e
-  purges : e.purges ≡ d.purges
+-- and for the log
+abbrev DocumentsAndLog : Database → Database → Type 0
+DocumentsAndLog d e = e ≡ record d { docs = e.docs; update_seq = e.update_seq; purges = e.purges }
 
-Rest-none : (d : Database) → Rest d d
-Rest-none d = record { locals = refl; revs_limit = refl; calls = refl; log_limit = refl }
-
-Rest-more : (d e f : Database) → Rest d e → Rest e f → Rest d f
-Rest-more d e f g h = record { locals = h.locals ∙ g.locals; revs_limit = h.revs_limit ∙ g.revs_limit; calls = h.calls ∙ g.calls; log_limit = h.log_limit ∙ g.log_limit }
-
-Rest-purge : (d : Database) (id : Id) (leaves : List Rev) (left : Option Tree) → Rest d (purged d id leaves left)
-Rest-purge d id leaves (Some t) = record { locals = refl; revs_limit = refl; calls = refl; log_limit = refl }
-Rest-purge d id leaves None = record { locals = refl; revs_limit = refl; calls = refl; log_limit = refl }
-
-by_writes : KeptByWrites RestAndLog
+by_writes : KeptByWrites Documents
 by_writes = record {
-  none = λ d. record { rest = Rest-none d; purges = refl };
-  more = λ d e f g h. record { rest = Rest-more d e f g.rest h.rest; purges = h.purges ∙ g.purges };
-  tree = λ d id t. record { rest = record { locals = refl; revs_limit = refl; calls = refl; log_limit = refl }; purges = refl };
+  none = λ d. refl;
+  more = λ d e f g h. h ∙ ap (λ (x : Database). record x { docs = f.docs; update_seq = f.update_seq }) g;
+  tree = λ d id t. refl;
 }
 
-by_purges : KeptByPurges Rest
+by_purges : KeptByPurges DocumentsAndLog
 by_purges = record {
-  writes = record { none = Rest-none; more = Rest-more; tree = λ d id t. record { locals = refl; revs_limit = refl; calls = refl; log_limit = refl } };
-  purge = Rest-purge;
+  writes = record {
+    none = λ d. refl;
+    more = λ d e f g h. h ∙ ap (λ (x : Database). record x { docs = f.docs; update_seq = f.update_seq; purges = f.purges }) g;
+    tree = λ d id t. refl;
+  };
+  purge = one;
 }
+  where
+    one : (d : Database) (id : Id) (leaves : List Rev) (left : Option Tree) → DocumentsAndLog d (purged d id leaves left)
+    one d id leaves (Some t) = refl
+    one d id leaves None = refl
+
+same_limit : KeptByPurges (λ d e. e.purges.limit ≡ d.purges.limit)
+same_limit = record { writes = record { none = λ d. refl; more = λ d e f g h. h ∙ g; tree = λ d id t. refl }; purge = one }
+  where
+    one : (d : Database) (id : Id) (leaves : List Rev) (left : Option Tree) → (purged d id leaves left).purges.limit ≡ d.purges.limit
+    one d id leaves (Some t) = refl
+    one d id leaves None = refl
 
 module _ (d : Database) where
-  documents_alone : (e : Database) → RestAndLog d e → e ≡ record d { docs = e.docs; update_seq = e.update_seq }
-  documents_alone e h = λ i. record { docs = e.docs; locals = h.rest.locals i; update_seq = e.update_seq; purges = h.purges i; revs_limit = h.rest.revs_limit i; calls = h.rest.calls i }
+  pub rest_of_edits : (es : List Edit) → Documents d (after_edits d es)
+  rest_of_edits es = of_edits Documents by_writes d es
 
-  pub rest_of_edits : (es : List Edit) → after_edits d es ≡ record d { docs = (after_edits d es).docs; update_seq = (after_edits d es).update_seq }
-  rest_of_edits es = documents_alone _ (of_edits RestAndLog by_writes d es)
+  pub rest_of_merges : (ms : List Merge) → Documents d (after_merges d ms)
+  rest_of_merges ms = of_merges Documents by_writes d ms
 
-  pub rest_of_merges : (ms : List Merge) → after_merges d ms ≡ record d { docs = (after_merges d ms).docs; update_seq = (after_merges d ms).update_seq }
-  rest_of_merges ms = documents_alone _ (of_merges RestAndLog by_writes d ms)
-
-  pub rest_of_purges : (es : List (Id × List Rev)) → after_purges d es ≡ record d { docs = (after_purges d es).docs; update_seq = (after_purges d es).update_seq; purges = (after_purges d es).purges }
-  rest_of_purges es = let e = after_purges d es in let h = of_purges Rest by_purges d es in
-      λ i. record { docs = e.docs; locals = h.locals i; update_seq = e.update_seq; purges = e.purges; revs_limit = h.revs_limit i; calls = h.calls i }
+  pub rest_of_purges : (es : List (Id × List Rev)) → DocumentsAndLog d (after_purges d es)
+  rest_of_purges es = of_purges DocumentsAndLog by_purges d es
 
   pub log_limit_of_purges : (es : List (Id × List Rev)) → (after_purges d es).purges.limit ≡ d.purges.limit
-  log_limit_of_purges es = (of_purges Rest by_purges d es).log_limit
+  log_limit_of_purges es = of_purges (λ d e. e.purges.limit ≡ d.purges.limit) same_limit d es
 
   same_calls : (c : Command) → (changed_by d c).calls ≡ d.calls
   unfolding changed_by
-  same_calls (Edits es) = (of_edits RestAndLog by_writes d es).rest.calls
-  same_calls (Merges ms) = (of_merges RestAndLog by_writes d ms).rest.calls
+  same_calls (Edits es) = ap (λ (e : Database). e.calls) (rest_of_edits es)
+  same_calls (Merges ms) = ap (λ (e : Database). e.calls) (rest_of_merges ms)
   same_calls (PutLocal id named body) = refl
-  same_calls (Purge named) = (of_purges Rest by_purges d (entries named)).calls
+  same_calls (Purge named) = ap (λ (e : Database). e.calls) (rest_of_purges (entries named))
   same_calls (SetLimit n) = refl
   same_calls Compact = refl
 
@@ -76,7 +76,8 @@ module _ (d : Database) where
 
   pub calls_of-act : (seat : Seat) (c : Command) (s : ℕ) → calls_of (act d seat c) s ≡ cond (same_key numbers s seat.session) (calls_of d s + 1) (calls_of d s)
   calls_of-act seat c s =
-      ap (λ (m : Map numbers ℕ). unwrap_or (get m s) 0) (calls-act seat c) ∙ ap (λ o. unwrap_or o 0) (get-put d.calls seat.session (calls_of d seat.session + 1) s)
-      ∙ by_cases (same_key numbers s seat.session)
-      (λ t. ap (λ b. unwrap_or (cond b (Some (calls_of d seat.session + 1)) (get d.calls s)) 0) t ∙ ap (λ n. calls_of d n + 1) (sym (same_key-equal numbers s seat.session t)) ∙ ap (λ b. cond b (calls_of d s + 1) (calls_of d s)) (sym t))
-      (λ f. ap (λ b. unwrap_or (cond b (Some (calls_of d seat.session + 1)) (get d.calls s)) 0) f ∙ ap (λ b. cond b (calls_of d s + 1) (calls_of d s)) (sym f))
+      let now = ap (λ (m : Map numbers ℕ). unwrap_or (get m s) 0) (calls-act seat c) in
+      let more = calls_of d seat.session + 1 in
+      by_cases (same_key numbers s seat.session)
+      (λ own. now ∙ ap (λ o. unwrap_or o 0) (get-put_same d.calls seat.session more s own) ∙ ap (λ n. calls_of d n + 1) (sym (same_key-equal numbers s seat.session own)) ∙ sym (cond-true _ _ _ own))
+      (λ other. now ∙ ap (λ o. unwrap_or o 0) (get-put_other d.calls seat.session more s other) ∙ sym (cond-false _ _ _ other))

@@ -1,5 +1,5 @@
 -- Laws of trees: parents and children, and when two trees are equal.
-use Rattle.std.specs.Prelude.{◌≡◌, ◌↔◌, Bool, true, false, not, ◌&&◌, Option, Some, None, is_some, option_map, option_and_then, unwrap_or, refl}
+use Rattle.std.specs.Prelude.{◌≡◌, ◌≢◌, ◌↔◌, Bool, true, false, not, ◌&&◌, Option, Some, None, is_some, option_map, option_and_then, unwrap_or, refl}
 use Rattle.std.specs.Cmp.{both_ways}
 use Rattle.std.proofs.Common.{sym, ap, ◌∙◌}
 use Rattle.std.proofs.lemmas.Bool.{true≢false, and_parts, not-true}
@@ -8,7 +8,7 @@ use Rattle.model.specs.Map.{empty, get, entries, same_map}
 use Rattle.model.specs.Body.{Body}
 use Rattle.model.specs.Revision.{Rev, revs, same_rev-equal}
 use Rattle.model.specs.Tree.{Revision, Tree, IsForest, IsInRange, knows, parent_of, body_of, is_deleted, is_at, has_child, is_leaf}
-use Rattle.model.proofs.ListLaws.{passing_of, any_passing}
+use Rattle.model.proofs.ListLaws.{by_cases, passing_of, any_passing}
 use Rattle.model.proofs.MapLaws.{Contains-entries}
 
 -- ---- what a look-up says
@@ -104,6 +104,15 @@ childless_leaf t r k c = λ i. k i && not (c i)
 
 pub no_parent_of_leaf : (t : Tree) (r c : Rev) → is_leaf t r ≡ true → parent_of t c ≡ Some r → ⊥
 no_parent_of_leaf t r c l e = true≢false (sym (has_child-parent t r c e) ∙ leaf_childless t r l)
+
+pub has_child-child : (t : Tree) (r : Rev) → (has_child t r ≡ true) ↔ ((c : Rev) × (parent_of t c ≡ Some r))
+has_child-child t r = (λ h. let c = child_of t r h in (c.child, c.parent), λ c. has_child-parent t r c.0 c.1)
+
+pub is_leaf-childless : (t : Tree) (r : Rev) → (is_leaf t r ≡ true) ↔ ((knows t r ≡ true) × ((c : Rev) → parent_of t c ≢ Some r))
+is_leaf-childless t r = (
+  λ l. (leaf_known t r l, λ c e. no_parent_of_leaf t r c l e),
+  λ h. childless_leaf t r h.0 (by_cases (has_child t r) (λ c. let d = child_of t r c in absurd (h.1 d.child d.parent)) (λ n. n)),
+)
 
 -- ---- trees that know the same revisions with the same parents
 

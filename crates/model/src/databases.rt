@@ -25,7 +25,7 @@ ghost use Rattle.model.specs.Compaction.{Agrees, Marks, marks_of, passed, strip_
 /// where the mark lies below the last number that was dropped, and above another mark the log has all purges.
 pub fn overrun_is_a_lost_purge()
     ensures lost { (l : PurgeLog) (mark : ℕ) →
-        is_overrun l mark ≡ true ↔ ((n : ℕ) × (mark < n) × (n ≤ l.purge_seq) × (has_number l.infos n ≡ false)) }
+        (is_overrun l mark ≡ true) ↔ ((n : ℕ) × (mark < n) × (n ≤ l.purge_seq) × (has_number l.infos n ≡ false)) }
     ensures test { (l : PurgeLog) (mark : ℕ) → AreNumbered l.purge_seq l.infos →
         is_overrun l mark ≡ nat_lt mark (l.purge_seq - length l.infos) }
     ensures since { (l : PurgeLog) (all : List PurgeInfo) (mark : ℕ) →
@@ -49,33 +49,33 @@ pub fn log_keeps_the_newest()
 /// is not there, or a child of a deleted winner if it is no deletion itself.
 pub fn edits_are_over_a_leaf_or_a_deleted_winner()
     ensures named { (t : Tree) (r : Rev) (deleted : Bool) (parent : Option Rev) →
-        parent_for (Some t) (Some r) deleted ≡ Ok parent ↔ ((is_leaf t r ≡ true) × (parent ≡ Some r)) }
+        (parent_for (Some t) (Some r) deleted ≡ Ok parent) ↔ ((is_leaf t r ≡ true) × (parent ≡ Some r)) }
     ensures unnamed { (t : Tree) (deleted : Bool) (parent : Option Rev) →
-        parent_for (Some t) None deleted ≡ Ok parent ↔ ((deleted ≡ false)
+        (parent_for (Some t) None deleted ≡ Ok parent) ↔ ((deleted ≡ false)
         × ((w : Leaf) × (winner t ≡ Some w) × (w.deleted ≡ true) × (parent ≡ Some w.rev))) }
     ensures first { (named : Option Rev) (deleted : Bool) (parent : Option Rev) →
-        parent_for None named deleted ≡ Ok parent ↔ ((named ≡ None) × (deleted ≡ false) × (parent ≡ None)) }
+        (parent_for None named deleted ≡ Ok parent) ↔ ((named ≡ None) × (deleted ≡ false) × (parent ≡ None)) }
     ensures missing { (o : Option Tree) (named : Option Rev) (deleted : Bool) →
-        parent_for o named deleted ≡ Err Missing ↔ ((o ≡ None) × (deleted ≡ true)) }
+        (parent_for o named deleted ≡ Err Missing) ↔ ((o ≡ None) × (deleted ≡ true)) }
     ensures deleted { (t : Tree) (named : Option Rev) (deleted : Bool) →
-        parent_for (Some t) named deleted ≡ Err Deleted ↔ ((named ≡ None) × (deleted ≡ true)
+        (parent_for (Some t) named deleted ≡ Err Deleted) ↔ ((named ≡ None) × (deleted ≡ true)
         × ((w : Leaf) × (winner t ≡ Some w) × (w.deleted ≡ true))) }
 {}
 
 /// An edit grafts the child of its parent, and a merge the path that it brings; then the tree is stemmed. An edit is
 /// refused past the last generation, and a merge exactly where a known parent contradicts its path.
 pub fn writes_graft_and_then_stem()
-    ensures edit { (d : Database) (e : Edit) (w : Written) → edit_in d e ≡ Ok w ↔ ((parent : Option Rev) × (u : Tree)
+    ensures edit { (d : Database) (e : Edit) (w : Written) → (edit_in d e ≡ Ok w) ↔ ((parent : Option Rev) × (u : Tree)
         × (parent_for (tree_at d e.id) e.named e.deleted ≡ Ok parent)
         × (generation_after parent ≤ last_generation)
         × (graft (child parent e.deleted e.body ∷ parent_path parent) e.body e.deleted (unwrap_or (tree_at d e.id) empty) ≡ Some u)
         × (w ≡ record { rev = child parent e.deleted e.body; tree = stem d.revs_limit u })) }
-    ensures past { (d : Database) (e : Edit) → edit_in d e ≡ Err GenerationLimit ↔ ((parent : Option Rev)
+    ensures past { (d : Database) (e : Edit) → (edit_in d e ≡ Err GenerationLimit) ↔ ((parent : Option Rev)
         × (parent_for (tree_at d e.id) e.named e.deleted ≡ Ok parent) × (last_generation < generation_after parent)) }
-    ensures merge { (d : Database) (m : Merge) (w : Written) → merge_in d m ≡ Ok w ↔ ((u : Tree)
+    ensures merge { (d : Database) (m : Merge) (w : Written) → (merge_in d m ≡ Ok w) ↔ ((u : Tree)
         × (graft (m.newest ∷ m.older) m.body m.deleted (unwrap_or (tree_at d m.id) empty) ≡ Some u)
         × (w ≡ record { rev = m.newest; tree = stem d.revs_limit u })) }
-    ensures contradicts { (d : Database) (m : Merge) (f : Refusal) → merge_in d m ≡ Err f ↔ ((f ≡ BadHistory)
+    ensures contradicts { (d : Database) (m : Merge) (f : Refusal) → (merge_in d m ≡ Err f) ↔ ((f ≡ BadHistory)
         × Contradicts (unwrap_or (tree_at d m.id) empty) (m.newest ∷ m.older)) }
 {}
 
@@ -200,7 +200,7 @@ pub fn records_are_listed_by_number()
         Contains (by_seq d) (n, (id, r)) ↔ ((get d.docs id ≡ Some r) × (r.seq ≡ n)) }
     ensures order { (d : Database) → IsRising numbers (map (λ e. e.0) (by_seq d)) }
     ensures index { (d : Database) (n : ℕ) (id : Id) (r : Record) → IsNumbered d →
-        get (at_numbers d) n ≡ Some (id, r) ↔ ((get d.docs id ≡ Some r) × (r.seq ≡ n)) }
+        (get (at_numbers d) n ≡ Some (id, r)) ↔ ((get d.docs id ≡ Some r) × (r.seq ≡ n)) }
 {}
 
 /// The rule that makes an identity makes one in range, up to the last generation.
@@ -214,6 +214,8 @@ pub fn children_are_in_range()
 pub fn databases_stay_valid()
     ensures start { IsDatabase empty_database }
     ensures kept { (d : Database) (seat : Seat) (c : Command) → IsCommand c → IsDatabase d → IsDatabase (act d seat c) }
+    ensures history { (d : Database) (es : List Entry) →
+        All (λ e. IsCommand e.command) es → IsDatabase d → IsDatabase (replay d es) }
     ensures reply { (d : Database) (c : Command) → IsCommand c → IsDatabase d → FitsReply c (reply_to d c) }
     ensures winner { (d : Database) (id : Id) (t : Tree) → IsDatabase d → tree_at d id ≡ Some t →
         (w : Leaf) × (winner t ≡ Some w) × (body : Body) × (body_of t w.rev ≡ Some body) }
@@ -247,7 +249,7 @@ pub fn compaction_is_unseen()
 {}
 
 /// A copy that agrees with a database at its marks agrees with each later one: an entry leaves a record's strip as it
-/// was, gives the record a new update number, or logs its id, unless a purge above the mark is lost.
+/// was, gives the record a new update number, or logs its id, unless a purge above the mark is lost. A lost one stays so.
 pub fn agreement_lasts()
     ensures start { (d : Database) → Agrees (strip_at d) (marks_of d) d }
     ensures entry { (d : Database) (seat : Seat) (c : Command) → AreNumbered d.purges.purge_seq d.purges.infos →
@@ -255,6 +257,8 @@ pub fn agreement_lasts()
     ensures lasts { (copy : Id → Option Record) (m : Marks) (d : Database) (es : List Entry) →
         AreNumbered d.purges.purge_seq d.purges.infos → m.update ≤ d.update_seq → m.purge ≤ d.purges.purge_seq →
         Agrees copy m d → Agrees copy m (replay d es) }
+    ensures overrun { (d : Database) (es : List Entry) (mark : ℕ) → AreNumbered d.purges.purge_seq d.purges.infos →
+        is_overrun d.purges mark ≡ true → is_overrun (replay d es).purges mark ≡ true }
 {}
 
 /// Taking over the first n touched documents and passing them keeps agreement, and leaves the rest touched. The marks

@@ -1,10 +1,10 @@
 //! Laws of revision trees.
 
-ghost use Rattle.std.specs.Prelude.{◌≡◌, ◌≢◌, ◌↔◌, ◌⊎◌, ℕ, ◌+◌, ◌<◌, ◌≤◌, Bool, true, false, not, List, [], ◌∷◌, filter, All, AllPairs, Contains, slice_get, Option, Some, None, if◌then◌else◌};
+ghost use Rattle.std.specs.Prelude.{◌≡◌, ◌≢◌, ◌↔◌, ◌⊎◌, ℕ, ◌+◌, ◌<◌, ◌≤◌, Bool, true, false, not, ◌&&◌, List, [], ◌∷◌, ◌++◌, filter, All, AllPairs, Contains, slice_get, Option, Some, None, if◌then◌else◌};
 ghost use Rattle.model.specs.Map.{IsRising, empty};
 ghost use Rattle.model.specs.Body.{Body, IsBody, same_body};
 ghost use Rattle.model.specs.Revision.{Rev, IsRev};
-ghost use Rattle.model.specs.Tree.{Tree, Leaf, IsForest, IsTree, IsInRange, IsLeafOf, IsGreatestLeaf, IsNear, knows, parent_of, body_of, is_deleted, is_leaf, among, leaves, ranks, winner, ancestor, path_of};
+ghost use Rattle.model.specs.Tree.{Tree, Leaf, IsForest, IsTree, IsInRange, IsLeafOf, IsGreatestLeaf, IsNear, knows, parent_of, body_of, is_deleted, has_child, is_leaf, among, leaves, ranks, winner, ancestor, path_of};
 ghost use Rattle.model.specs.TreeChange.{IsPath, IsUnion, Contradicts, IsRestriction, IsHeld, graft, stem, strip, cut, removed_leaves};
 ghost use Rattle.model.specs.Database.{same_tree};
 
@@ -12,6 +12,13 @@ ghost use Rattle.model.specs.Database.{same_tree};
 pub fn trees_that_answer_alike_are_equal()
     ensures equal { (s t : Tree) → ((r : Rev) → knows s r ≡ knows t r) → ((r : Rev) → parent_of s r ≡ parent_of t r)
         → ((r : Rev) → body_of s r ≡ body_of t r) → ((r : Rev) → is_deleted s r ≡ is_deleted t r) → s ≡ t }
+{}
+
+/// A leaf is a known revision that is the parent of none.
+pub fn a_leaf_is_parent_of_none()
+    ensures inner { (t : Tree) (r : Rev) → (has_child t r ≡ true) ↔ ((c : Rev) × (parent_of t c ≡ Some r)) }
+    ensures leaf { (t : Tree) (r : Rev)
+        → (is_leaf t r ≡ true) ↔ ((knows t r ≡ true) × ((c : Rev) → parent_of t c ≢ Some r)) }
 {}
 
 /// The tests of bodies and of trees tell whether they are equal.
@@ -68,8 +75,8 @@ pub fn stem_keeps_what_is_near_a_leaf()
         → stem limit t ≡ t }
 {}
 
-/// A cut keeps just the revisions above leaves that aren't named. So the named leaves go, nothing is left exactly where
-/// each leaf is named, and everything where none is.
+/// A cut keeps just the leaves that aren't named and the revisions above them. So the named leaves go, nothing is left
+/// exactly where each leaf is named, and everything where none is.
 pub fn cut_keeps_what_other_leaves_hold()
     ensures kept { (named : List Rev) (t u : Tree) → IsForest t
         → (cut named t ≡ Some u) ↔ (IsRestriction (IsHeld named t) t u × ((r : Rev) × (knows u r ≡ true))) }
@@ -81,13 +88,13 @@ pub fn cut_keeps_what_other_leaves_hold()
         → cut named t ≡ Some t }
 {}
 
-/// The leaves that a cut removes are the named leaves, each once, in the order named.
+/// The leaves that a cut removes are the named leaves, each once, in the order in which they are first named.
 pub fn removed_leaves_are_the_named_leaves()
     ensures members { (named : List Rev) (t : Tree) (r : Rev)
         → Contains (removed_leaves named t) r ↔ (Contains named r × (is_leaf t r ≡ true)) }
     ensures once { (named : List Rev) (t : Tree) → AllPairs (λ a b. a ≢ b) (removed_leaves named t) }
-    ensures order { (named : List Rev) (t : Tree) → AllPairs (λ a b. a ≢ b) named
-        → removed_leaves named t ≡ filter (is_leaf t) named }
+    ensures next { (named : List Rev) (t : Tree) (r : Rev) → removed_leaves (named ++ r ∷ []) t
+        ≡ (if is_leaf t r && not (among named r) then removed_leaves named t ++ r ∷ [] else removed_leaves named t) }
 {}
 
 /// A strip drops the bodies of the revisions that are no leaves, and nothing else. A second strip changes nothing.
