@@ -100,7 +100,7 @@ pub fn writes_take_the_next_number_or_change_nothing()
 
 /// A purge that removes no leaf changes nothing. A document that loses leaves is logged with them at the next purge
 /// number; it takes the next update number where a leaf is left, and otherwise it goes. No other document changes, so
-/// what stood before the purge tells all that it removes. It answers the last purge number.
+/// what stood before the purge tells all that it removes: that, and the last purge number, is the answer.
 pub fn purges_are_logged()
     ensures nothing { (d : Database) (id : Id) (named : List Rev) →
         removed_of d id named ≡ [] → after_purge d (id, named) ≡ d }
@@ -117,6 +117,8 @@ pub fn purges_are_logged()
         other ≢ id → get (after_purge d (id, named)).docs other ≡ get d.docs other }
     ensures before { (d : Database) (front : List (Id × List Rev)) (id : Id) (named : List Rev) →
         All (λ e. id ≢ e.0) front → removed_of (after_purges d front) id named ≡ removed_of d id named }
+    ensures answers { (d : Database) (named : Map names (List Rev)) (id : Id) →
+        get (purge_reply d named) id ≡ option_map (removed_of d id) (get named id) }
     ensures number { (d : Database) (seat : Seat) (named : Map names (List Rev)) →
         reply_to d (Purge named) ≡ Purged (act d seat (Purge named)).purges.purge_seq (purge_reply d named) }
 {}
