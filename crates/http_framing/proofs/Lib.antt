@@ -1,0 +1,5 @@
+pub mod Values
+pub mod Digits
+pub mod Lengths
+pub mod More
+pub mod Heads
