@@ -49,7 +49,7 @@ span_in_front n bytes span len short within =
     let front = length-front n bytes in
     ((within.0, omega arith), span_bytes-take n bytes span within.0 (omega arith))
 
-length-print : (head : RequestHead) → 0 < length (print_request head)
+pub length-print : (head : RequestHead) → 0 < length (print_request head)
 unfolding print_request
 length-print head = simp length-append (omega arith)
 
