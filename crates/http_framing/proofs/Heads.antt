@@ -1,9 +1,7 @@
 -- What a head that was found in the first bytes says of all of them.
-use Rattle.std.proofs.Common.{◌≡◌, ℕ, ◌+◌, ◌-◌, ◌<◌, ◌≤◌, List, [], ◌∷◌, ◌++◌, length, take, drop, map, refl, ap, sym, ◌∙◌, subst, arith, append_assoc, Result, Ok, Err, inl, inr, ◌⊎◌, cond, Bool, true, false, nat_le, codes, slice_range, length-append, length-drop}
-use Rattle.std.specs.Str.Parse.{digits_value}
+use Rattle.std.proofs.Common.{◌≡◌, ℕ, ◌+◌, ◌-◌, ◌<◌, ◌≤◌, List, [], ◌∷◌, ◌++◌, length, take, drop, map, refl, ap, sym, ◌∙◌, subst, arith, append_assoc, Result, Ok, Err, inl, inr, Bool, slice_range, length-append, length-drop}
 use Rattle.std.proofs.Math.Seq.{drop-append_seam}
 use Rattle.std.proofs.lemmas.List.{take-append-drop, take-take, take_all, drop-take, append-nil, length-map}
-use Rattle.std.proofs.lemmas.Bool.Decides.{nat_tests}
 use Rattle.std.proofs.lemmas.Grind.{common_steps}
 use Rattle.httparse.specs.declared.spans.HeaderSpan.{HeaderSpan}
 use Rattle.httparse.specs.declared.spans.RequestSpans.{RequestSpans as HeadSpans}
@@ -12,12 +10,12 @@ use Rattle.httparse.specs.Grammar.{RequestHead, print_request, HasNoRequest, May
 use Rattle.httparse.specs.Spans.{IsRequestWithin as IsHeadWithin, IsRequestAt as IsHeadAt, IsRequestOf as IsHeadOf, IsWithin, header_bytes, span_bytes, name_and_value}
 use Rattle.httparse.proofs.RunLemmas.{drop_split, length-slice_range}
 use Rattle.http_framing.specs.declared.FramingFault.{FramingFault}
-use Rattle.http_framing.specs.Headers.{Header, headers_of, values_named}
-use Rattle.http_framing.specs.Body.{body_limit, body_length}
-use Rattle.http_framing.specs.Request.{head_limit, header_limit, closes_after, BeginsWithHead, BeginsWithRequest}
+use Rattle.http_framing.specs.Headers.{headers_of}
+use Rattle.http_framing.specs.Body.{body_length}
+use Rattle.http_framing.specs.Request.{head_limit, header_limit, closes_after, BeginsWithHead}
 use Rattle.http_framing.specs.Refusal.{head_window, IsRefused}
 use Rattle.http_framing.specs.Input.{request_limit, IsUnfinished}
-use Rattle.http_framing.specs.Front.{request_at, IsRequestAt, NeedsMore}
+use Rattle.http_framing.specs.Front.{IsRequestAt, NeedsMore}
 use Rattle.http_framing.proofs.Lengths.{body_length-le, body_length-fault, refused_by_body}
 use Rattle.http_framing.proofs.More.{BeginsWithHead-append}
 
@@ -119,8 +117,14 @@ module _ {bytes window : List ℕ} {headers : List HeaderSpan} {spans : HeadSpan
   found-part len read short = record {
     some = omega arith;
     unfinished = λ further fewer.
-        inr (head, drop spans.len bytes ++ further, len, BeginsWithHead-append bytes head _ further found.begins, said (Ok len) read,
-        omega (arith, found.inside, length-append (drop spans.len bytes) further, length-drop spans.len bytes));
+        inr (
+          head,
+          drop spans.len bytes ++ further,
+          len,
+          BeginsWithHead-append bytes head _ further found.begins,
+          said (Ok len) read,
+          omega (arith, found.inside, length-append (drop spans.len bytes) further, length-drop spans.len bytes),
+        );
     limit = omega (arith, found-fits len read);
   }
 
@@ -133,12 +137,16 @@ module _ {bytes window : List ℕ} {headers : List HeaderSpan} {spans : HeadSpan
       let size : length (slice_range bytes spans.len end) ≡ len = omega (arith, length-slice_range bytes spans.len end ordered enough) in
       let P : List ℕ → Type 0 = BeginsWithHead bytes head in
       record {
-        begins = (head, subst P (drop_split bytes spans.len end ordered) found.begins, record {
-          method = found.method.1;
-          target = found.target.1;
-          body = said (Ok len) read ∙ ap Ok (sym size);
-          closes = cc (closes_is, found.version, found.headers_are);
-        });
+        begins = (
+          head,
+          subst P (drop_split bytes spans.len end ordered) found.begins,
+          record {
+            method = found.method.1;
+            target = found.target.1;
+            body = said (Ok len) read ∙ ap Ok (sym size);
+            closes = cc (closes_is, found.version, found.headers_are);
+          },
+        );
         method = found.method.0;
         target = found.target.0;
         body = (ordered, enough);

@@ -6,3 +6,4 @@ pub mod Heads
 pub mod ManyHeaders
 pub mod Part
 pub mod Unique
+pub mod Targets

@@ -1,16 +1,16 @@
 -- What an input begins with stays there when more bytes have come, and one more item is read.
-use Rattle.std.proofs.Common.{◌≡◌, ℕ, ◌+◌, ◌-◌, ◌<◌, ◌≤◌, List, [], ◌∷◌, ◌++◌, length, take, drop, refl, ap, sym, ◌∙◌, subst, arith, append_assoc, length-append, inl, inr}
-use Rattle.std.specs.Prelude.{IsTrue, IsFalse}
+use Rattle.std.proofs.Common.{◌≡◌, ℕ, ◌+◌, ◌-◌, List, [], ◌∷◌, ◌++◌, length, take, refl, ap, sym, ◌∙◌, subst, arith, append_assoc, length-append, inl, inr}
+use Rattle.std.specs.Prelude.{IsFalse}
 use Rattle.std.proofs.Math.Seq.{take-append-add}
 use Rattle.std.proofs.lemmas.Bool.{cases_lt}
 use Rattle.std.proofs.lemmas.List.{take-append-le, take_all, append-nil}
 use Rattle.std.proofs.lemmas.List.Elements.{All-head, All-tail}
-use Rattle.httparse.specs.Grammar.{RequestHead, ReadsRequest, HasNoRequest, NeverHasRequest, MayBecomeRequest}
+use Rattle.httparse.specs.Grammar.{RequestHead, HasNoRequest, NeverHasRequest, MayBecomeRequest}
 use Rattle.httparse.specs.Spans.{RequestExceeds}
 use Rattle.httparse.proofs.GrammarLemmas.{ReadsRequest-append}
 use Rattle.http_framing.specs.Request.{head_limit, header_limit, Request, BeginsWithHead, BeginsWithRequest}
-use Rattle.http_framing.specs.Refusal.{head_window, FillWindow, HasLargeHead, HasBadBody, IsRefused}
-use Rattle.http_framing.specs.Input.{Item, Asked, Refused, is_last, Begins, Splits, AreOpen}
+use Rattle.http_framing.specs.Refusal.{head_window, HasLargeHead, HasBadBody, IsRefused}
+use Rattle.http_framing.specs.Input.{Item, Asked, Refused, closes_connection, Begins, Splits, AreOpen}
 use Rattle.http_framing.specs.declared.FramingFault.{FramingFault}
 use Rattle.http_framing.specs.declared.FramingFault.TheVariants.{Head, LargeHead, TransferEncoding, ContentLength, LargeBody}
 
@@ -18,9 +18,11 @@ use Rattle.http_framing.specs.declared.FramingFault.TheVariants.{Head, LargeHead
 take-append : (n : ℕ) (xs ys : List ℕ) → (rest : List ℕ) × (take n (xs ++ ys) ≡ take n xs ++ rest)
 take-append n xs ys = elim (cases_lt (length xs) n) [
   | inl short ↦ let sum : length xs + (n - length xs) ≡ n = omega arith in
-      let whole = take_all n xs (omega arith) in
-      (take (n - length xs) ys, subst (λ (k : ℕ). take k (xs ++ ys) ≡ xs ++ take (n - length xs) ys) sum (take-append-add xs ys (n - length xs))
-      ∙ ap (λ (front : List ℕ). front ++ take (n - length xs) ys) (sym whole))
+      let whole = take_all n xs (omega arith) in (
+        take (n - length xs) ys,
+        subst (λ (k : ℕ). take k (xs ++ ys) ≡ xs ++ take (n - length xs) ys) sum (take-append-add xs ys (n - length xs))
+            ∙ ap (λ (front : List ℕ). front ++ take (n - length xs) ys) (sym whole),
+      )
   | inr long ↦ ([], take-append-le n xs ys long ∙ sym (append-nil (take n xs)))
 ]
 
@@ -74,7 +76,7 @@ IsRefused-append bytes more LargeBody bad = HasBadBody-append bytes more LargeBo
 -- ---- readings
 
 abbrev pub IsOpen : Item → Type 0
-IsOpen item = IsFalse (is_last item)
+IsOpen item = IsFalse (closes_connection item)
 
 pub Splits-append : (bytes more : List ℕ) (items : List Item) (rest : List ℕ) → AreOpen items → Splits bytes items rest
     → Splits (bytes ++ more) items (rest ++ more)

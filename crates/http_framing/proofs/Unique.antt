@@ -1,17 +1,13 @@
 -- An input is read in one way.
-use Rattle.std.proofs.Common.{◌≡◌, ℕ, ◌+◌, ◌-◌, ◌<◌, ◌≤◌, List, [], ◌∷◌, ◌++◌, length, take, drop, refl, ap, sym, ◌∙◌, subst, arith, Result, Ok, Err, inl, inr, ◌⊎◌, append_assoc, length-append}
-use Rattle.std.specs.List.{AllZip, flat_map}
+use Rattle.std.proofs.Common.{◌≡◌, ℕ, ◌+◌, ◌-◌, List, [], ◌∷◌, ◌++◌, length, take, drop, refl, ap, sym, ◌∙◌, subst, arith, Result, Ok, inl, inr, ◌⊎◌}
+use Rattle.std.specs.List.{AllZip}
 use Rattle.std.proofs.Math.Seq.{take-append_seam, drop-append_seam, take-append-add}
-use Rattle.std.proofs.lemmas.List.{append_cancel_right, append-nil, take-append-drop}
-use Rattle.httparse.specs.Grammar.{LineEnd, crlf, lf, print_end, print_field, RequestHead, IsRequestHead, print_request, ReadsRequest, HasNoRequest, NeverHasRequest, EndsInTarget}
-use Rattle.httparse.specs.Spans.{RequestExceeds}
-use Rattle.httparse.specs.Pieces.{Then, RequestStart, FieldLines, Section, HasLinesOver}
-use Rattle.httparse.proofs.GrammarLemmas.{RequestTree, request_tree, request_pieces, request_unique, ReadsRequest-append}
-use Rattle.httparse.proofs.PieceLemmas.{RequestStart_deterministic, Section_skip}
+use Rattle.httparse.specs.Grammar.{RequestHead, print_request, ReadsRequest}
+use Rattle.httparse.proofs.GrammarLemmas.{request_unique, ReadsRequest-append}
 use Rattle.http_framing.specs.Headers.{headers_of}
 use Rattle.http_framing.specs.Body.{body_length}
 use Rattle.http_framing.specs.Request.{head_limit, header_limit, Request, IsAskedBy, BeginsWithHead, BeginsWithRequest}
-use Rattle.http_framing.specs.Refusal.{head_window, HasLargeHead, HasBadBody, IsRefused, IsOpenHead, IsHeadFault}
+use Rattle.http_framing.specs.Refusal.{head_window, HasLargeHead, HasBadBody, IsRefused, HasEitherFault, IsHeadFault}
 use Rattle.http_framing.specs.Input.{Item, Asked, Refused, Begins, Splits, AreAlike}
 use Rattle.http_framing.proofs.ManyHeaders.{no_head_with_room}
 use Rattle.http_framing.specs.declared.FramingFault.{FramingFault}
@@ -121,7 +117,7 @@ one_reading bytes (item ∷ items) (other ∷ others) rest after (x, b, last, s)
     let more = one_reading y items others rest after (subst P one.1 s) t (omega arith) in
     ((one.0, more.0), more.1)
 
-pub open_heads : (bytes : List ℕ) → IsRefused bytes Head → IsRefused bytes LargeHead → IsOpenHead bytes
-open_heads bytes never (inl (full, none, inl (more, head, reads))) = absurd (never more head [] reads)
-open_heads bytes never (inl (full, none, inr in_target)) = inr (full, in_target)
-open_heads bytes never (inr exceeds) = inl exceeds
+pub either_fault : (bytes : List ℕ) → IsRefused bytes Head → IsRefused bytes LargeHead → HasEitherFault bytes
+either_fault bytes never (inl (full, none, inl (more, head, reads))) = absurd (never more head [] reads)
+either_fault bytes never (inl (full, none, inr in_target)) = inr (full, in_target)
+either_fault bytes never (inr exceeds) = inl exceeds

@@ -1,13 +1,12 @@
 -- The values of the headers of one name, as the code collects them.
-use Rattle.std.proofs.Common.{◌≡◌, ℕ, ◌+◌, ◌<◌, ◌||◌, Bool, List, [], ◌∷◌, ◌++◌, length, take, get_or, map, cond, true, false, refl, ap, sym, ◌∙◌, subst, arith, Result, Ok, Err, codes}
+use Rattle.std.proofs.Common.{◌≡◌, ℕ, ◌+◌, ◌<◌, ◌||◌, Bool, List, [], ◌∷◌, ◌++◌, length, take, get_or, map, true, false, refl, ap, sym, ◌∙◌, subst, arith, Result, Ok, Err, codes}
 use Rattle.std.proofs.lemmas.Bool.Decides.{nat_tests}
 use Rattle.std.proofs.lemmas.Grind.{common_steps}
 use Rattle.std.proofs.lemmas.List.{take_more, map-append, length-append}
 use Rattle.std.specs.Borrow.{Bor}
 use Rattle.std.specs.List.{list_any}
-use Rattle.std.specs.Str.{str_eq_ignore_ascii_case}
 use Rattle.httparse.specs.declared.spans.HeaderSpan.{HeaderSpan}
-use Rattle.httparse.specs.Spans.{header_bytes, span_bytes}
+use Rattle.httparse.specs.Spans.{header_bytes}
 use Rattle.http_framing.specs.Headers.{values_named, Header, is_named}
 use Rattle.http_framing.specs.Body.{body_length, content_length, unless_coded, length_said}
 use Rattle.http_framing.specs.Request.{is_close, closes_after}

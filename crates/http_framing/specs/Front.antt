@@ -4,9 +4,9 @@ use Rattle.httparse.specs.Spans.{span_bytes, IsWithin}
 use Rattle.http_framing.specs.Request.{Request, BeginsWithRequest}
 use Rattle.http_framing.specs.Refusal.{IsRefused}
 use Rattle.http_framing.specs.Input.{request_limit, IsUnfinished}
-use Rattle.http_framing.specs.declared.framing.RequestSpans.{RequestSpans}
-use Rattle.http_framing.specs.declared.framing.Front.{Front}
-use Rattle.http_framing.specs.declared.framing.Front.TheVariants as front
+use Rattle.http_framing.specs.declared.front.RequestSpans.{RequestSpans}
+use Rattle.http_framing.specs.declared.front.Front.{Front}
+use Rattle.http_framing.specs.declared.front.Front.TheVariants as front
 
 -- the request whose parts the spans cover
 abbrev pub request_at : List ℕ → RequestSpans → Request

@@ -17,9 +17,9 @@ pub data Item : Type 0 where
   Refused : FramingFault → Item
 
 -- the connection closes after the response to it
-abbrev pub is_last : Item → Bool
-is_last (Asked request) = request.closes
-is_last (Refused fault) = true
+abbrev pub closes_connection : Item → Bool
+closes_connection (Asked request) = request.closes
+closes_connection (Refused fault) = true
 
 -- the bytes begin with this item, and go on with what is after it; a refusal reaches to their end
 abbrev pub Begins : List ℕ → Item → List ℕ → Type 0
@@ -30,11 +30,11 @@ Begins bytes (Refused fault) after = IsRefused bytes fault × (after ≡ [])
 abbrev pub Splits : List ℕ → List Item → List ℕ → Type 0
 Splits bytes [] rest = bytes ≡ rest
 Splits bytes (item ∷ items) rest =
-    (after : List ℕ) × Begins bytes item after × (IsTrue (is_last item) → items ≡ []) × Splits after items rest
+    (after : List ℕ) × Begins bytes item after × (IsTrue (closes_connection item) → items ≡ []) × Splits after items rest
 
 -- none of the items closes the connection
 abbrev pub AreOpen : List Item → Type 0
-AreOpen items = All (λ item. IsFalse (is_last item)) items
+AreOpen items = All (λ item. IsFalse (closes_connection item)) items
 
 -- two items are the same, but that a head may be refused for either of two faults
 abbrev pub AreAlike : Item → Item → Type 0

@@ -1,6 +1,7 @@
 -- Which bytes are refused, with all that follows them.
-use Rattle.std.specs.Prelude.{◌≡◌, ℕ, ◌≤◌, ◌⊎◌, List, length, take, Err}
-use Rattle.httparse.specs.Grammar.{RequestHead, HasNoRequest, NeverHasRequest, MayBecomeRequest, EndsInTarget}
+use Rattle.std.specs.Prelude.{◌≡◌, ℕ, ◌<◌, ◌≤◌, ◌⊎◌, List, ◌∷◌, ◌++◌, length, take, Err}
+use Rattle.httparse.specs.Ascii.{space}
+use Rattle.httparse.specs.Grammar.{LineEnd, print_blank, IsToken, AllPass, is_uri_byte, RequestHead, HasNoRequest, NeverHasRequest, MayBecomeRequest, EndsInTarget}
 use Rattle.httparse.specs.Spans.{RequestExceeds}
 use Rattle.http_framing.specs.Headers.{headers_of}
 use Rattle.http_framing.specs.Body.{body_length}
@@ -36,10 +37,18 @@ IsRefused bytes TransferEncoding = HasBadBody bytes TransferEncoding
 IsRefused bytes ContentLength = HasBadBody bytes ContentLength
 IsRefused bytes LargeBody = HasBadBody bytes LargeBody
 
--- a head with more headers than are taken, or whose target does not end in the window
-abbrev pub IsOpenHead : List ℕ → Type 0
-IsOpenHead bytes = RequestExceeds header_limit (head_window bytes) ⊎ (FillWindow bytes × EndsInTarget (head_window bytes))
+-- a head that may be refused for either of its two faults: it has more headers than are taken, or its target
+-- does not end in the window
+abbrev pub HasEitherFault : List ℕ → Type 0
+HasEitherFault bytes = RequestExceeds header_limit (head_window bytes) ⊎ (FillWindow bytes × EndsInTarget (head_window bytes))
 
 -- the fault is about the head
 abbrev pub IsHeadFault : FramingFault → Type 0
 IsHeadFault fault = (fault ≡ Head) ⊎ (fault ≡ LargeHead)
+
+-- the bytes begin with a request line as far as the space after this target
+abbrev pub HasTarget : List ℕ → List ℕ → Type 0
+HasTarget bytes target =
+    (blank : List LineEnd) × (method : List ℕ) × (rest : List ℕ)
+    × IsToken method × (0 < length target) × AllPass is_uri_byte target
+    × (bytes ≡ print_blank blank ++ (method ++ space ∷ (target ++ space ∷ rest)))

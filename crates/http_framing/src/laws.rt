@@ -1,12 +1,14 @@
 //! What holds of every input, however it is read.
 
-ghost use Rattle.std.specs.Prelude.{◌≡◌, ℕ, ◌+◌, ◌<◌, ◌≤◌, List, [], ◌∷◌, ◌++◌, length};
+ghost use Rattle.std.specs.Prelude.{◌≡◌, ℕ, ◌+◌, ◌<◌, ◌≤◌, List, [], ◌∷◌, ◌++◌, length, IsUtf8};
 ghost use Rattle.std.specs.List.{AllZip};
 ghost use Rattle.http_framing.specs.Request.{Request, BeginsWithRequest};
 ghost use Rattle.http_framing.specs.Input.{request_limit, Item, Begins, Splits, AreOpen, AreAlike, IsUnfinished};
-ghost use Rattle.http_framing.specs.Refusal.{IsRefused, IsOpenHead};
+ghost use Rattle.http_framing.specs.Front.{IsFrontOf};
+ghost use Rattle.http_framing.specs.Refusal.{head_window, IsRefused, HasEitherFault, HasTarget};
 
 use crate::FramingFault;
+use crate::front::Front;
 
 /// Two readings of an input that have as many items are the same, but that a head may be refused
 /// for either of two faults.
@@ -18,9 +20,9 @@ pub fn one_reading()
 
 /// A head is refused for either of two faults only where it has too many headers, or where its
 /// target does not end in the first [`HEAD_LIMIT`](crate::HEAD_LIMIT) bytes.
-pub fn open_heads()
+pub fn either_fault()
     ensures { (bytes : List ℕ) → IsRefused bytes FramingFault.Head → IsRefused bytes FramingFault.LargeHead
-        → IsOpenHead bytes }
+        → HasEitherFault bytes }
 {}
 
 /// What an input begins with stays there when more bytes have come.
@@ -53,4 +55,12 @@ pub fn cut_request()
     ensures not_whole { (bytes : List ℕ) (request : Request) (after : List ℕ)
         → IsUnfinished bytes → BeginsWithRequest bytes request after → ⊥ }
     ensures limit { (bytes : List ℕ) → IsUnfinished bytes → length bytes < request_limit }
+{}
+
+/// The target of a request is text; a request line whose target is not text can be of no head.
+pub fn text_targets()
+    ensures text { (bytes : List ℕ) (request : Request) (after : List ℕ)
+        → BeginsWithRequest bytes request after → IsUtf8 request.target }
+    ensures not_text { (bytes target : List ℕ) (front : Front) → HasTarget (head_window bytes) target → ¬ (IsUtf8 target)
+        → IsFrontOf bytes front → front ≡ Front.Refused FramingFault.Head }
 {}

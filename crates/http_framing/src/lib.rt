@@ -2,11 +2,11 @@
 //! Where the requests of a connection begin and end.
 //!
 //! A request is a head of HTTP/1.0 or 1.1, as `httparse` reads it, and a body of `Content-Length`
-//! bytes. [`framing::read_front`] reads the first one of the bytes that have come, without a copy.
+//! bytes. [`front::read_front`] reads the first one of the bytes that have come, without a copy.
 //! What it answers depends on the first [`HEAD_LIMIT`] bytes and the body's length alone, so it
 //! does not matter how much was read beyond.
 
-pub mod framing;
+pub mod front;
 mod headers;
 pub mod laws;
 pub mod request;

@@ -1,6 +1,6 @@
 use Rattle.std.proofs.Common.{sym, ◌∙◌, arith}
 use Rattle.http_framing.proofs.Heads.{found_head, found-fault, found-part, found-fits, found-whole}
-use Rattle.http_framing.proofs.framing.front_of_head.Goals as goal
+use Rattle.http_framing.proofs.front.front_of_head.Goals as goal
 
 pub overflow_add-end : goal.overflow_add-end
 overflow_add-end c =

@@ -1,7 +1,7 @@
 use Rattle.std.proofs.Common.{inl, subst}
 use Rattle.httparse.specs.Grammar.{HasNoRequest, MayBecomeRequest}
 use Rattle.http_framing.proofs.Heads.{head-part}
-use Rattle.http_framing.proofs.framing.read_front.Goals as goal
+use Rattle.http_framing.proofs.front.read_front.Goals as goal
 
 pub returns-in-Ok-Partial : goal.returns-in-Ok-Partial
 returns-in-Ok-Partial c =

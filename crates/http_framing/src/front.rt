@@ -42,7 +42,12 @@ impl RequestSpans {
         let Ok(target) = str::from_utf8(self.target.of(bytes)) else {
             unreachable!()
         };
-        Request::new(self.method.of(bytes), target, self.body.of(bytes), self.closes)
+        Request::new(
+            self.method.of(bytes),
+            target,
+            self.body.of(bytes),
+            self.closes,
+        )
     }
 }
 
