@@ -22,15 +22,12 @@ pub length_said-digits : (value : List ℕ) → is_digits value ≡ true → dig
 unfolding length_said
 length_said-digits value digits small = grind (arith, nat_tests)
 
-second : (x y : Bool) → (x && y) ≡ true → y ≡ true
-second true y e = e
-second false y e = absurd (cc)
-
 -- the byte at a place of a value of digits
 pub digit_at : (value : List ℕ) (i : ℕ) → is_digits value ≡ true → i < length value
     → (48 ≤ get_or value i 0) × (digit_value (get_or value i 0) ≡ get_or value i 0 - 48)
 digit_at value i digits inside =
-    let all = AllPass-from_list_all is_ascii_digit value (second (nat_lt 0 (length value)) (list_all is_ascii_digit value) digits) in
+    let every : list_all is_ascii_digit value ≡ true = grind (arith, nat_tests) in
+    let all = AllPass-from_list_all is_ascii_digit value every in
     let digit : is_ascii_digit (get_or value i 0) ≡ true = All-get_or (λ b. is_ascii_digit b ≡ true) value i 0 inside all in
     let range : (48 ≤ get_or value i 0) × (get_or value i 0 ≤ 57) = grind (arith, nat_tests) in
     (range.0, grind (arith, nat_tests))

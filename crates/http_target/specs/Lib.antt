@@ -1,0 +1,5 @@
+pub mod Target
+pub mod Query
+pub mod Value
+pub use Rattle.percent_encoding.specs.Percent
+pub use Rattle.form_urlencoded.specs.Form
