@@ -7,7 +7,7 @@ pub mod segment;
 pub mod value;
 
 ghost use Rattle.std.specs.Prelude.{◌≡◌};
-ghost use Rattle.http_target.specs.Target.{path_of, query_of};
+ghost use Rattle.http_target.specs.Target.{path_of, query_of, last_segment};
 
 /// The path and the query string of a target, which the first `?` parts; without one the query
 /// string is empty.
@@ -18,6 +18,16 @@ pub fn split_target(target: &str) -> (&str, &str)
     match target.split_once('?') {
         Some((path, query)) => (path, query),
         None => (target, ""),
+    }
+}
+
+/// The last segment of a path: what stands after its last `/`, still encoded.
+pub fn last_segment(path: &str) -> &str
+    ensures { result.now ≡ last_segment path.now }
+{
+    match path.rsplit_once('/') {
+        Some((_, segment)) => segment,
+        None => path,
     }
 }
 

@@ -1,6 +1,6 @@
 use crate::query::find_parameter;
 use crate::segment::{SegmentFault, decode_segment};
-use crate::split_target;
+use crate::{last_segment, split_target};
 use std::test::Fail;
 
 #[test]
@@ -8,7 +8,7 @@ fn a_target_in_its_parts(rt: HostRuntime) -> Result<(), Fail> {
     let target = "/db/caf%C3%A9%2f1?rev=1-a&open_revs=%5B%222-b%22%5D&rev=2&q=a+b%2B";
     let (path, query) = split_target(target);
     assert_eq!(rt; path, "/db/caf%C3%A9%2f1");
-    let id = decode_segment(rt.alloc(), "caf%C3%A9%2f1")
+    let id = decode_segment(rt.alloc(), last_segment(path))
         .ok()
         .ok_or("memory")?;
     assert_eq!(rt; id.as_str(), "café/1");
