@@ -1,7 +1,8 @@
 -- The router's rows say the same as the table of routes.
-use Rattle.std.proofs.Common.{◌≡◌, ℕ, ◌<◌, ◌==◌, ◌&&◌, ◌||◌, Bool, true, false, cond, not, nat_lt, List, [], ◌∷◌, ◌++◌, length, take, drop, map, Option, Some, None, refl, ap, sym, ◌∙◌, arith}
+use Rattle.std.proofs.Common.{◌≡◌, ℕ, ◌<◌, ◌==◌, ◌&&◌, ◌||◌, Bool, true, false, cond, nat_lt, List, [], ◌∷◌, ◌++◌, length, take, drop, map, Option, Some, get_or, refl, ap, sym, ◌∙◌, arith}
 use Rattle.std.proofs.lemmas.Bool.Decides.{nat_tests}
-use Rattle.std.specs.Prelude.{All, option_map}
+use Rattle.std.proofs.lemmas.List.Elements.{All-from_get_or}
+use Rattle.std.specs.Prelude.{option_map}
 use Rattle.std.specs.List.{find, list_all, list_any}
 use Rattle.std.specs.Str.{bytes_eq}
 use Rattle.matchit.specs.Rows.{RowsOf, param_token}
@@ -75,7 +76,10 @@ first_fit-rows (row ∷ rows) path bytes =
     either true found listed e = ap Some (value_of-row row)
     either false found listed e = e
 
-pub route_of-first : (path : List ℕ) → All IsByte path → option_map (λ found. found.value) (first table path) ≡ route_of path
-route_of-first path bytes =
-    ap (option_map (λ (found : RouteOf Route). found.value)) (seek-first_fit path table (ArePlain-from_test table refl) bytes)
-    ∙ first_fit-rows routes path refl
+-- what the router finds is the route of the path
+pub route_of-found : (rows : RowsOf (RouteOf Route)) (path : List ℕ) (found : Option (RouteOf Route)) → rows ≡ table
+    → ((i : ℕ) → get_or path i 0 < 256) → first rows path ≡ found → option_map (λ row. row.value) found ≡ route_of path
+route_of-found rows path found kept small finds =
+    let bytes = All-from_get_or IsByte path 0 (λ i inside. small i) in
+    let listed = sym finds ∙ ap (λ (r : RowsOf (RouteOf Route)). first r path) kept ∙ seek-first_fit path table (ArePlain-from_test table refl) bytes in
+    ap (option_map (λ (row : RouteOf Route). row.value)) listed ∙ first_fit-rows routes path refl

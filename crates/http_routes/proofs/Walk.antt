@@ -1,11 +1,11 @@
 -- Which route a router finds, where ids stand at the ends of paths.
-use Rattle.std.proofs.Common.{◌≡◌, ◌≢◌, ℕ, zero, suc, ◌+◌, ◌-◌, ◌<◌, ◌≤◌, ◌⊎◌, ◌==◌, ◌&&◌, ◌||◌, Bool, true, false, cond, not, nat_lt, List, [], ◌∷◌, ◌++◌, length, Option, Some, None, refl, ap, sym, ◌∙◌, subst, arith, inl, inr}
+use Rattle.std.proofs.Common.{◌≡◌, ℕ, zero, suc, ◌-◌, ◌<◌, ◌⊎◌, ◌==◌, ◌&&◌, ◌||◌, Bool, true, false, cond, not, nat_lt, List, [], ◌∷◌, length, Option, Some, None, refl, ap, sym, arith, inl, inr}
 use Rattle.std.proofs.lemmas.Bool.Decides.{nat_tests}
 use Rattle.std.proofs.lemmas.List.Elements.{All-head, All-tail}
 use Rattle.std.specs.Prelude.{All}
 use Rattle.std.specs.List.{list_all}
 use Rattle.matchit.specs.Rows.{RowsOf, param_token, catch_all_token}
-use Rattle.matchit.specs.Seek.{has_slash, segment, longest_from, longest_suffix, own, step, or_else, param_step, seek, first}
+use Rattle.matchit.specs.Seek.{has_slash, segment, longest_from, longest_suffix, own, step, or_else, param_step, seek}
 
 abbrev pub IsByte : ℕ → Type 0
 IsByte byte = byte < 256
@@ -161,10 +161,10 @@ module _ {K : Type 0} where
   ArePlain-step byte (([], key) ∷ rows) small plain = ArePlain-step byte rows small plain.2
   ArePlain-step byte ((token ∷ tokens, key) ∷ rows) small plain = elim (same_or_not token byte) [
     | inl same ↦ rw (same, same_number byte) (
-        plain_after token tokens (omega arith) plain.0,
-        hides_none-step byte tokens rows small (rw same at plain.1),
-        ArePlain-step byte rows small plain.2,
-      )
+      plain_after token tokens (omega arith) plain.0,
+      hides_none-step byte tokens rows small (rw same at plain.1),
+      ArePlain-step byte rows small plain.2,
+    )
     | inr other ↦ rw other (ArePlain-step byte rows small plain.2)
   ]
 

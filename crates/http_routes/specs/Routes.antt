@@ -1,5 +1,5 @@
 -- Which route a path has, and which methods a route takes.
-use Rattle.std.specs.Prelude.{ℕ, ◌&&◌, ◌||◌, ◌==◌, Bool, false, List, [], ◌∷◌, length, take, drop, not, nat_lt, Option, Some, None, option_map, codes, if◌then◌else◌}
+use Rattle.std.specs.Prelude.{ℕ, ◌&&◌, ◌||◌, ◌==◌, Bool, false, List, [], ◌∷◌, length, take, drop, not, nat_lt, Option, option_map, codes}
 use Rattle.std.specs.List.{find, list_any}
 use Rattle.std.specs.Str.{bytes_eq}
 use Rattle.http_routes.specs.declared.Route.{Route}
@@ -28,11 +28,13 @@ abbrev pub name_of : Method → List ℕ
 name_of method.Get = codes "GET"
 name_of method.Put = codes "PUT"
 
+-- the methods of all routes
+abbrev pub methods : List Method
+methods = method.Get ∷ method.Put ∷ []
+
 -- the method of this name
 abbrev pub method_named : List ℕ → Option Method
-method_named name =
-    if bytes_eq name (codes "GET") then Some method.Get
-    else (if bytes_eq name (codes "PUT") then Some method.Put else None)
+method_named name = find (λ m. bytes_eq (name_of m) name) methods
 
 -- b'/'
 abbrev pub slash : ℕ
@@ -56,3 +58,7 @@ abbrev pub has_empty_segment : List ℕ → Bool
 has_empty_segment [] = false
 has_empty_segment (byte ∷ []) = byte == slash
 has_empty_segment (byte ∷ next ∷ path) = (byte == slash && next == slash) || has_empty_segment (next ∷ path)
+
+-- the paths of routes that have an empty segment
+abbrev pub ended_paths : List (List ℕ)
+ended_paths = codes "/" ∷ []

@@ -1,5 +1,7 @@
 -- The routes as the router keeps them.
 use Rattle.std.specs.Prelude.{ℕ, ◌+◌, List, [], ◌∷◌, ◌++◌, length, map, codes, Result, Ok, Err}
+use Rattle.std.specs.Borrow.{Bor}
+use Rattle.std.specs.List.{fold}
 use Rattle.matchit.specs.Rows.{RowsOf, param_token}
 use Rattle.matchit.specs.Router.{RouteOf, route_from}
 use Rattle.matchit.specs.Order.{placed}
@@ -33,3 +35,7 @@ with_scan (Err error) value rows = rows
 -- the rows with one more, of this text
 abbrev pub with_row : List ℕ → Route → RowsOf (RouteOf Route) → RowsOf (RouteOf Route)
 with_row text value rows = with_scan (parse_route text) value rows
+
+-- the rows of a router of these paths, one after another
+abbrev pub rows_of : List (Bor (List ℕ) × Route) → RowsOf (RouteOf Route)
+rows_of paths = fold (λ rows path. with_row path.0.now path.1 rows) [] paths

@@ -1,9 +1,15 @@
 #![tactic(auto)]
 //! Which route a path has, and which methods a route takes.
+//!
+//! A route is one path, or all paths that end in the segment of an id. To add one takes its variant
+//! of [`Route`], its row of the table, here and in `specs/Routes.antt`, and its methods; the proofs
+//! are over any table.
 
-ghost use Rattle.std.specs.Prelude.{◌≡◌, OnOk};
-ghost use Rattle.http_routes.specs.Rows.{with_row};
-ghost use Rattle.http_routes.specs.Routes.{name_of, method_named, methods_of, route_of};
+ghost use Rattle.std.specs.Prelude.{◌≡◌, ℕ, List, None, true, false, IfOk};
+ghost use Rattle.std.specs.List.{list_any};
+ghost use Rattle.std.specs.Str.{bytes_eq};
+ghost use Rattle.http_routes.specs.Rows.{rows_of};
+ghost use Rattle.http_routes.specs.Routes.{name_of, method_named, methods_of, route_of, has_empty_segment, ended_paths};
 
 use matchit::Router;
 use std::alloc::{AllocError, Global};
@@ -25,16 +31,18 @@ pub enum Method {
     Put,
 }
 
+/// The methods of all routes.
+const METHODS: [Method; 2] = [Method::Get, Method::Put];
+
 impl Method {
     /// The method of this name, which is told apart by case.
     pub fn from_name(name: &[u8]) -> Option<Method>
         ensures { result ≡ method_named name.now }
     {
-        match name {
-            b"GET" => Some(Method::Get),
-            b"PUT" => Some(Method::Put),
-            _ => None,
-        }
+        METHODS
+            .iter()
+            .copied()
+            .find(|method| method.name().as_bytes() == name)
     }
 
     /// The name, as a request and `Allow` write it.
@@ -80,22 +88,24 @@ impl Model for Routes {
     ghost invariant = { λ r. r.router ≡ table };
 }
 
-fn add(router: &mut Router<Route>, path: &str, route: Route) -> Result<(), AllocError>
-    ensures { OnOk result (router.new ≡ with_row path.now route router.old) }
+/// A router of these paths.
+fn router_of(alloc: Global, paths: &[(&str, Route)]) -> Result<Router<Route>, AllocError>
+    ensures { IfOk result (λ router. router ≡ rows_of paths.now) }
 {
-    match router.insert(path, route) {
-        Ok(()) => Ok(()),
-        Err(_) => Err(AllocError),
+    let mut router = Router::new(alloc);
+    for (path, route) in paths {
+        // No two paths of the table conflict, so that this is want of memory.
+        if router.insert(path, *route).is_err() {
+            return Err(AllocError);
+        }
     }
+    Ok(router)
 }
 
 impl Routes {
     /// Builds the router.
     pub fn new(alloc: Global) -> Result<Routes, AllocError> {
-        let mut router = Router::new(alloc);
-        for (path, route) in TABLE {
-            add(&mut router, path, route)?;
-        }
+        let router = router_of(alloc, &TABLE)?;
         Ok(Routes { router })
     }
 
@@ -107,5 +117,31 @@ impl Routes {
             Ok(found) => Some(*found.value),
             Err(_) => None,
         }
+    }
+}
+
+/// A path with an empty segment has no route, but for `/`.
+pub fn empty_segments()
+    ensures { (path : List ℕ) → has_empty_segment path ≡ true → list_any (bytes_eq path) ended_paths ≡ false
+        → route_of path ≡ None }
+{}
+
+#[cfg(test)]
+mod tests {
+    use super::*;
+    use std::test::Fail;
+
+    #[test]
+    fn paths_and_their_routes(rt: HostRuntime) -> Result<(), Fail> {
+        let routes = Routes::new(rt.alloc())?;
+        assert_eq!(rt; routes.at("/"), Some(Route::Root));
+        assert_eq!(rt; routes.at("/db/a%2Fb"), Some(Route::Document));
+        assert_eq!(rt; routes.at("/db/_changes"), Some(Route::Document));
+        for path in [
+            "", "//", "/db//", "/db//a", "/db/a/", "/db/a/b", "/dba", "db/a",
+        ] {
+            assert_eq!(rt; routes.at(path), None);
+        }
+        Ok(())
     }
 }
