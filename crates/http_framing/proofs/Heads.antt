@@ -30,8 +30,8 @@ pub record IsFound (bytes window : List ℕ) (headers : List HeaderSpan) (spans 
   pub inside : spans.len ≤ length bytes
   pub small : spans.len ≤ head_limit
 
-length-front : (n : ℕ) (bytes : List ℕ) → (length (take n bytes) ≤ length bytes) × (length (take n bytes) ≤ n)
-length-front n bytes = (grind (arith, common_steps), grind (arith, common_steps))
+length-front : {A : Type 0} (n : ℕ) (xs : List A) → (length (take n xs) ≤ length xs) × (length (take n xs) ≤ n)
+length-front n xs = (grind (arith, common_steps), grind (arith, common_steps))
 
 span_bytes-take : (n : ℕ) (bytes : List ℕ) (span : Span) → span.start ≤ span.end → span.end ≤ n
     → span_bytes bytes span ≡ span_bytes (take n bytes) span
@@ -69,12 +69,12 @@ found_in n bytes headers spans head limit room within at =
     let target = span_in_front n bytes spans.path spans.len within.section.len_fits within.path in
     let fields : length (take spans.headers headers) ≡ length head.fields =
     sym (length-map (take spans.headers headers) (header_bytes (take n bytes))) ∙ ap length at.fields ∙ length-map head.fields name_and_value in
-    let count : length (take spans.headers headers) ≤ length headers = (length-front' spans.headers headers) in
+    let count = length-front spans.headers headers in
     record {
       begins = record {
         reads = (at.reads.0, begins n bytes headers spans head at);
         size = omega (arith, at.len, within.section.len_fits, short.1);
-        headers = omega (arith, fields, count, room);
+        headers = omega (arith, fields, count.0, room);
       };
       headers_are = at.fields;
       method = (method.0, method.1 ∙ at.method);
@@ -84,9 +84,6 @@ found_in n bytes headers spans head limit room within at =
       inside = omega (arith, within.section.len_fits, short.0);
       small = omega (arith, within.section.len_fits, short.1);
     }
-  where
-    length-front' : (k : ℕ) (spans : List HeaderSpan) → length (take k spans) ≤ length spans
-    length-front' k spans = grind (arith, common_steps)
 
 pub found_head : (bytes window : List ℕ) (headers : List HeaderSpan) (spans : HeadSpans) → window ≡ head_window bytes
     → length headers ≤ header_limit → IsHeadWithin window headers spans → (of : IsHeadOf window headers spans)

@@ -25,7 +25,7 @@ pub record IsRequestAt (bytes : List ℕ) (spans : RequestSpans) : Type 0 where
   pub body : IsWithin (length bytes) spans.body
   pub takes : 0 < spans.body.end
 
--- fewer than `more` further bytes leave the request unfinished, and so many keep its limit
+-- the request is unfinished until `more` further bytes have come, for which the limit leaves room
 pub record NeedsMore (bytes : List ℕ) (more : ℕ) : Type 0 where
   pub some : 0 < more
   pub unfinished : (further : List ℕ) → length further < more → IsUnfinished (bytes ++ further)

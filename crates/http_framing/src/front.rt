@@ -1,8 +1,8 @@
 //! The first request of the bytes that have come.
 
-ghost use Rattle.std.specs.Prelude.{◌≡◌, ℕ, ◌+◌, ◌<◌, ◌≤◌, List, length, drop, map, take, All};
-ghost use Rattle.httparse.specs.Spans.{header_bytes, IsHeaderWithin, IsRequestAt as IsHeadAt, IsRequestOf as IsHeadOf, IsRequestWithin as IsHeadWithin};
-ghost use Rattle.http_framing.specs.Request.{head_limit, header_limit};
+ghost use Rattle.std.specs.Prelude.{◌≡◌, ◌≤◌, length};
+ghost use Rattle.httparse.specs.Spans.{IsRequestOf as IsHeadOf, IsRequestWithin as IsHeadWithin};
+ghost use Rattle.http_framing.specs.Request.{header_limit};
 ghost use Rattle.http_framing.specs.Refusal.{head_window};
 ghost use Rattle.http_framing.specs.Front.{IsRequestAt, IsFrontOf, request_at};
 

@@ -1,6 +1,6 @@
 //! What the headers of a head say of the body and of the connection.
 
-ghost use Rattle.std.specs.Prelude.{◌≡◌, ◌≤◌, ℕ, List, [], ◌∷◌, ◌++◌, length, map, All};
+ghost use Rattle.std.specs.Prelude.{◌≡◌, ℕ, List, [], ◌∷◌, ◌++◌, length, map, All};
 ghost use Rattle.std.specs.List.{list_all, list_any};
 ghost use Rattle.std.specs.Char.{is_ascii_digit};
 ghost use Rattle.httparse.specs.Spans.{header_bytes, IsHeaderWithin};
@@ -32,7 +32,8 @@ impl<'a> Occurrence<'a> {
     fn add(self, bytes: &'a [u8], header: &HeaderSpan, name: &[u8]) -> Occurrence<'a>
         requires { IsHeaderWithin (length bytes.now) header.now }
         ensures { (values : List (List ℕ)) → Occurs self.entry values
-            → Occurs result (values ++ values_named name.now (header_bytes bytes.now header.now ∷ [])) }
+            → Occurs result
+            (values ++ values_named name.now (header_bytes bytes.now header.now ∷ [])) }
     {
         if !is_named(bytes, header, name) {
             return self;
@@ -109,7 +110,8 @@ fn is_close(bytes: &[u8], header: &HeaderSpan) -> bool
 
 fn asks_close(bytes: &[u8], headers: &[HeaderSpan]) -> bool
     requires { All (IsHeaderWithin (length bytes.now)) headers.now }
-    ensures { result ≡ list_any (λ header. is_close (header_bytes bytes.now header)) headers.now }
+    ensures { result
+        ≡ list_any (λ header. is_close (header_bytes bytes.now header)) headers.now }
 {
     headers.iter().any(|header| is_close(bytes, header))
 }

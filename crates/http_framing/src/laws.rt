@@ -21,23 +21,27 @@ pub fn one_reading()
 /// A head is refused for either of two faults only where it has too many headers, or where its
 /// target does not end in the first [`HEAD_LIMIT`](crate::HEAD_LIMIT) bytes.
 pub fn either_fault()
-    ensures { (bytes : List ℕ) → IsRefused bytes FramingFault.Head → IsRefused bytes FramingFault.LargeHead
-        → HasEitherFault bytes }
+    ensures { (bytes : List ℕ) → IsRefused bytes FramingFault.Head
+        → IsRefused bytes FramingFault.LargeHead → HasEitherFault bytes }
 {}
 
 /// What an input begins with stays there when more bytes have come.
 pub fn more_input()
     ensures request { (bytes more : List ℕ) (request : Request) (after : List ℕ)
-        → BeginsWithRequest bytes request after → BeginsWithRequest (bytes ++ more) request (after ++ more) }
-    ensures refused { (bytes more : List ℕ) (fault : FramingFault) → IsRefused bytes fault → IsRefused (bytes ++ more) fault }
+        → BeginsWithRequest bytes request after
+        → BeginsWithRequest (bytes ++ more) request (after ++ more) }
+    ensures refused { (bytes more : List ℕ) (fault : FramingFault)
+        → IsRefused bytes fault → IsRefused (bytes ++ more) fault }
     ensures reading { (bytes more : List ℕ) (items : List Item) (rest : List ℕ)
-        → AreOpen items → Splits bytes items rest → Splits (bytes ++ more) items (rest ++ more) }
+        → AreOpen items → Splits bytes items rest
+        → Splits (bytes ++ more) items (rest ++ more) }
 {}
 
 /// A reading goes on with what the rest begins with.
 pub fn next_item()
     ensures { (bytes : List ℕ) (items : List Item) (rest : List ℕ) (item : Item) (after : List ℕ)
-        → AreOpen items → Splits bytes items rest → Begins rest item after → Splits bytes (items ++ item ∷ []) after }
+        → AreOpen items → Splits bytes items rest → Begins rest item after
+        → Splits bytes (items ++ item ∷ []) after }
 {}
 
 /// A request takes some bytes, and at most [`REQUEST_LIMIT`](crate::REQUEST_LIMIT).
@@ -45,13 +49,15 @@ pub fn request_size()
     ensures some { (bytes : List ℕ) (request : Request) (after : List ℕ)
         → BeginsWithRequest bytes request after → length after < length bytes }
     ensures limit { (bytes : List ℕ) (request : Request) (after : List ℕ)
-        → BeginsWithRequest bytes request after → length bytes ≤ length after + request_limit }
+        → BeginsWithRequest bytes request after
+        → length bytes ≤ length after + request_limit }
 {}
 
 /// Bytes are unfinished where a request is cut, and then no request begins them.
 pub fn cut_request()
     ensures cut { (bytes more : List ℕ) (request : Request) (after : List ℕ)
-        → BeginsWithRequest (bytes ++ more) request after → length after < length more → IsUnfinished bytes }
+        → BeginsWithRequest (bytes ++ more) request after → length after < length more
+        → IsUnfinished bytes }
     ensures not_whole { (bytes : List ℕ) (request : Request) (after : List ℕ)
         → IsUnfinished bytes → BeginsWithRequest bytes request after → ⊥ }
     ensures limit { (bytes : List ℕ) → IsUnfinished bytes → length bytes < request_limit }
@@ -61,6 +67,7 @@ pub fn cut_request()
 pub fn text_targets()
     ensures text { (bytes : List ℕ) (request : Request) (after : List ℕ)
         → BeginsWithRequest bytes request after → IsUtf8 request.target }
-    ensures not_text { (bytes target : List ℕ) (front : Front) → HasTarget (head_window bytes) target → ¬ (IsUtf8 target)
+    ensures not_text { (bytes target : List ℕ) (front : Front)
+        → HasTarget (head_window bytes) target → ¬ (IsUtf8 target)
         → IsFrontOf bytes front → front ≡ Front.Refused FramingFault.Head }
 {}

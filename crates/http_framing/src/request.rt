@@ -4,7 +4,8 @@ ghost use Rattle.std.specs.Prelude.{◌≡◌};
 
 use std::marker::Model;
 
-/// A request: what its head says, and its body.
+/// A request: what its head asks, and its body.
+#[derive(Debug, Drop)]
 pub struct Request<'a> {
     method: &'a [u8],
     target: &'a str,
@@ -17,12 +18,23 @@ impl<'a> Model for Request<'a> {
 
     ghost Value = { spec.Request };
 
-    ghost view = { λ r. record { method = r.method.now; target = r.target.now; body = r.body.now; closes = r.closes } };
+    ghost view = { λ r. record {
+      method = r.method.now;
+      target = r.target.now;
+      body = r.body.now;
+      closes = r.closes;
+    } };
 }
 
 impl<'a> Request<'a> {
+    /// A request of these parts.
     pub fn new(method: &'a [u8], target: &'a str, body: &'a [u8], closes: bool) -> Request<'a>
-        ensures { result ≡ record { method = method.now; target = target.now; body = body.now; closes = closes } }
+        ensures { result ≡ record {
+          method = method.now;
+          target = target.now;
+          body = body.now;
+          closes = closes;
+        } }
     {
         Request {
             method,
