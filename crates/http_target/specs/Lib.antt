@@ -3,3 +3,4 @@ pub mod Query
 pub mod Value
 pub use Rattle.percent_encoding.specs.Percent
 pub use Rattle.form_urlencoded.specs.Form
+pub use Rattle.percent_encoding.specs.Cow

@@ -13,6 +13,7 @@ use std::borrow::CowStr;
 /// Why a segment gives no text.
 #[derive(Clone, Copy, Debug, PartialEq, Eq)]
 pub enum SegmentFault {
+    /// Memory was refused.
     Memory,
     /// The decoded bytes are not UTF-8.
     NotText,
