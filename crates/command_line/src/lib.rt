@@ -1,0 +1,91 @@
+#![tactic(auto)]
+//! The command line of `couchd`.
+
+ghost use Rattle.std.specs.Prelude.{◌≡◌, [], map, true, false, IfOk, IfErr, OnOk};
+ghost use Rattle.clap.specs.Words.{app_of, fault_of, kind_of};
+ghost use Rattle.clap.specs.declared.builder.command.Command.TheViews.{out-Command as fields_of};
+ghost use Rattle.clap.specs.declared.error.kind.ErrorKind.TheVariants.{OutOfMemory};
+ghost use Rattle.command_line.specs.declared.WordsFault.TheVariants.{Memory};
+ghost use Rattle.command_line.specs.Couchd.{couchd, IsRunOf};
+
+use clap::Command;
+use clap::error::ErrorKind;
+use std::alloc::{AllocError, Global};
+use std::convert::AsStr;
+use thiserror::Error;
+
+/// What the words of a command line ask for.
+#[derive(Clone, Copy, Debug, PartialEq, Eq)]
+pub enum Run {
+    /// Serves standard input to standard output, with one session.
+    Once,
+}
+
+/// Why words name no run.
+#[derive(Debug, Drop, Error)]
+pub enum WordsFault {
+    /// Memory was refused.
+    #[error("out of memory")]
+    Memory,
+    /// The words can't be parsed, or ask for help: `clap`'s text for the user.
+    #[error("{0}")]
+    Words(String),
+}
+
+impl From<AllocError> for WordsFault {
+    ghost from_gives = { λ _ fault. fault ≡ Memory };
+
+    fn from(_error: AllocError) -> WordsFault {
+        WordsFault::Memory
+    }
+}
+
+/// The fault that a parse ends with.
+fn fault(alloc: Global, error: &clap::Error) -> WordsFault
+    ensures memory { kind_of error.now ≡ OutOfMemory → result ≡ WordsFault.Memory }
+{
+    if error.kind() == ErrorKind::OutOfMemory {
+        return WordsFault::Memory;
+    }
+    match format!(in alloc; "{error}") {
+        Ok(text) => WordsFault::Words(text),
+        Err(_) => WordsFault::Memory,
+    }
+}
+
+/// The command line as `clap` takes it.
+fn couchd<'a>(alloc: Global) -> Result<Command<'a>, AllocError>
+    ensures app { IfOk result (λ c. app_of c ≡ couchd) }
+    ensures local { IfOk result (λ c. (fields_of c).has_globals ≡ false) }
+    ensures subcommand { IfOk result (λ c. (fields_of c).subcommand_required ≡ true) }
+{
+    let once = Command::new(alloc, "once").about("Serves standard input to standard output");
+    Command::new(alloc, "couchd")
+        .about("A replicating document store")
+        .subcommand_required(true)
+        .disable_help_subcommand(true)
+        .subcommand(once)
+}
+
+/// The run that the words ask for. The first word is the program's name, as in `std::env::args`.
+pub fn read_words<S: AsStr>(alloc: Global, words: &[S]) -> Result<Run, WordsFault>
+    // The run has the name of the subcommand in the words.
+    ensures run { IfOk result (IsRunOf (map S.text words.now)) }
+
+    // Words are refused exactly where `clap` finds a fault in them, but for memory.
+    ensures faultless { OnOk result (fault_of couchd (map S.text words.now) ≡ []) }
+    ensures faulty { IfErr result (λ fault. fault_of couchd (map S.text words.now) ≡ []
+        → fault ≡ WordsFault.Memory) }
+{
+    let matches = match couchd(alloc)?.try_get_matches_from(words) {
+        Ok(matches) => matches,
+        Err(error) => return Err(fault(alloc, &error)),
+    };
+    match matches.subcommand_name().unwrap() {
+        "once" => Ok(Run::Once),
+        _ => unreachable!(),
+    }
+}
+
+#[cfg(test)]
+mod tests;

@@ -1,0 +1,103 @@
+-- What an input begins with stays there when more bytes have come, and one more item is read.
+use Rattle.std.proofs.Common.{◌≡◌, ℕ, ◌+◌, ◌-◌, List, [], ◌∷◌, ◌++◌, length, take, refl, ap, sym, ◌∙◌, subst, arith, append_assoc, length-append, inl, inr}
+use Rattle.std.specs.Prelude.{IsFalse}
+use Rattle.std.proofs.Math.Seq.{take-append-add}
+use Rattle.std.proofs.lemmas.Bool.{cases_lt}
+use Rattle.std.proofs.lemmas.List.{take-append-le, take_all, append-nil}
+use Rattle.std.proofs.lemmas.List.Elements.{All-head, All-tail}
+use Rattle.httparse.specs.Grammar.{RequestHead, HasNoRequest, NeverHasRequest, MayBecomeRequest}
+use Rattle.httparse.specs.Spans.{RequestExceeds}
+use Rattle.httparse.proofs.GrammarLemmas.{ReadsRequest-append}
+use Rattle.http_framing.specs.Request.{head_limit, header_limit, Request, BeginsWithHead, BeginsWithRequest}
+use Rattle.http_framing.specs.Refusal.{head_window, HasLargeHead, HasBadBody, IsRefused}
+use Rattle.http_framing.specs.Input.{Item, Asked, Refused, closes_connection, Begins, Splits, AreOpen}
+use Rattle.http_framing.specs.declared.FramingFault.{FramingFault}
+use Rattle.http_framing.specs.declared.FramingFault.TheVariants.{Head, LargeHead, TransferEncoding, ContentLength, LargeBody}
+
+-- the first bytes of a longer input begin with those of the shorter
+take-append : (n : ℕ) (xs ys : List ℕ) → (rest : List ℕ) × (take n (xs ++ ys) ≡ take n xs ++ rest)
+take-append n xs ys = elim (cases_lt (length xs) n) [
+  | inl short ↦ let sum : length xs + (n - length xs) ≡ n = omega arith in
+      let whole = take_all n xs (omega arith) in (
+        take (n - length xs) ys,
+        subst (λ (k : ℕ). take k (xs ++ ys) ≡ xs ++ take (n - length xs) ys) sum (take-append-add xs ys (n - length xs))
+            ∙ ap (λ (front : List ℕ). front ++ take (n - length xs) ys) (sym whole),
+      )
+  | inr long ↦ ([], take-append-le n xs ys long ∙ sym (append-nil (take n xs)))
+]
+
+-- ---- heads and requests
+
+pub BeginsWithHead-append : (bytes : List ℕ) (head : RequestHead) (after more : List ℕ)
+    → BeginsWithHead bytes head after → BeginsWithHead (bytes ++ more) head (after ++ more)
+BeginsWithHead-append bytes head after more begins = record {
+  reads = ReadsRequest-append bytes head after more begins.reads;
+  size = begins.size;
+  headers = begins.headers;
+}
+
+pub BeginsWithRequest-append : (bytes : List ℕ) (request : Request) (after more : List ℕ)
+    → BeginsWithRequest bytes request after → BeginsWithRequest (bytes ++ more) request (after ++ more)
+BeginsWithRequest-append bytes request after more (head, begins, asked) =
+    let P : List ℕ → Type 0 = BeginsWithHead (bytes ++ more) head in
+    (head, subst P (append_assoc request.body after more) (BeginsWithHead-append bytes head (request.body ++ after) more begins), asked)
+
+-- ---- refusals
+
+NeverHasRequest-append : (bytes more : List ℕ) → NeverHasRequest bytes → NeverHasRequest (bytes ++ more)
+NeverHasRequest-append bytes more never further =
+    subst HasNoRequest (sym (append_assoc bytes more further)) (never (more ++ further))
+
+RequestExceeds-append : (room : ℕ) (bytes more : List ℕ) → RequestExceeds room bytes → RequestExceeds room (bytes ++ more)
+RequestExceeds-append room bytes more (front, rest, parts, head, reads, many) =
+    (front, rest ++ more, ap (λ (x : List ℕ). x ++ more) parts ∙ append_assoc front rest more, head, reads, many)
+
+HasLargeHead-append : (bytes more : List ℕ) → HasLargeHead bytes → HasLargeHead (bytes ++ more)
+HasLargeHead-append bytes more (inl (full, none, may)) =
+    let same : head_window bytes ≡ head_window (bytes ++ more) = sym (take-append-le head_limit bytes more full) in
+    inl (omega (arith, length-append bytes more), subst HasNoRequest same none, subst MayBecomeRequest same may)
+HasLargeHead-append bytes more (inr exceeds) =
+    let window = take-append head_limit bytes more in
+    let P : List ℕ → Type 0 = RequestExceeds header_limit in
+    inr (subst P (sym window.1) (RequestExceeds-append header_limit (head_window bytes) window.0 exceeds))
+
+HasBadBody-append : (bytes more : List ℕ) (fault : FramingFault) → HasBadBody bytes fault → HasBadBody (bytes ++ more) fault
+HasBadBody-append bytes more fault (head, after, begins, bad) = (head, after ++ more, BeginsWithHead-append bytes head after more begins, bad)
+
+pub IsRefused-append : (bytes more : List ℕ) (fault : FramingFault) → IsRefused bytes fault → IsRefused (bytes ++ more) fault
+IsRefused-append bytes more Head never =
+    let window = take-append head_limit bytes more in
+    subst NeverHasRequest (sym window.1) (NeverHasRequest-append (head_window bytes) window.0 never)
+IsRefused-append bytes more LargeHead large = HasLargeHead-append bytes more large
+IsRefused-append bytes more TransferEncoding bad = HasBadBody-append bytes more TransferEncoding bad
+IsRefused-append bytes more ContentLength bad = HasBadBody-append bytes more ContentLength bad
+IsRefused-append bytes more LargeBody bad = HasBadBody-append bytes more LargeBody bad
+
+-- ---- readings
+
+abbrev pub IsOpen : Item → Type 0
+IsOpen item = IsFalse (closes_connection item)
+
+pub Splits-append : (bytes more : List ℕ) (items : List Item) (rest : List ℕ) → AreOpen items → Splits bytes items rest
+    → Splits (bytes ++ more) items (rest ++ more)
+Splits-append bytes more [] rest are_open splits = ap (λ (x : List ℕ). x ++ more) splits
+Splits-append bytes more (Asked request ∷ items) rest are_open (after, begins, last, splits) = (
+  after ++ more,
+  BeginsWithRequest-append bytes request after more begins,
+  last,
+  Splits-append after more items rest (All-tail IsOpen (Asked request) items are_open) splits,
+)
+Splits-append bytes more (Refused fault ∷ items) rest are_open splits =
+    let opens = All-head IsOpen (Refused fault) items are_open in absurd (cc)
+
+pub Splits-push : (bytes : List ℕ) (items : List Item) (rest : List ℕ) (item : Item) (after : List ℕ) → AreOpen items
+    → Splits bytes items rest → Begins rest item after → Splits bytes (items ++ item ∷ []) after
+Splits-push bytes [] rest item after are_open splits begins =
+    (after, subst (λ (x : List ℕ). Begins x item after) (sym splits) begins, λ last. refl, refl)
+Splits-push bytes (first ∷ items) rest item after are_open (middle, starts, last, splits) begins =
+    let opens = All-head IsOpen first items are_open in (
+      middle,
+      starts,
+      λ closes. absurd (cc (opens, closes)),
+      Splits-push middle items rest item after (All-tail IsOpen first items are_open) splits begins,
+    )

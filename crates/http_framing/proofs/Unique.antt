@@ -1,0 +1,123 @@
+-- An input is read in one way.
+use Rattle.std.proofs.Common.{◌≡◌, ℕ, ◌+◌, ◌-◌, List, [], ◌∷◌, ◌++◌, length, take, drop, refl, ap, sym, ◌∙◌, subst, arith, Result, Ok, inl, inr, ◌⊎◌}
+use Rattle.std.specs.List.{AllZip}
+use Rattle.std.proofs.Math.Seq.{take-append_seam, drop-append_seam, take-append-add}
+use Rattle.httparse.specs.Grammar.{RequestHead, print_request, ReadsRequest}
+use Rattle.httparse.proofs.GrammarLemmas.{request_unique, ReadsRequest-append}
+use Rattle.http_framing.specs.Headers.{headers_of}
+use Rattle.http_framing.specs.Body.{body_length}
+use Rattle.http_framing.specs.Request.{head_limit, header_limit, Request, IsAskedBy, BeginsWithHead, BeginsWithRequest}
+use Rattle.http_framing.specs.Refusal.{head_window, HasLargeHead, HasBadBody, IsRefused, HasEitherFault, IsHeadFault}
+use Rattle.http_framing.specs.Input.{Item, Asked, Refused, Begins, Splits, AreAlike}
+use Rattle.http_framing.proofs.ManyHeaders.{no_head_with_room}
+use Rattle.http_framing.specs.declared.FramingFault.{FramingFault}
+use Rattle.http_framing.specs.declared.FramingFault.TheVariants.{Head, LargeHead, TransferEncoding, ContentLength, LargeBody}
+
+-- two lists that are as long begin the same list alike
+same_front : (a b x y : List ℕ) → length a ≡ length b → a ++ x ≡ b ++ y → (a ≡ b) × (x ≡ y)
+same_front a b x y n e = (
+  sym (take-append_seam a x) ∙ ap (λ (k : ℕ). take k (a ++ x)) n ∙ ap (take (length b)) e ∙ take-append_seam b y,
+  sym (drop-append_seam a x) ∙ ap (λ (k : ℕ). drop k (a ++ x)) n ∙ ap (drop (length b)) e ∙ drop-append_seam b y,
+)
+
+one_length : (m n : ℕ) (length : Result ℕ FramingFault) → length ≡ Ok m → length ≡ Ok n → m ≡ n
+one_length m n length e f = cc
+
+same_request : (r q : Request) → r.method ≡ q.method → r.target ≡ q.target → r.body ≡ q.body → r.closes ≡ q.closes → r ≡ q
+same_request r q method target body closes =
+    λ i. record { method = method i; target = target i; body = body i; closes = closes i }
+
+-- the bytes begin with one request
+pub one_request : (bytes : List ℕ) (r q : Request) (x y : List ℕ) → BeginsWithRequest bytes r x → BeginsWithRequest bytes q y
+    → (r ≡ q) × (x ≡ y)
+one_request bytes r q x y (h, b, of_h) (k, c, of_k) =
+    let heads = request_unique bytes h k (r.body ++ x) (q.body ++ y) b.reads c.reads in
+    let P : RequestHead → Type 0 = λ head. IsAskedBy head r in
+    let of_k' = subst P heads.0 of_h in
+    let size = one_length (length r.body) (length q.body) (body_length (headers_of k)) of_k'.body of_k.body in
+    let parts = same_front r.body q.body x y size heads.1 in
+    (same_request r q (of_k'.method ∙ sym of_k.method) (of_k'.target ∙ sym of_k.target) parts.0 (of_k'.closes ∙ sym of_k.closes), parts.1)
+
+-- a head that keeps the limits stands in the first bytes
+pub head_in_window : (bytes : List ℕ) (head : RequestHead) (after : List ℕ) → BeginsWithHead bytes head after
+    → (rest : List ℕ) × ReadsRequest (head_window bytes) head rest
+head_in_window bytes head after begins =
+    let left : ℕ = head_limit - length (print_request head) in
+    let fits : length (print_request head) + left ≡ head_limit = omega (arith, begins.size) in
+    let P : ℕ → Type 0 = λ n. take n (print_request head ++ after) ≡ print_request head ++ take left after in
+    (take left after, (begins.reads.0, ap (take head_limit) begins.reads.1 ∙ subst P fits (take-append-add (print_request head) after left)))
+
+-- a head that keeps the limits is not refused
+head_not_refused : (bytes : List ℕ) (head : RequestHead) (after : List ℕ) (fault : FramingFault) → BeginsWithHead bytes head after
+    → IsHeadFault fault → IsRefused bytes fault → ⊥
+head_not_refused bytes head after fault begins (inl never) refused =
+    let inner = head_in_window bytes head after begins in
+    subst (IsRefused bytes) never refused [] head _ (ReadsRequest-append _ head inner.0 [] inner.1)
+head_not_refused bytes head after fault begins (inr large) refused =
+    no_large (subst (IsRefused bytes) large refused)
+  where
+    no_large : HasLargeHead bytes → ⊥
+    no_large (inl (full, none, may)) = let inner = head_in_window bytes head after begins in none head inner.0 inner.1
+    no_large (inr exceeds) =
+        let inner = head_in_window bytes head after begins in
+        no_head_with_room header_limit _ head inner.0 inner.1 begins.headers exceeds
+
+-- a fault is of the head, or of the body after one
+head_or_body : (bytes : List ℕ) (fault : FramingFault) → IsRefused bytes fault → IsHeadFault fault ⊎ HasBadBody bytes fault
+head_or_body bytes Head refused = inl (inl refl)
+head_or_body bytes LargeHead refused = inl (inr refl)
+head_or_body bytes TransferEncoding refused = inr refused
+head_or_body bytes ContentLength refused = inr refused
+head_or_body bytes LargeBody refused = inr refused
+
+one_answer : {A : Type 0} (x y : A) (answer : A) → answer ≡ x → answer ≡ y → x ≡ y
+one_answer x y answer e f = sym e ∙ f
+
+-- the length of the body after one head
+same_length : (bytes : List ℕ) (h k : RequestHead) (x y : List ℕ) → BeginsWithHead bytes h x → BeginsWithHead bytes k y
+    → body_length (headers_of h) ≡ body_length (headers_of k)
+same_length bytes h k x y b c = ap (λ (head : RequestHead). body_length (headers_of head)) (request_unique bytes h k x y b.reads c.reads).0
+
+-- what begins with a request is not refused
+pub request_not_refused : (bytes : List ℕ) (request : Request) (after : List ℕ) (fault : FramingFault) → BeginsWithRequest bytes request after
+    → IsRefused bytes fault → ⊥
+request_not_refused bytes request after fault (h, begins, asked) refused =
+    not_both (head_or_body bytes fault refused)
+  where
+    not_both : IsHeadFault fault ⊎ HasBadBody bytes fault → ⊥
+    not_both (inl of_head) = head_not_refused bytes h _ fault begins of_head refused
+    not_both (inr (k, x, other, bad)) =
+        let same = sym asked.body ∙ same_length bytes h k _ x begins other ∙ bad in absurd (cc)
+
+-- the bytes are refused for one fault, unless it is of the head
+pub one_fault : (bytes : List ℕ) (f g : FramingFault) → IsRefused bytes f → IsRefused bytes g → (f ≡ g) ⊎ (IsHeadFault f × IsHeadFault g)
+one_fault bytes f g x y = either (head_or_body bytes f x) (head_or_body bytes g y)
+  where
+    either : IsHeadFault f ⊎ HasBadBody bytes f → IsHeadFault g ⊎ HasBadBody bytes g → (f ≡ g) ⊎ (IsHeadFault f × IsHeadFault g)
+    either (inl of_head) (inl also) = inr (of_head, also)
+    either (inl of_head) (inr (k, q, begins, bad)) = absurd (head_not_refused bytes k q f begins of_head x)
+    either (inr (h, r, begins, bad)) (inl of_head) = absurd (head_not_refused bytes h r g begins of_head y)
+    either (inr (h, r, b, bad)) (inr (k, q, c, worse)) =
+        let same = sym bad ∙ same_length bytes h k r q b c ∙ worse in inl (cc)
+
+pub one_item : (bytes : List ℕ) (item other : Item) (x y : List ℕ) → Begins bytes item x → Begins bytes other y → AreAlike item other × (x ≡ y)
+one_item bytes (Asked r) (Asked q) x y b c = one_request bytes r q x y b c
+one_item bytes (Asked r) (Refused g) x y b c = absurd (request_not_refused bytes r x g b c.0)
+one_item bytes (Refused f) (Asked q) x y b c = absurd (request_not_refused bytes q y f c b.0)
+one_item bytes (Refused f) (Refused g) x y b c = (one_fault bytes f g b.0 c.0, b.1 ∙ sym c.1)
+
+pub one_reading : (bytes : List ℕ) (items others : List Item) (rest after : List ℕ) → Splits bytes items rest → Splits bytes others after
+    → length items ≡ length others → AllZip AreAlike items others × (rest ≡ after)
+one_reading bytes [] [] rest after s t n = (tt, sym s ∙ t)
+one_reading bytes [] (other ∷ others) rest after s t n = absurd (omega arith)
+one_reading bytes (item ∷ items) [] rest after s t n = absurd (omega arith)
+one_reading bytes (item ∷ items) (other ∷ others) rest after (x, b, last, s) (y, c, end, t) n =
+    let one = one_item bytes item other x y b c in
+    let P : List ℕ → Type 0 = λ z. Splits z items rest in
+    let more = one_reading y items others rest after (subst P one.1 s) t (omega arith) in
+    ((one.0, more.0), more.1)
+
+pub either_fault : (bytes : List ℕ) → IsRefused bytes Head → IsRefused bytes LargeHead → HasEitherFault bytes
+either_fault bytes never (inl (full, none, inl (more, head, reads))) = absurd (never more head [] reads)
+either_fault bytes never (inl (full, none, inr in_target)) = inr (full, in_target)
+either_fault bytes never (inr exceeds) = inl exceeds

@@ -1,0 +1,55 @@
+-- How the bytes of a connection are cut into requests.
+use Rattle.std.specs.Prelude.{◌≡◌, ℕ, ◌+◌, ◌<◌, ◌⊎◌, Bool, true, IsTrue, IsFalse, List, [], ◌∷◌, length, All, Ok}
+use Rattle.httparse.specs.Grammar.{RequestHead, HasNoRequest, MayBecomeRequest}
+use Rattle.http_framing.specs.Headers.{headers_of}
+use Rattle.http_framing.specs.Body.{body_length, body_limit}
+use Rattle.http_framing.specs.Request.{head_limit, Request, BeginsWithHead, BeginsWithRequest}
+use Rattle.http_framing.specs.Refusal.{IsRefused, IsHeadFault}
+use Rattle.http_framing.specs.declared.FramingFault.{FramingFault}
+
+-- the most bytes of a request
+abbrev pub request_limit : ℕ
+request_limit = head_limit + body_limit
+
+-- what stands on a connection: a request, or the fault for which all that is left is refused
+pub data Item : Type 0 where
+  Asked : Request → Item
+  Refused : FramingFault → Item
+
+-- the connection closes after the response to it
+abbrev pub closes_connection : Item → Bool
+closes_connection (Asked request) = request.closes
+closes_connection (Refused fault) = true
+
+-- the bytes begin with this item, and go on with what is after it; a refusal reaches to their end
+abbrev pub Begins : List ℕ → Item → List ℕ → Type 0
+Begins bytes (Asked request) after = BeginsWithRequest bytes request after
+Begins bytes (Refused fault) after = IsRefused bytes fault × (after ≡ [])
+
+-- the bytes are these items, one after another, and then a rest; nothing is read after an item that closes
+abbrev pub Splits : List ℕ → List Item → List ℕ → Type 0
+Splits bytes [] rest = bytes ≡ rest
+Splits bytes (item ∷ items) rest =
+    (after : List ℕ) × Begins bytes item after × (IsTrue (closes_connection item) → items ≡ []) × Splits after items rest
+
+-- none of the items closes the connection
+abbrev pub AreOpen : List Item → Type 0
+AreOpen items = All (λ item. IsFalse (closes_connection item)) items
+
+-- two items are the same, but that a head may be refused for either of two faults
+abbrev pub AreAlike : Item → Item → Type 0
+AreAlike (Asked request) (Asked other) = request ≡ other
+AreAlike (Refused fault) (Refused other) = (fault ≡ other) ⊎ (IsHeadFault fault × IsHeadFault other)
+AreAlike (Asked request) (Refused fault) = ⊥
+AreAlike (Refused fault) (Asked request) = ⊥
+
+-- the bytes are a head and less than its body
+abbrev pub EndsInBody : List ℕ → Type 0
+EndsInBody bytes =
+    (head : RequestHead) × (after : List ℕ) × (len : ℕ)
+    × BeginsWithHead bytes head after × (body_length (headers_of head) ≡ Ok len) × (length after < len)
+
+-- the bytes are less than a request, which may still come
+abbrev pub IsUnfinished : List ℕ → Type 0
+IsUnfinished bytes =
+    ((length bytes < head_limit) × HasNoRequest bytes × MayBecomeRequest bytes) ⊎ EndsInBody bytes

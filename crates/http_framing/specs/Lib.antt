@@ -1,0 +1,9 @@
+pub mod Headers
+pub mod Body
+pub mod Request
+pub mod Refusal
+pub mod Input
+pub mod Front
+pub mod Occurs
+pub use Rattle.httparse.specs.Grammar
+pub use Rattle.httparse.specs.Spans

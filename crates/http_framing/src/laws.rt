@@ -1,0 +1,73 @@
+//! What holds of every input, however it is read.
+
+ghost use Rattle.std.specs.Prelude.{◌≡◌, ℕ, ◌+◌, ◌<◌, ◌≤◌, List, [], ◌∷◌, ◌++◌, length, IsUtf8};
+ghost use Rattle.std.specs.List.{AllZip};
+ghost use Rattle.http_framing.specs.Request.{Request, BeginsWithRequest};
+ghost use Rattle.http_framing.specs.Input.{request_limit, Item, Begins, Splits, AreOpen, AreAlike, IsUnfinished};
+ghost use Rattle.http_framing.specs.Front.{IsFrontOf};
+ghost use Rattle.http_framing.specs.Refusal.{head_window, IsRefused, HasEitherFault, HasTarget};
+
+use crate::FramingFault;
+use crate::front::Front;
+
+/// Two readings of an input that have as many items are the same, but that a head may be refused
+/// for either of two faults.
+pub fn one_reading()
+    ensures { (bytes : List ℕ) (items others : List Item) (rest after : List ℕ)
+        → Splits bytes items rest → Splits bytes others after → length items ≡ length others
+        → AllZip AreAlike items others × (rest ≡ after) }
+{}
+
+/// A head is refused for either of two faults only where it has too many headers, or where its
+/// target does not end in the first [`HEAD_LIMIT`](crate::HEAD_LIMIT) bytes.
+pub fn either_fault()
+    ensures { (bytes : List ℕ) → IsRefused bytes FramingFault.Head
+        → IsRefused bytes FramingFault.LargeHead → HasEitherFault bytes }
+{}
+
+/// What an input begins with stays there when more bytes have come.
+pub fn more_input()
+    ensures request { (bytes more : List ℕ) (request : Request) (after : List ℕ)
+        → BeginsWithRequest bytes request after
+        → BeginsWithRequest (bytes ++ more) request (after ++ more) }
+    ensures refused { (bytes more : List ℕ) (fault : FramingFault)
+        → IsRefused bytes fault → IsRefused (bytes ++ more) fault }
+    ensures reading { (bytes more : List ℕ) (items : List Item) (rest : List ℕ)
+        → AreOpen items → Splits bytes items rest
+        → Splits (bytes ++ more) items (rest ++ more) }
+{}
+
+/// A reading goes on with what the rest begins with.
+pub fn next_item()
+    ensures { (bytes : List ℕ) (items : List Item) (rest : List ℕ) (item : Item) (after : List ℕ)
+        → AreOpen items → Splits bytes items rest → Begins rest item after
+        → Splits bytes (items ++ item ∷ []) after }
+{}
+
+/// A request takes some bytes, and at most [`REQUEST_LIMIT`](crate::REQUEST_LIMIT).
+pub fn request_size()
+    ensures some { (bytes : List ℕ) (request : Request) (after : List ℕ)
+        → BeginsWithRequest bytes request after → length after < length bytes }
+    ensures limit { (bytes : List ℕ) (request : Request) (after : List ℕ)
+        → BeginsWithRequest bytes request after
+        → length bytes ≤ length after + request_limit }
+{}
+
+/// Bytes are unfinished where a request is cut, and then no request begins them.
+pub fn cut_request()
+    ensures cut { (bytes more : List ℕ) (request : Request) (after : List ℕ)
+        → BeginsWithRequest (bytes ++ more) request after → length after < length more
+        → IsUnfinished bytes }
+    ensures not_whole { (bytes : List ℕ) (request : Request) (after : List ℕ)
+        → IsUnfinished bytes → BeginsWithRequest bytes request after → ⊥ }
+    ensures limit { (bytes : List ℕ) → IsUnfinished bytes → length bytes < request_limit }
+{}
+
+/// The target of a request is text; a request line whose target is not text can be of no head.
+pub fn text_targets()
+    ensures text { (bytes : List ℕ) (request : Request) (after : List ℕ)
+        → BeginsWithRequest bytes request after → IsUtf8 request.target }
+    ensures not_text { (bytes target : List ℕ) (front : Front)
+        → HasTarget (head_window bytes) target → ¬ (IsUtf8 target)
+        → IsFrontOf bytes front → front ≡ Front.Refused FramingFault.Head }
+{}

@@ -1,0 +1,64 @@
+-- Which route a path has, and which methods a route takes.
+use Rattle.std.specs.Prelude.{ℕ, ◌&&◌, ◌||◌, ◌==◌, Bool, false, List, [], ◌∷◌, length, take, drop, not, nat_lt, Option, option_map, codes}
+use Rattle.std.specs.List.{find, list_any}
+use Rattle.std.specs.Str.{bytes_eq}
+use Rattle.http_routes.specs.declared.Route.{Route}
+use Rattle.http_routes.specs.declared.Route.TheVariants as route
+use Rattle.http_routes.specs.declared.Method.{Method}
+use Rattle.http_routes.specs.declared.Method.TheVariants as method
+
+-- the paths of a route: one path, or all that go on after a front with the segment of an id
+pub data Pattern : Type 0 where
+  Plain : List ℕ → Pattern
+  WithId : List ℕ → Pattern
+
+-- the routes with their paths; where a path fits several, the first counts
+abbrev pub routes : List (Pattern × Route)
+routes =
+    (WithId (codes "/db/"), route.Document)
+    ∷ (Plain (codes "/"), route.Root) ∷ []
+
+-- the methods of a route, in the order in which a response lists them
+abbrev pub methods_of : Route → List Method
+methods_of route.Root = method.Get ∷ []
+methods_of route.Document = method.Get ∷ method.Put ∷ []
+
+-- the name of a method
+abbrev pub name_of : Method → List ℕ
+name_of method.Get = codes "GET"
+name_of method.Put = codes "PUT"
+
+-- the methods of all routes
+abbrev pub methods : List Method
+methods = method.Get ∷ method.Put ∷ []
+
+-- the method of this name
+abbrev pub method_named : List ℕ → Option Method
+method_named name = find (λ m. bytes_eq (name_of m) name) methods
+
+-- b'/'
+abbrev pub slash : ℕ
+slash = 47
+
+-- one segment that is not empty: there are bytes, and no slash among them
+abbrev pub is_segment : List ℕ → Bool
+is_segment text = nat_lt 0 (length text) && not (list_any (λ byte. byte == slash) text)
+
+-- the path is one of the pattern's
+abbrev pub fits : Pattern → List ℕ → Bool
+fits (Plain text) path = bytes_eq text path
+fits (WithId front) path = bytes_eq front (take (length front) path) && is_segment (drop (length front) path)
+
+-- the route of a path
+abbrev pub route_of : List ℕ → Option Route
+route_of path = option_map (λ row. row.1) (find (λ row. fits row.0 path) routes)
+
+-- two slashes stand side by side, or one at the end
+abbrev pub has_empty_segment : List ℕ → Bool
+has_empty_segment [] = false
+has_empty_segment (byte ∷ []) = byte == slash
+has_empty_segment (byte ∷ next ∷ path) = (byte == slash && next == slash) || has_empty_segment (next ∷ path)
+
+-- the paths of routes that have an empty segment
+abbrev pub ended_paths : List (List ℕ)
+ended_paths = codes "/" ∷ []

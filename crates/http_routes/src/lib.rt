@@ -1,0 +1,147 @@
+#![tactic(auto)]
+//! Which route a path has, and which methods a route takes.
+//!
+//! A route is one path, or all paths that end in the segment of an id. To add one takes its variant
+//! of [`Route`], its row of the table, here and in `specs/Routes.antt`, and its methods; the proofs
+//! are over any table.
+
+ghost use Rattle.std.specs.Prelude.{◌≡◌, ℕ, List, None, true, false, IfOk};
+ghost use Rattle.std.specs.List.{list_any};
+ghost use Rattle.std.specs.Str.{bytes_eq};
+ghost use Rattle.http_routes.specs.Rows.{rows_of};
+ghost use Rattle.http_routes.specs.Routes.{name_of, method_named, methods_of, route_of, has_empty_segment, ended_paths};
+
+use matchit::Router;
+use std::alloc::{AllocError, Global};
+use std::marker::Model;
+
+/// What a path leads to.
+#[derive(Clone, Copy, Debug, PartialEq, Eq)]
+pub enum Route {
+    /// `/`
+    Root,
+    /// `/db/ID`
+    Document,
+}
+
+/// A method of some route.
+#[derive(Clone, Copy, Debug, PartialEq, Eq)]
+pub enum Method {
+    Get,
+    Put,
+}
+
+/// The methods of all routes.
+const METHODS: [Method; 2] = [Method::Get, Method::Put];
+
+impl Method {
+    /// The method of this name, which is told apart by case.
+    pub fn from_name(name: &[u8]) -> Option<Method>
+        ensures { result ≡ method_named name.now }
+    {
+        METHODS
+            .iter()
+            .copied()
+            .find(|method| method.name().as_bytes() == name)
+    }
+
+    /// The name, as a request and `Allow` write it.
+    pub fn name(self) -> &'static str
+        ensures { result.now ≡ name_of self }
+    {
+        match self {
+            Method::Get => "GET",
+            Method::Put => "PUT",
+        }
+    }
+}
+
+impl Route {
+    /// The methods that the route takes, in the order in which a response lists them.
+    pub fn methods(self) -> &'static [Method]
+        ensures { result.now ≡ methods_of self }
+    {
+        match self {
+            Route::Root => &[Method::Get],
+            Route::Document => &[Method::Get, Method::Put],
+        }
+    }
+}
+
+/// The paths of the routes, as `matchit` writes them.
+const TABLE: [(&str, Route); 2] = [("/", Route::Root), ("/db/{id}", Route::Document)];
+
+/// The routes, ready to be looked up.
+#[derive(Drop)]
+pub struct Routes {
+    router: Router<Route>,
+}
+
+impl Model for Routes {
+    ghost use Rattle.std.specs.Prelude.{◌≡◌, ⊤};
+    ghost use Rattle.http_routes.specs.Rows.{table};
+
+    ghost Value = { ⊤ };
+
+    ghost view = { λ _. tt };
+
+    ghost invariant = { λ r. r.router ≡ table };
+}
+
+/// A router of these paths.
+fn router_of(alloc: Global, paths: &[(&str, Route)]) -> Result<Router<Route>, AllocError>
+    ensures { IfOk result (λ router. router ≡ rows_of paths.now) }
+{
+    let mut router = Router::new(alloc);
+    for (path, route) in paths {
+        // No two paths of the table conflict, so that this is want of memory.
+        if router.insert(path, *route).is_err() {
+            return Err(AllocError);
+        }
+    }
+    Ok(router)
+}
+
+impl Routes {
+    /// Builds the router.
+    pub fn new(alloc: Global) -> Result<Routes, AllocError> {
+        let router = router_of(alloc, &TABLE)?;
+        Ok(Routes { router })
+    }
+
+    /// The route of a path.
+    pub fn at(&self, path: &str) -> Option<Route>
+        ensures { result ≡ route_of path.now }
+    {
+        match self.router.at(path) {
+            Ok(found) => Some(*found.value),
+            Err(_) => None,
+        }
+    }
+}
+
+/// A path with an empty segment has no route, but for `/`.
+pub fn empty_segments()
+    ensures { (path : List ℕ) → has_empty_segment path ≡ true → list_any (bytes_eq path) ended_paths ≡ false
+        → route_of path ≡ None }
+{}
+
+#[cfg(test)]
+mod tests {
+    use super::*;
+    use std::test::Fail;
+
+    #[test]
+    fn paths_and_their_routes(rt: HostRuntime) -> Result<(), Fail> {
+        let routes = Routes::new(rt.alloc())?;
+        assert_eq!(rt; routes.at("/"), Some(Route::Root));
+        assert_eq!(rt; routes.at("/db/a%2Fb"), Some(Route::Document));
+        assert_eq!(rt; routes.at("/db/_changes"), Some(Route::Document));
+        for path in [
+            "", "//", "/db//", "/db//a", "/db/a/", "/db/a/b", "/dba", "db/a",
+        ] {
+            assert_eq!(rt; routes.at(path), None);
+        }
+        Ok(())
+    }
+}

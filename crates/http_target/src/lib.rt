@@ -1,0 +1,35 @@
+#![tactic(auto)]
+//! What a request target says: a path, whose segments are percent-encoded, and a query string,
+//! whose parameters are those of a form.
+
+pub mod query;
+pub mod segment;
+pub mod value;
+
+ghost use Rattle.std.specs.Prelude.{◌≡◌};
+ghost use Rattle.http_target.specs.Target.{path_of, query_of, last_segment};
+
+/// The path and the query string of a target, which the first `?` parts; without one the query
+/// string is empty.
+pub fn split_target(target: &str) -> (&str, &str)
+    ensures path { result.0.now ≡ path_of target.now }
+    ensures query { result.1.now ≡ query_of target.now }
+{
+    match target.split_once('?') {
+        Some((path, query)) => (path, query),
+        None => (target, ""),
+    }
+}
+
+/// The last segment of a path: what stands after its last `/`, still encoded.
+pub fn last_segment(path: &str) -> &str
+    ensures { result.now ≡ last_segment path.now }
+{
+    match path.rsplit_once('/') {
+        Some((_, segment)) => segment,
+        None => path,
+    }
+}
+
+#[cfg(test)]
+mod tests;

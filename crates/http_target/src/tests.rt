@@ -1,0 +1,33 @@
+use crate::query::find_parameter;
+use crate::segment::{SegmentFault, decode_segment};
+use crate::{last_segment, split_target};
+use std::test::Fail;
+
+#[test]
+fn a_target_in_its_parts(rt: HostRuntime) -> Result<(), Fail> {
+    let target = "/db/caf%C3%A9%2f1?rev=1-a&open_revs=%5B%222-b%22%5D&rev=2&q=a+b%2B";
+    let (path, query) = split_target(target);
+    assert_eq!(rt; path, "/db/caf%C3%A9%2f1");
+    let id = decode_segment(rt.alloc(), last_segment(path))
+        .ok()
+        .ok_or("memory")?;
+    assert_eq!(rt; id.as_str(), "café/1");
+    let rev = find_parameter(rt.alloc(), query, "rev")?.ok_or("rev")?;
+    assert_eq!(rt; rev.as_str(), "1-a");
+    let revs = find_parameter(rt.alloc(), query, "open_revs")?.ok_or("open_revs")?;
+    assert_eq!(rt; revs.as_str(), "[\"2-b\"]");
+    let plus = find_parameter(rt.alloc(), query, "q")?.ok_or("q")?;
+    assert_eq!(rt; plus.as_str(), "a b+");
+    assert!(rt; find_parameter(rt.alloc(), query, "limit")?.is_none());
+    Ok(())
+}
+
+#[test]
+fn a_segment_that_is_no_text(rt: HostRuntime) {
+    assert!(rt;
+        matches!(
+            decode_segment(rt.alloc(), "%FF"),
+            Err(SegmentFault::NotText)
+        )
+    );
+}

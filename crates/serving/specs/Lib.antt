@@ -1,0 +1,3 @@
+pub mod Turn
+pub mod Served
+pub mod Kept

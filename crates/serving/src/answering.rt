@@ -1,0 +1,60 @@
+//! What answers requests.
+
+ghost use Rattle.std.specs.Prelude.{◌≡◌, IfOk};
+ghost use Rattle.streams.specs.Counts.{CountsFailure};
+ghost use Rattle.streams.specs.Writes.{Writes};
+ghost use Rattle.http_framing.specs.Input.{Asked, Refused};
+ghost use Rattle.serving.specs.Turn.{Turn, TakesTurn};
+
+use http_framing::FramingFault;
+use http_framing::request::Request;
+use streams::{Failed, Sink, write_all};
+
+/// What answers the requests of a connection, in a context that stays the same.
+///
+/// It is lent the writer: a response may be one text, or be written in pieces as they come about.
+/// Its own want of memory is a response too, of a text that takes none, after which the connection
+/// closes.
+pub trait Service<C> {
+    /// In this context it goes from one state to the next by this turn.
+    ghost answers: { C → Self → Turn → Self → Type 0 };
+
+    /// Writes the response to a request, and answers whether the connection closes after it, as it
+    /// does where the request asks for that.
+    fn answer<W: Sink>(
+        &mut self,
+        context: &C,
+        request: &Request<'_>,
+        writer: &mut W,
+    ) -> Result<bool, Failed>
+        ensures turn { (turn : Turn)
+            × TakesTurn (answers context.now) self.old self.new (Asked request.now) turn
+            × Writes (W.taken writer.old) (W.taken writer.new) result turn.text
+            × IfOk result (λ closes. closes ≡ turn.closes) }
+        ensures failures { CountsFailure (W.failed_writes writer.old)
+            (W.failed_writes writer.new) result };
+
+    /// Writes the response to bytes that are refused, after which the connection closes.
+    fn refuse<W: Sink>(
+        &mut self,
+        context: &C,
+        fault: FramingFault,
+        writer: &mut W,
+    ) -> Result<(), Failed>
+        ensures turn { (turn : Turn)
+            × TakesTurn (answers context.now) self.old self.new (Refused fault) turn
+            × Writes (W.taken writer.old) (W.taken writer.new) result turn.text }
+        ensures failures { CountsFailure (W.failed_writes writer.old)
+            (W.failed_writes writer.new) result };
+}
+
+/// Writes a response that is at hand, and passes on whether the connection closes after it.
+pub fn write_response<W: Sink>(writer: &mut W, text: &[u8], closes: bool) -> Result<bool, Failed>
+    ensures written { Writes (W.taken writer.old) (W.taken writer.new) result text.now }
+    ensures closes { IfOk result (λ c. c ≡ closes) }
+    ensures failures { CountsFailure (W.failed_writes writer.old)
+        (W.failed_writes writer.new) result }
+{
+    write_all(writer, text)?;
+    Ok(closes)
+}

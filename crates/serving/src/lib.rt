@@ -1,0 +1,17 @@
+#![tactic(auto)]
+//! Serving the requests of a connection, from a source to a sink.
+//!
+//! [`serve`] cuts what it reads into requests and has a [`Service`] answer each of them as soon as
+//! it is whole, in order.
+
+mod answering;
+mod outcome;
+mod turns;
+mod window;
+
+pub use answering::{Service, write_response};
+pub use outcome::{Cause, Ended};
+pub use turns::serve;
+
+#[cfg(test)]
+mod tests;

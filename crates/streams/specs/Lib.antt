@@ -1,0 +1,4 @@
+pub mod Counts
+pub mod Stream
+pub mod Writes
+pub mod Script

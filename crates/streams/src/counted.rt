@@ -1,0 +1,98 @@
+//! Readers and writers of `std` whose failures are counted.
+
+ghost use Rattle.std.specs.Prelude.{◌≡◌, ◌-◌, ◌<◌, ◌^◌};
+ghost use Rattle.streams.specs.Counts.{CountRose};
+
+use crate::traits::{Failed, Sink, Source};
+use std::io::{Read, Write};
+
+/// A reader or a writer of `std` as a source or a sink.
+///
+/// It gives at most 2^64 - 1 bytes, and fails from then on. A write that takes nothing is a
+/// failure, and so is a call that was interrupted. It does not flush, so a writer that keeps bytes
+/// back delays them.
+#[derive(Debug, Drop)]
+pub struct Stream<T> {
+    inner: T,
+    failures: u64,
+    budget: u64,
+    ghost countable: { budget < 2 ^ 64 },
+}
+
+impl<T> Stream<T> {
+    ghost use Rattle.streams.specs.Stream.{inner_of, failures_of, budget_of};
+
+    pub fn new(inner: T) -> Stream<T>
+        ensures inner { inner_of result ≡ inner }
+        ensures failures { failures_of result ≡ 0 }
+        ensures budget { budget_of result ≡ 2 ^ 64 - 1 }
+    {
+        Stream {
+            inner,
+            failures: 0,
+            budget: u64::MAX,
+        }
+    }
+
+    pub fn into_inner(self) -> T
+        ensures { result ≡ inner_of self }
+    {
+        let Stream { inner, .. } = self;
+        inner
+    }
+
+    /// Counts a failure.
+    fn fail(&mut self) -> Failed
+        ensures inner { inner_of self.new ≡ inner_of self.old }
+        ensures failures { CountRose (failures_of self.old) (failures_of self.new) }
+        ensures budget { budget_of self.new ≡ budget_of self.old }
+    {
+        self.failures = self.failures.saturating_add(1);
+        Failed
+    }
+}
+
+impl<R: Read> Source for Stream<R> {
+    ghost left = { λ s. R.remaining s.inner };
+
+    ghost failed_reads = { λ s. s.failures };
+
+    ghost budget = { λ s. s.budget };
+
+    ghost is_countable = { λ s. s.countable };
+
+    fn read(&mut self, buf: &mut [u8]) -> Result<usize, Failed> {
+        if self.budget == 0 {
+            return Err(self.fail());
+        }
+        let room = buf.len().min(self.budget as usize);
+        match self.inner.read(&mut buf[..room]) {
+            Ok(n) => {
+                self.budget -= n as u64;
+                Ok(n)
+            }
+            Err(_) => Err(self.fail()),
+        }
+    }
+
+    fn failures(&self) -> u64 {
+        self.failures
+    }
+}
+
+impl<W: Write> Sink for Stream<W> {
+    ghost taken = { λ s. W.contents s.inner };
+
+    ghost failed_writes = { λ s. s.failures };
+
+    fn write(&mut self, buf: &[u8]) -> Result<usize, Failed> {
+        match self.inner.write(buf) {
+            Ok(0) | Err(_) => Err(self.fail()),
+            Ok(n) => Ok(n),
+        }
+    }
+
+    fn failures(&self) -> u64 {
+        self.failures
+    }
+}

@@ -1,0 +1,14 @@
+#![tactic(auto)]
+//! Where the bytes of a connection come from and go to.
+//!
+//! A [`Source`] and a [`Sink`] count their failures, so that what ended a connection can be told
+//! from them, and tell contracts which bytes they gave and took where those are known.
+
+mod counted;
+pub mod scripted;
+mod traits;
+mod writes;
+
+pub use counted::Stream;
+pub use traits::{Failed, Sink, Source};
+pub use writes::write_all;
