@@ -1,0 +1,231 @@
+//! The shared map beside Rust's `BTreeMap`: how long its calls take, and how often they grow.
+//!
+//! `times` prints times, and `growths` counts the growths of the last of 1,000 insertions by
+//! refusing each in turn. The library takes its memory by `rattle_alloc` and `rattle_dealloc`
+//! below, so this program counts and refuses its growths.
+
+use std::collections::BTreeMap;
+use std::ffi::c_void;
+use std::hint::black_box;
+use std::process::ExitCode;
+use std::ptr::NonNull;
+use std::sync::atomic::{AtomicU64, Ordering::Relaxed};
+use std::time::Duration;
+
+unsafe extern "C" {
+    fn shared_map_insert(keys: *const u64, len: usize) -> u64;
+    fn shared_map_remove(keys: *const u64, len: usize, asked: *const u64, asked_len: usize) -> u64;
+    fn shared_map_get(keys: *const u64, len: usize, asked: *const u64, asked_len: usize) -> u64;
+    fn shared_map_count_from(
+        keys: *const u64,
+        len: usize,
+        asked: *const u64,
+        asked_len: usize,
+    ) -> u64;
+    fn shared_map_walk(keys: *const u64, len: usize, walks: u32) -> u64;
+
+    fn malloc(size: usize) -> *mut c_void;
+    fn free(block: *mut c_void);
+    fn clock_gettime(clock: i32, time: &mut Timespec) -> i32;
+}
+
+#[repr(C)]
+#[derive(Default)]
+struct Timespec {
+    seconds: i64,
+    nanoseconds: i64,
+}
+
+/// The processor time that this thread has used, so that other work on the machine counts little.
+fn used() -> Duration {
+    const THREAD_CPUTIME: i32 = 3;
+    let mut time = Timespec::default();
+    assert_eq!(unsafe { clock_gettime(THREAD_CPUTIME, &mut time) }, 0);
+    Duration::new(time.seconds as u64, time.nanoseconds as u32)
+}
+
+/// What a run of the library answers that was refused memory.
+const REFUSED: u64 = u64::MAX;
+
+static GROWTHS: AtomicU64 = AtomicU64::new(0);
+
+/// The growth that is refused, counted from 1; 0 refuses none.
+static REFUSE: AtomicU64 = AtomicU64::new(0);
+
+/// Whether the library got a block, and which.
+#[repr(C)]
+pub struct Grown {
+    ok: bool,
+    block: NonNull<c_void>,
+}
+
+#[unsafe(no_mangle)]
+pub extern "C" fn rattle_alloc(size: usize, _align: usize) -> Grown {
+    let growth = GROWTHS.load(Relaxed) + 1;
+    GROWTHS.store(growth, Relaxed);
+    let block = if growth == REFUSE.load(Relaxed) {
+        None
+    } else {
+        NonNull::new(unsafe { malloc(size) })
+    };
+    Grown {
+        ok: block.is_some(),
+        block: block.unwrap_or(NonNull::dangling()),
+    }
+}
+
+/// # Safety
+/// The block came from `rattle_alloc`.
+#[unsafe(no_mangle)]
+pub unsafe extern "C" fn rattle_dealloc(block: *mut c_void) {
+    unsafe { free(block) }
+}
+
+/// A run that inserts the keys and refuses one growth: its answer, and how often it grew.
+fn insert(keys: &[u64], refuse: u64) -> (u64, u64) {
+    GROWTHS.store(0, Relaxed);
+    REFUSE.store(refuse, Relaxed);
+    let answer = unsafe { shared_map_insert(keys.as_ptr(), keys.len()) };
+    REFUSE.store(0, Relaxed);
+    (answer, GROWTHS.load(Relaxed))
+}
+
+/// Counts the growths of the last of 1,000 insertions: each that is refused is an error.
+fn growths() -> ExitCode {
+    let keys: Vec<u64> = (0..1000).collect();
+    let (_, before) = insert(&keys[..999], 0);
+    let (height, _) = insert(&keys, 0);
+    let met = (1..)
+        .take_while(|n| insert(&keys, before + n).0 == REFUSED)
+        .count() as u64;
+    let most = 8 * (height + 1);
+    println!("the last of 1,000 insertions meets {met} growths, and may meet {most}");
+    if 0 < met && met <= most {
+        ExitCode::SUCCESS
+    } else {
+        ExitCode::FAILURE
+    }
+}
+
+/// The keys 0 to `len - 1` in an order that looks random.
+fn shuffled(len: u64) -> Vec<u64> {
+    let mut keys: Vec<u64> = (0..len).collect();
+    let mut state = 0x2545_f491_4f6c_dd1d_u64;
+    for i in (1..keys.len()).rev() {
+        state ^= state << 13;
+        state ^= state >> 7;
+        state ^= state << 17;
+        keys.swap(i, (state % (i as u64 + 1)) as usize);
+    }
+    keys
+}
+
+/// The least of several times of a run, in nanoseconds.
+fn least(mut run: impl FnMut() -> u64) -> f64 {
+    let times = (0..9).map(|_| {
+        let start = used();
+        black_box(run());
+        (used() - start).as_nanos() as f64
+    });
+    times.fold(f64::INFINITY, f64::min)
+}
+
+fn tree_of(keys: &[u64]) -> BTreeMap<u64, u64> {
+    let mut map = BTreeMap::new();
+    for key in keys {
+        map.insert(*key, *key);
+    }
+    map
+}
+
+fn times_at(len: u64) {
+    let keys = shuffled(len);
+    // As many calls at each length, and few of those whose time grows with the length.
+    let asked: Vec<u64> = keys.iter().copied().cycle().take(1_000_000).collect();
+    let few = &keys[..200];
+    let walks = (10_000_000 / len) as u32;
+
+    let (at, n) = (keys.as_ptr(), keys.len());
+    let insert = least(|| unsafe { shared_map_insert(at, n) });
+    let remove = least(|| unsafe { shared_map_remove(at, n, at, n) });
+    let get = least(|| unsafe { shared_map_get(at, n, asked.as_ptr(), asked.len()) });
+    let count = least(|| unsafe { shared_map_count_from(at, n, asked.as_ptr(), asked.len()) });
+    let walk = least(|| unsafe { shared_map_walk(at, n, walks) });
+
+    let map = tree_of(&keys);
+    let tree_insert = least(|| tree_of(&keys).len() as u64);
+    let tree_remove = least(|| {
+        let mut map = tree_of(&keys);
+        for key in &keys {
+            map.remove(key);
+        }
+        map.len() as u64
+    });
+    let tree_get = least(|| asked.iter().filter_map(|key| map.get(key)).sum());
+    let tree_count = least(|| few.iter().map(|key| map.range(key..).count() as u64).sum());
+    let tree_walk = least(|| {
+        (0..walks)
+            .map(|_| black_box(&map).values().sum::<u64>())
+            .sum()
+    });
+    let tree_copy = least(|| {
+        for key in few {
+            black_box(map.clone()).insert(*key, 0);
+        }
+        few.len() as u64
+    });
+
+    println!(
+        "\n{len} keys\n\n| Call | shared map, ns | `BTreeMap`, ns | ratio |\n|---|---|---|---|"
+    );
+    let row = |call: &str, shared: f64, tree: f64| {
+        println!(
+            "| {call} | {shared:.0} | {tree:.0} | {:.2} |",
+            shared / tree
+        );
+    };
+    let each = len as f64;
+    row("`insert`", insert / each, tree_insert / each);
+    row(
+        "`insert`, the older map kept",
+        insert / each,
+        tree_copy / few.len() as f64,
+    );
+    row(
+        "`remove`",
+        (remove - insert) / each,
+        (tree_remove - tree_insert) / each,
+    );
+    row(
+        "`get`",
+        (get - insert) / asked.len() as f64,
+        tree_get / asked.len() as f64,
+    );
+    let walked = f64::from(walks) * each;
+    row(
+        "a walk, for each entry",
+        (walk - insert) / walked,
+        tree_walk / walked,
+    );
+    row(
+        "`count_from`",
+        (count - insert) / asked.len() as f64,
+        tree_count / few.len() as f64,
+    );
+    let (height, growths) = self::insert(&keys, 0);
+    println!(
+        "\nheight {height}, growths for each insertion {:.1}",
+        growths as f64 / each
+    );
+}
+
+fn main() -> ExitCode {
+    match std::env::args().nth(1).as_deref() {
+        Some("growths") => growths(),
+        _ => {
+            times_at(1_000);
+            times_at(100_000);
+            ExitCode::SUCCESS
+        }
+    }
+}

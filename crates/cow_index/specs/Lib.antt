@@ -1,0 +1,6 @@
+pub mod CowMap
+pub mod Entries
+pub mod Height
+pub mod NodeMaker
+pub mod Path
+pub mod Tree

@@ -1,0 +1,17 @@
+//! A shared ordered map: each call that changes one key gives a new map, which shares with the
+//! older one all that it did not change, and the older map stays as it was.
+#![tactic(auto)]
+
+pub use key::IndexKey;
+pub use map::CowMap;
+pub use shared::Shared;
+pub use walk::Range;
+
+mod key;
+mod map;
+mod nodes;
+mod shared;
+#[cfg(test)]
+mod tests;
+mod tree;
+mod walk;

@@ -1,0 +1,176 @@
+// The making of nodes: balanced trees from two sides and the entry between them.
+ghost use Rattle.std.specs.Prelude.{◌≡◌, ◌+◌, ◌*◌, ◌^◌, ◌<◌, ◌≤◌, max, ◌∷◌, ◌++◌, IfOk, OnOk, length, drop};
+ghost use Rattle.cow_index.specs.Tree.{pair_of};
+ghost use Rattle.cow_index.specs.NodeMaker.{MakesAtMost};
+ghost use Rattle.cow_index.specs.Height.{DifferByAtMost, IsHeightAfterRebalance};
+
+use crate::tree::{Entry, Node, Tree};
+use std::alloc::{AllocError, Global};
+use std::sync::Arc;
+
+/// Makes the nodes of one call on a map, and counts them.
+#[derive(Drop)]
+pub(crate) struct NodeMaker {
+    alloc: Global,
+    pub(crate) made: u64,
+}
+
+impl NodeMaker {
+    pub(crate) fn new(alloc: Global) -> Self
+        ensures { result.made ≡ 0 }
+    {
+        NodeMaker { alloc, made: 0 }
+    }
+
+    /// The one function that makes a node: the two sides are shared, and so is the entry.
+    pub(crate) fn make<K: Drop, V: Drop>(
+        &mut self,
+        left: &Tree<K, V>,
+        entry: &Arc<Entry<K, V>>,
+        right: &Tree<K, V>,
+    ) -> Result<Tree<K, V>, AllocError>
+        requires level { DifferByAtMost 1 left.now.1 right.now.1 }
+        requires fits { length left.now.0 + length right.now.0 + 1 < 2 ^ 64 }
+        requires counts { self.old.made + 1 < 2 ^ 64 }
+        ensures entries { IfOk result (λ t. t.0 ≡ left.now.0 ++ pair_of entry.now ∷ right.now.0) }
+        ensures height { IfOk result (λ t. t.1 ≡ max left.now.1 right.now.1 + 1) }
+        ensures counted { OnOk result (self.new.made ≡ self.old.made + 1) }
+        ensures few { MakesAtMost 1 self.old self.new }
+    {
+        let node = Node {
+            left: left.share()?,
+            entry: Arc::try_clone(entry)?,
+            right: right.share()?,
+            height: left.height().max(right.height()) + 1,
+            len: left.len() + right.len() + 1,
+        };
+        let root = Arc::new(self.alloc, node)?;
+        self.made += 1;
+        Ok(Tree { root: Some(root) })
+    }
+
+    // The left side is two levels higher.
+    fn lean_left<K: Drop, V: Drop>(
+        &mut self,
+        left: &Tree<K, V>,
+        entry: &Arc<Entry<K, V>>,
+        right: &Tree<K, V>,
+    ) -> Result<Tree<K, V>, AllocError>
+        requires two_higher { left.now.1 ≡ right.now.1 + 2 }
+        requires fits { length left.now.0 + length right.now.0 + 1 < 2 ^ 64 }
+        requires counts { self.old.made + 3 < 2 ^ 64 }
+        ensures entries { IfOk result (λ t. t.0 ≡ left.now.0 ++ pair_of entry.now ∷ right.now.0) }
+        ensures height { IfOk result (λ t. (left.now.1 ≤ t.1) × (t.1 ≤ left.now.1 + 1)) }
+        ensures some { OnOk result (self.old.made < self.new.made) }
+        ensures few { MakesAtMost 3 self.old self.new }
+    {
+        let Some(node) = left.node() else {
+            unreachable!()
+        };
+        if node.left.height() >= node.right.height() {
+            let right = self.make(&node.right, entry, right)?;
+            return self.make(&node.left, &node.entry, &right);
+        }
+        let Some(middle) = node.right.node() else {
+            unreachable!()
+        };
+        let left = self.make(&node.left, &node.entry, &middle.left)?;
+        let right = self.make(&middle.right, entry, right)?;
+        self.make(&left, &middle.entry, &right)
+    }
+
+    // The right side is two levels higher.
+    fn lean_right<K: Drop, V: Drop>(
+        &mut self,
+        left: &Tree<K, V>,
+        entry: &Arc<Entry<K, V>>,
+        right: &Tree<K, V>,
+    ) -> Result<Tree<K, V>, AllocError>
+        requires two_higher { right.now.1 ≡ left.now.1 + 2 }
+        requires fits { length left.now.0 + length right.now.0 + 1 < 2 ^ 64 }
+        requires counts { self.old.made + 3 < 2 ^ 64 }
+        ensures entries { IfOk result (λ t. t.0 ≡ left.now.0 ++ pair_of entry.now ∷ right.now.0) }
+        ensures height { IfOk result (λ t. (right.now.1 ≤ t.1) × (t.1 ≤ right.now.1 + 1)) }
+        ensures some { OnOk result (self.old.made < self.new.made) }
+        ensures few { MakesAtMost 3 self.old self.new }
+    {
+        let Some(node) = right.node() else {
+            unreachable!()
+        };
+        if node.right.height() >= node.left.height() {
+            let left = self.make(left, entry, &node.left)?;
+            return self.make(&left, &node.entry, &node.right);
+        }
+        let Some(middle) = node.left.node() else {
+            unreachable!()
+        };
+        let left = self.make(left, entry, &middle.left)?;
+        let right = self.make(&middle.right, &node.entry, &node.right)?;
+        self.make(&left, &middle.entry, &right)
+    }
+
+    /// A tree over sides whose heights differ by at most two.
+    pub(crate) fn balance<K: Drop, V: Drop>(
+        &mut self,
+        left: &Tree<K, V>,
+        entry: &Arc<Entry<K, V>>,
+        right: &Tree<K, V>,
+    ) -> Result<Tree<K, V>, AllocError>
+        requires level { DifferByAtMost 2 left.now.1 right.now.1 }
+        requires fits { length left.now.0 + length right.now.0 + 1 < 2 ^ 64 }
+        requires counts { self.old.made + 3 < 2 ^ 64 }
+        ensures entries { IfOk result (λ t. t.0 ≡ left.now.0 ++ pair_of entry.now ∷ right.now.0) }
+        ensures height { IfOk result (λ t. IsHeightAfterRebalance left.now.1 right.now.1 t.1) }
+        ensures some { OnOk result (self.old.made < self.new.made) }
+        ensures few { MakesAtMost 3 self.old self.new }
+    {
+        let (left_height, right_height) = (left.height(), right.height());
+        if left_height > right_height.saturating_add(1) {
+            self.lean_left(left, entry, right)
+        } else if right_height > left_height.saturating_add(1) {
+            self.lean_right(left, entry, right)
+        } else {
+            self.make(left, entry, right)
+        }
+    }
+
+    /// The tree without its first entry.
+    pub(crate) fn without_first<K: Drop, V: Drop>(
+        &mut self,
+        tree: &Tree<K, V>,
+    ) -> Result<Tree<K, V>, AllocError>
+        requires counts { self.old.made + 3 * tree.now.1 < 2 ^ 64 }
+        ensures entries { IfOk result (λ t. t.0 ≡ drop 1 tree.now.0) }
+        ensures height { IfOk result (λ t. (t.1 ≤ tree.now.1) × (tree.now.1 ≤ t.1 + 1)) }
+        ensures few { MakesAtMost (3 * tree.now.1) self.old self.new }
+    {
+        let Some(node) = tree.node() else {
+            return Ok(Tree::new());
+        };
+        if node.left.len() == 0 {
+            return node.right.share();
+        }
+        let left = self.without_first(&node.left)?;
+        self.balance(&left, &node.entry, &node.right)
+    }
+
+    /// The entries of both sides, whose heights differ by at most one.
+    pub(crate) fn join<K: Drop, V: Drop>(
+        &mut self,
+        left: &Tree<K, V>,
+        right: &Tree<K, V>,
+    ) -> Result<Tree<K, V>, AllocError>
+        requires level { DifferByAtMost 1 left.now.1 right.now.1 }
+        requires fits { length left.now.0 + length right.now.0 < 2 ^ 64 }
+        requires counts { self.old.made + 3 * right.now.1 + 3 < 2 ^ 64 }
+        ensures entries { IfOk result (λ t. t.0 ≡ left.now.0 ++ right.now.0) }
+        ensures height { IfOk result (λ t. (max left.now.1 right.now.1 ≤ t.1) × (t.1 ≤ max left.now.1 right.now.1 + 1)) }
+        ensures few { MakesAtMost (3 * right.now.1 + 3) self.old self.new }
+    {
+        let Some(first) = right.first() else {
+            return left.share();
+        };
+        let rest = self.without_first(right)?;
+        self.balance(left, first, &rest)
+    }
+}

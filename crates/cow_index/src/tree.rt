@@ -1,0 +1,233 @@
+// An AVL tree over shared nodes, seen as its entries in order and its height.
+ghost use Rattle.std.specs.Prelude.{◌≡◌, ◌+◌, ◌*◌, ◌/◌, ◌^◌, ◌<◌, ◌≤◌, [], IfOk, OnOk, IfSome, IfNone, length, T, slice_get, option_map, option_copied};
+ghost use Rattle.std.specs.FinMap.Entries.{find, put, is_sorted};
+ghost use Rattle.cow_index.specs.Tree.{pair_of, IsRoot};
+ghost use Rattle.cow_index.specs.NodeMaker.{MakesAtMost};
+ghost use Rattle.cow_index.specs.Entries.{without, entries_from};
+
+use crate::key::IndexKey;
+use crate::nodes::NodeMaker;
+use std::alloc::AllocError;
+use std::cmp::Ordering;
+use std::marker::Model;
+use std::sync::Arc;
+
+/// No tree is higher, since its entries are counted in a `u64`.
+pub(crate) const MAX_HEIGHT: usize = 130;
+
+/// A key with its value. Nodes that were copied from one another share it.
+#[derive(Drop)]
+pub(crate) struct Entry<K, V> {
+    pub(crate) key: K,
+    pub(crate) value: V,
+}
+
+/// A tree, by the node at its root.
+#[cycle(tree)]
+#[derive(Drop)]
+pub(crate) struct Tree<K, V> {
+    pub(crate) root: Option<Arc<Node<K, V>>>,
+}
+
+/// An entry between two sides whose heights differ by at most one, with the height and the number
+/// of entries of it all.
+#[cycle(tree)]
+#[derive(Drop)]
+pub(crate) struct Node<K, V> {
+    pub(crate) left: Tree<K, V>,
+    pub(crate) entry: Arc<Entry<K, V>>,
+    pub(crate) right: Tree<K, V>,
+    pub(crate) height: u64,
+    pub(crate) len: u64,
+}
+
+impl<K, V> Model for Tree<K, V> {
+    ghost use Rattle.std.specs.Prelude.{ℕ, List, length};
+
+    ghost Value = { List (K × V) × ℕ };
+
+    ghost use Rattle.cow_index.specs.Tree.{seen, IsBalanced};
+
+    ghost view = { λ a. seen a.root };
+
+    ghost invariant = { λ a. IsBalanced a.root };
+
+    ghost size = { λ d. length d.0 };
+
+    ghost use Rattle.std.proofs.Common.{arith, length-append};
+
+    ghost size_decreases = { λ a h. Prim.grind (arith, length-append) };
+}
+
+impl<K: Drop, V: Drop> Tree<K, V> {
+    pub(crate) fn new() -> Self
+        ensures { result ≡ ([], 0) }
+    {
+        Tree { root: None }
+    }
+
+    /// The node at the root.
+    pub(crate) fn node(&self) -> Option<&Node<K, V>>
+        ensures root { IfSome result (λ n. IsRoot self.now n.now) }
+        ensures empty { IfNone result (self.now ≡ ([], 0)) }
+    {
+        let Some(node) = &self.root else {
+            return None;
+        };
+        let node: &Node<K, V> = node;
+        Some(node)
+    }
+
+    pub(crate) fn height(&self) -> u64
+        ensures stored { result ≡ self.now.1 }
+        ensures dense { 2 ^ (self.now.1 / 2) ≤ length self.now.0 + 1 }
+        ensures low { self.now.1 ≤ MAX_HEIGHT }
+        ensures fits { length self.now.0 < 2 ^ 64 }
+    {
+        match self.node() {
+            None => 0,
+            Some(node) => node.height,
+        }
+    }
+
+    pub(crate) fn len(&self) -> u64
+        ensures count { result ≡ length self.now.0 }
+        ensures flat { length self.now.0 ≡ 0 → self.now.1 ≡ 0 }
+    {
+        match self.node() {
+            None => 0,
+            Some(node) => node.len,
+        }
+    }
+
+    /// The same tree, by its root.
+    pub(crate) fn share(&self) -> Result<Self, AllocError>
+        ensures { IfOk result (λ t. t ≡ self.now) }
+    {
+        match &self.root {
+            None => Ok(Tree::new()),
+            Some(node) => Ok(Tree {
+                root: Some(Arc::try_clone(node)?),
+            }),
+        }
+    }
+
+    /// The entry with the least key.
+    pub(crate) fn first(&self) -> Option<&Arc<Entry<K, V>>>
+        ensures least { option_map (λ e. pair_of e.now) result ≡ slice_get self.now.0 0 }
+        ensures empty { IfNone result (self.now ≡ ([], 0)) }
+    {
+        let Some(node) = self.node() else {
+            return None;
+        };
+        match node.left.first() {
+            None => Some(&node.entry),
+            found => found,
+        }
+    }
+}
+
+impl<K: IndexKey, V> Node<K, V> {
+    /// How a key compares with the node's own.
+    pub(crate) fn compare(&self, key: &K) -> Ordering
+        ensures { result ≡ K.cmp key.now (pair_of self.now.entry).0 }
+    {
+        let entry: &Entry<K, V> = &self.entry;
+        key.cmp(&entry.key)
+    }
+}
+
+impl<K: IndexKey, V: Drop> Tree<K, V> {
+    pub(crate) fn get(&self, key: &K) -> Option<&V>
+        requires { T (is_sorted K.cmp self.now.0) }
+        ensures { option_copied result ≡ find K.cmp key.now self.now.0 }
+    {
+        let mut at = self;
+        while let Some(node) = at.node() {
+            match node.compare(key) {
+                Ordering::Less => at = &node.left,
+                Ordering::Greater => at = &node.right,
+                Ordering::Equal => {
+                    let entry: &Entry<K, V> = &node.entry;
+                    return Some(&entry.value);
+                }
+            }
+        }
+        None
+    }
+
+    /// How many keys are not below `key`.
+    pub(crate) fn count_from(&self, key: &K) -> u64
+        requires { T (is_sorted K.cmp self.now.0) }
+        ensures { result ≡ length (entries_from K.cmp key.now self.now.0) }
+    {
+        let mut count = self.len();
+        let mut at = self;
+        while let Some(node) = at.node() {
+            match node.compare(key) {
+                Ordering::Less => at = &node.left,
+                Ordering::Greater => {
+                    count -= node.left.len() + 1;
+                    at = &node.right;
+                }
+                Ordering::Equal => return count - node.left.len(),
+            }
+        }
+        count
+    }
+
+    /// The tree with the entry in its place: at a key that ties, the new one stands in for the old.
+    pub(crate) fn insert(
+        &self,
+        entry: &Arc<Entry<K, V>>,
+        nodes: &mut NodeMaker,
+    ) -> Result<Self, AllocError>
+        requires sorted { T (is_sorted K.cmp self.now.0) }
+        requires fits { length self.now.0 + 1 < 2 ^ 64 }
+        requires counts { nodes.old.made + 3 * self.now.1 + 1 < 2 ^ 64 }
+        ensures entries { IfOk result (λ t. t.0 ≡ put K.cmp (pair_of entry.now).0 (pair_of entry.now).1 self.now.0) }
+        ensures height { IfOk result (λ t. (self.now.1 ≤ t.1) × (t.1 ≤ self.now.1 + 1)) }
+        ensures some { OnOk result (nodes.old.made < nodes.new.made) }
+        ensures few { MakesAtMost (3 * self.now.1 + 1) nodes.old nodes.new }
+    {
+        let Some(node) = self.node() else {
+            return nodes.make(&Tree::new(), entry, &Tree::new());
+        };
+        let new: &Entry<K, V> = entry;
+        match node.compare(&new.key) {
+            Ordering::Less => {
+                let left = node.left.insert(entry, nodes)?;
+                nodes.balance(&left, &node.entry, &node.right)
+            }
+            Ordering::Greater => {
+                let right = node.right.insert(entry, nodes)?;
+                nodes.balance(&node.left, &node.entry, &right)
+            }
+            Ordering::Equal => nodes.make(&node.left, entry, &node.right),
+        }
+    }
+
+    /// The tree without the entry at the key, if there is one.
+    pub(crate) fn remove(&self, key: &K, nodes: &mut NodeMaker) -> Result<Self, AllocError>
+        requires sorted { T (is_sorted K.cmp self.now.0) }
+        requires counts { nodes.old.made + 3 * self.now.1 < 2 ^ 64 }
+        ensures entries { IfOk result (λ t. t.0 ≡ without K.cmp key.now self.now.0) }
+        ensures height { IfOk result (λ t. (t.1 ≤ self.now.1) × (self.now.1 ≤ t.1 + 1)) }
+        ensures few { MakesAtMost (3 * self.now.1) nodes.old nodes.new }
+    {
+        let Some(node) = self.node() else {
+            return Ok(Tree::new());
+        };
+        match node.compare(key) {
+            Ordering::Less => {
+                let left = node.left.remove(key, nodes)?;
+                nodes.balance(&left, &node.entry, &node.right)
+            }
+            Ordering::Greater => {
+                let right = node.right.remove(key, nodes)?;
+                nodes.balance(&node.left, &node.entry, &right)
+            }
+            Ordering::Equal => nodes.join(&node.left, &node.right),
+        }
+    }
+}

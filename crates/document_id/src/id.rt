@@ -1,0 +1,109 @@
+//! The identity of a document or a local document.
+ghost use Rattle.std.specs.Prelude.{◌≡◌, ◌↔◌, ◌⊎◌, ◌<◌, IfOk, Some, Err, length, refl};
+ghost use Rattle.std.specs.Cmp.{partial_equiv_from_equiv, eq_by_cmp_equiv, po};
+ghost use Rattle.std.proofs.lemmas.Cmp.{nat_list_cmp_total};
+ghost use Rattle.std.specs.Ordering.{eq_by_cmp, nat_cmp};
+ghost use Rattle.std.specs.Cmp.Lexicographic.{slice_cmp};
+ghost use Rattle.model.specs.Command.{IsId};
+ghost use Rattle.document_id.specs.declared.fault.IdFault.TheVariants.{Length};
+
+use crate::fault::IdFault;
+use cow_index::IndexKey;
+use std::alloc::{AllocError, Global};
+use std::cmp::Ordering;
+use std::marker::Model;
+use std::sync::ArcStr;
+
+/// A text of 1 to 512 bytes, shared by all that name the document.
+#[derive(Drop)]
+pub struct DocId {
+    text: ArcStr,
+}
+
+impl Model for DocId {
+    ghost use Rattle.std.specs.Arc.{arc_str_bytes};
+    ghost use Rattle.model.specs.Command.{Id, IsId};
+
+    ghost Value = { Id };
+
+    ghost view = { λ d. arc_str_bytes d.text };
+
+    ghost invariant = { λ d. IsId (arc_str_bytes d.text) };
+}
+
+impl DocId {
+    /// The identity with this text, which has 1 to 512 bytes.
+    pub fn new(alloc: Global, text: &str) -> Result<DocId, IdFault>
+        ensures id { IfOk result (λ id. id ≡ text.now) }
+        ensures length { (result ≡ Err Length) ↔ ((length text.now ≡ 0) ⊎ (512 < length text.now)) }
+    {
+        if text.is_empty() || text.len() > 512 {
+            return Err(IdFault::Length);
+        }
+        Ok(DocId {
+            text: ArcStr::from_str(alloc, text)?,
+        })
+    }
+
+    pub fn as_str(&self) -> &str
+        ensures text { result.now ≡ self.now }
+        ensures is_id { IsId self.now }
+    {
+        self.text.as_str()
+    }
+
+    /// One more owner of the same text. It grows nothing, but is refused at the largest count of
+    /// owners.
+    pub fn share(&self) -> Result<DocId, AllocError>
+        ensures same { IfOk result (λ id. id ≡ self.now) }
+    {
+        Ok(DocId {
+            text: self.text.clone()?,
+        })
+    }
+}
+
+// The order of the texts is that of their bytes.
+impl PartialEq for DocId {
+    ghost eq = { eq_by_cmp (slice_cmp nat_cmp) };
+
+    ghost laws = { partial_equiv_from_equiv (eq_by_cmp_equiv nat_list_cmp_total) };
+
+    fn eq(&self, other: &DocId) -> bool {
+        self.cmp(other) == Ordering::Equal
+    }
+}
+
+impl Eq for DocId {
+    ghost laws = { eq_by_cmp_equiv nat_list_cmp_total };
+}
+
+impl PartialOrd for DocId {
+    ghost partial_cmp = { λ x y. Some (slice_cmp nat_cmp x y) };
+
+    ghost laws = { po nat_list_cmp_total (λ x y. refl) };
+
+    fn partial_cmp(&self, other: &DocId) -> Option<Ordering> {
+        Some(self.cmp(other))
+    }
+}
+
+impl Ord for DocId {
+    ghost cmp = { slice_cmp nat_cmp };
+
+    ghost total = { nat_list_cmp_total };
+
+    ghost matches_partial_cmp = { λ x y. refl };
+
+    ghost matches_eq = { λ x y. refl };
+
+    fn cmp(&self, other: &DocId) -> Ordering {
+        self.as_str().as_bytes().cmp(other.as_str().as_bytes())
+    }
+}
+
+impl IndexKey for DocId {
+    ghost use Rattle.std.specs.FinMap.{nat_cmp-IsAntisymmetric, slice_cmp-IsAntisymmetric};
+
+    ghost exact = { slice_cmp-IsAntisymmetric nat_cmp-IsAntisymmetric };
+}

@@ -1,0 +1,33 @@
+// Identities, made with ample memory.
+use crate::{DocId, IdFault};
+use std::cmp::Ordering;
+
+#[test]
+fn texts_are_ids(rt: HostRuntime) -> Result<(), IdFault> {
+    let id = DocId::new(rt.alloc(), "caf\u{e9}")?;
+    assert!(&rt; id.as_str() == "caf\u{e9}");
+    let shared = id.share()?;
+    assert!(&rt; shared == id);
+    assert!(&rt; shared.as_str() == "caf\u{e9}");
+
+    // The order is that of the bytes: a capital before a small letter, and a beginning first.
+    let capital = DocId::new(rt.alloc(), "Z")?;
+    let longer = DocId::new(rt.alloc(), "Za")?;
+    assert!(&rt; capital < longer);
+    assert!(&rt; longer < id);
+    assert!(&rt; id.cmp(&capital) == Ordering::Greater);
+    Ok(())
+}
+
+#[test]
+fn lengths_are_kept(rt: HostRuntime) -> Result<(), IdFault> {
+    let mut text = String::new(rt.alloc());
+    assert!(&rt; matches!(DocId::new(rt.alloc(), &text), Err(IdFault::Length)));
+    for _ in 0..512 {
+        text.push('x')?;
+    }
+    assert!(&rt; DocId::new(rt.alloc(), &text)?.as_str().len() == 512);
+    text.push('x')?;
+    assert!(&rt; matches!(DocId::new(rt.alloc(), &text), Err(IdFault::Length)));
+    Ok(())
+}
