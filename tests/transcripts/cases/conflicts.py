@@ -114,8 +114,9 @@ BULKS = {
         merge(at("d", rev(2, "b"), rev(1, "a"), n=1)), merge(at("d", rev(1, "a"), n=2)), merge(at("d", rev(1, "a"), n=3, _deleted=True)),
         get("/db/d"), get("/db/d?rev=" + rev(1, "a")),
     ],
-    "merge-stemmed-away": [
-        put("/db/_revs_limit", 1), merge(at("d", rev(2, "b"), rev(1, "a"))), merge(at("d", rev(1, "a"))), diff({"d": [rev(1, "a")]}), merge(at("d", rev(2, "b"), rev(1, "a"))),
+    "merge-under-limit-of-one": [
+        put("/db/_revs_limit", 1), merge(at("d", rev(2, "b"), rev(1, "a"))), merge(at("d", rev(2, "b"), rev(1, "a"))), diff({"d": [rev(1, "a")]}),
+        merge(at("d", rev(1, "a"))), get("/db/d?conflicts=true"), merge(at("d", rev(2, "b"), rev(1, "a"))), get("/db/d?conflicts=true"),
     ],
     "merge-of-several": [
         merge(at("d", rev(2, "b"), rev(1, "a")), at("e", rev(1, "c")), at("d", rev(2, "b"), rev(1, "e")), at("d", rev(2, "b"), rev(1, "f")), at("f", rev(1, "0"), _deleted=True)),

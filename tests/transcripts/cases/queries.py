@@ -42,7 +42,10 @@ TOLD = {
         put("/db/a", {}), put("/db/a", {}), get("/db"), merge(at("d", rev(2, "b"), rev(1, "a"))), merge(at("d", rev(2, "b"), rev(1, "c"))), get("/db"),
         bulk(), put("/db/_revs_limit", 7), put("/db/_local/x", {}), delete("/db/no"), get("/db"),
     ],
-    "merge-stemmed-away-takes-no-number": [put("/db/_revs_limit", 1), merge(at("d", rev(2, "b"), rev(1, "a"))), get("/db"), merge(at("d", rev(1, "a"))), merge(at("d", rev(2, "b"), rev(1, "a"))), get("/db")],
+    "merge-stemmed-away-takes-no-number": [
+        put("/db/_revs_limit", 1), merge(at("d", rev(2, "b"), rev(1, "a"))), get("/db"), merge(at("d", rev(2, "b"), rev(1, "a"))), get("/db"),
+        merge(at("d", rev(1, "a"))), get("/db"), merge(at("d", rev(2, "b"), rev(1, "a"))), get("/db"),
+    ],
 }
 
 DOCUMENTS = {
