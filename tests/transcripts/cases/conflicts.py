@@ -148,7 +148,7 @@ REFUSALS = {
     "shape-of-edit": [put("/db/a", text) for text in ['{"_rev":1}', '{"_rev":null}', '{"_deleted":1}', '{"_deleted":"true"}', '{"_deleted":null}']],
     "bulk-no-json": bulks(["", "{", '{"docs":[{]}']),
     "bulk-number": bulks(['{"docs":[{"_id":"a","n":1.0}]}', '{"docs":[],"x":1e2}', '{"docs":[{"_id":"a"},{"_id":"b","n":9223372036854775808}]}']),
-    "bulk-depth": bulks(['{"docs":[{"_id":"a","n":%s}]}' % nested(levels) for levels in [63, 64, 70, 71]] + ['{"docs":[1,{"n":%s}]}' % nested(64), '{"docs":1,"n":%s}' % nested(72)]),
+    "bulk-depth": bulks(['{"docs":[{"_id":"a","n":%s}]}' % nested(levels) for levels in [63, 64, 70, 71]] + ['{"docs":[1,{"n":%s}]}' % nested(64), '{"docs":[{"_id":"a","n":%s}],"new_edits":1}' % nested(64), '{"docs":1,"n":%s}' % nested(72)]),
     "bulk-shape": bulks(["[]", "1", "{}", '{"docs":{}}', '{"docs":null}', '{"docs":[],"new_edits":1}', '{"docs":[],"new_edits":null}', '{"docs":[],"new_edits":"false"}']),
     "bulk-document-no-object": bulks(['{"docs":[{"_id":"a"},1]}', '{"docs":[[]]}', '{"docs":["a"],"new_edits":false}']),
     "bulk-document-without-id": bulks(['{"docs":[{"_id":"a"},{}]}', '{"docs":[{"id":"a"}]}', '{"docs":[{"_id":1}]}', '{"docs":[{"_id":null,"_rev":1}]}']),

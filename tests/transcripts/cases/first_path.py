@@ -133,7 +133,7 @@ NOT_YET = {
     "method-of-document": [request(method, "/db/a") for method in ["DELETE", "POST", "HEAD", "COPY"]],
     "method-before-id": [request("POST", "/db/_x", "")],
     "routes-of-later": [
-        get("/db"), get("/db/"), get("/db/_bulk_docs"), request("POST", "/db/_bulk_docs", "{}"), get("/db/_revs_limit"),
+        get("/db"), get("/db/"), put("/db/", "{}"), get("/db/_bulk_docs"), request("POST", "/db/_bulk_docs", "{}"), get("/db/_revs_limit"),
         get("/db/_changes"), get("/db/_all_docs"), get("/db/_local/x"), get("/db/_local"), get("/db/_purge"),
     ],
 }

@@ -50,6 +50,7 @@ TOLD = {
 
 DOCUMENTS = {
     "get-revs": [put("/db/a", {}), get("/db/a?revs=true"), put("/db/a?rev=" + A1, {"n": 1}), get("/db/a?revs=true"), get("/db/a?revs=true&rev=" + A1), get("/db/a?revs=false")],
+    "get-revs-of-a-part": [merge(at("d", rev(7, "b"), rev(6, "a"))), get("/db/d?revs=true"), put("/db/_revs_limit", 2), put("/db/d?rev=" + rev(7, "b"), {}), get("/db/d?revs=true&revs_info=true")],
     "get-revs-info": [
         put("/db/a", {}), delete("/db/a?rev=" + A1), put("/db/a", {}), get("/db/a?revs_info=true"), merge(at("a", rev(3, "f"), rev(2, "e"))), get("/db/a?revs_info=true&conflicts=true"),
     ],
@@ -64,7 +65,7 @@ DOCUMENTS = {
     ],
     "open-all": TWO_PATHS + [merge(at("d", rev(1, "f"), _deleted=True)), opened("d", "all"), opened("d", "all", "&revs=true&conflicts=true"), opened("no", "all")],
     "open-listed": TWO_PATHS + [
-        opened("d", listed(rev(2, "b"), rev(1, "a"), rev(9, "9"), rev(2, "b"))), opened("d", "[]"), opened("no", listed(rev(1, "a"), rev(1, "a"))), opened("d", " [ ] "),
+        opened("d", listed(rev(2, "b"), rev(1, "a"), rev(9, "9"), rev(2, "b"))), opened("d", "[]"), opened("no", listed(rev(1, "a"), rev(1, "a"))), opened("d", " [ ] "), get("/db/d?open_revs=+[+]+"),
     ],
     "open-latest-each-once": TWO_PATHS + [
         opened("d", listed(rev(2, "b"), rev(1, "a"), rev(9, "9"), rev(3, "c"), rev(9, "9")), "&latest=true"), opened("d", "all", "&latest=true"), opened("no", listed(rev(1, "a")), "&latest=true"),
@@ -104,7 +105,7 @@ REFUSALS = {
     "method-of-changes": [request("POST", "/db/_changes", "{}"), request("HEAD", "/db/_changes")],
     "method-of-all-docs": [request("POST", "/db/_all_docs", '{"keys":[]}'), request("DELETE", "/db/_all_docs")],
     "method-of-local": [request("POST", "/db/_local/r", "{}"), request("HEAD", "/db/_local/_r")],
-    "no-route-near-others": each("", ["/db/_local/", "/db/_local/a/b", "/db/_changes/", "/db/_all_docs/x", "/db/_design/x", "/db//_changes"]),
+    "no-route-near-others": each("", ["/db/_local/", "/db/_local/a/b", "/db/_changes/", "/db/_all_docs/x", "/db/_design/x", "/db//_changes"]) + [put("/db/_local/", {}), delete("/db/_local/")],
     "id-near-routes": each("", ["/db/_local", "/db/_change", "/db/_changesx", "/db/%5Fchanges", "/db/_local%2Fx", "/db/_bulk_get", "/db/_security"]),
     "parameter-of-document": each("/db/a?", ["revs", "revs=1", "revs_info=", "latest=yes", "conflicts=x", "open_revs=", "open_revs", "open_revs=al", "open_revs=%5B", "open_revs=1.5", "open_revs=%7B%7D", "open_revs=%221-x%22", "open_revs=%5B1%5D", "open_revs=%5B1.5%5D", "open_revs=%5B%22x%22,1%5D", "open_revs=all&revs=x", "latest=x&rev=x"])
     + [opened("a", nested(73)), opened("a", nested(200))],
