@@ -4,7 +4,8 @@ import json
 from .legal import encoded, request
 
 MEMBERS = {
-    "_x": [1],
+    "_x": [1, []],
+    "z": [[], ["1-" + "a" * 32], ["x"]],
     "_id": [1, None, "", "_x", "other", "x" * 513, "_local/r"],
     "_rev": [1, None, "", "x", "1-" + "A" * 32, "0-1", "1-" + "c" * 32],
     "_deleted": [1, None, "true", True, False],
@@ -71,7 +72,7 @@ def deep(random, value):
 def fault(random, asked):
     """A request with a fault, mostly, as bytes: it stays one request of the connection."""
     method, target, body = asked
-    kind = random.randint(0, 6)
+    kind = random.choice([0, 1, 2, 2, 2, 3, 3, 3, 4, 5, 6])
     if kind == 0:
         method = random.choice(METHODS)
     elif kind == 1:

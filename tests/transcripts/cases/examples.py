@@ -1,4 +1,4 @@
-"""The stories of `examples/`."""
+"""The stories of `examples/`, as a person writes them: with plain line ends, and one after each body."""
 from .building import child, delete, encoded, get, merge, bulk, put
 
 FIRST = [put("/db/apple", {"color": "red"}), get("/db/apple"), get("/db/pear")]
@@ -36,4 +36,12 @@ CONFLICT = [
     get("/db/_changes?since=3"),
 ]
 
-CASES = {"first": (1, FIRST), "conflict": (3, CONFLICT)}
+
+
+def written(requests):
+    for request in requests:
+        head, _, body = request.partition(b"\r\n\r\n")
+        yield head.replace(b"\r\n", b"\n") + b"\n\n" + (body + b"\n" if body else b"")
+
+
+CASES = {"first": (1, list(written(FIRST))), "conflict": (3, list(written(CONFLICT)))}
