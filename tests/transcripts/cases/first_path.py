@@ -1,6 +1,6 @@
 """One PUT and one GET: documents without revisions named."""
 from .building import *  # noqa: F403
-from .building import get, nested, nested_body, put, quote, request
+from .building import JSON, curl, get, nested, nested_body, put, quote, request
 
 PUT_ONCE = put("/db/a", "{}")
 
@@ -119,7 +119,12 @@ HEADS = {
     "version-one-zero": [put("/db/a", "{}"), get("/db/a", version="HTTP/1.0"), get("/")],
 }
 
-CASES = {**STORED, **IDENTITIES, **ROUTES, **BODIES, **HEADS}
+CURL = {
+    "curl-put-and-get": [curl("PUT", "/db/a", {"n": 1}, JSON), curl("GET", "/db/a"), curl("GET", "/db/b"), curl("GET", "/"), curl("HEAD", "/")],
+    "curl-put-of-a-form": [curl("PUT", "/db/a", "n=1"), curl("GET", "/db/a")],
+}
+
+CASES = {**CURL, **STORED, **IDENTITIES, **ROUTES, **BODIES, **HEADS}
 
 # what the stage after this one answers otherwise
 NOT_YET = {
@@ -147,6 +152,10 @@ UNTIL_BROKEN_INPUT = {
     "target-without-end": [b"GET /" + b"y" * 16384],
     "empty-lines-without-end": [b"\n" * 16384],
     "transfer-coding": [request("PUT", "/db/a", None, ["Transfer-Encoding: chunked"]), b"2\r\n{}\r\n0\r\n\r\n"],
+    "curl-upload-in-chunks": [
+        b"PUT /db/a HTTP/1.1\r\nHost: 127.0.0.1:5984\r\nUser-Agent: curl/7.88.1\r\nAccept: */*\r\n",
+        b"Transfer-Encoding: chunked\r\nExpect: 100-continue\r\n\r\n2\r\n{}\r\n0\r\n\r\n",
+    ],
     "transfer-coding-and-length": [request("PUT", "/db/a", "{}", ["Transfer-Encoding: identity", "Content-Length: x"])],
     "length-twice": [request("PUT", "/db/a", "{}", ["Content-Length: 2"])],
     "length-empty": [request("PUT", "/db/a", None, ["Content-Length:"])],
