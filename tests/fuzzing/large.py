@@ -1,0 +1,61 @@
+"""A few fixed inputs near the limits."""
+import json
+
+from reference import revisions
+from reference.json_profile import Body
+
+from .legal import request
+
+BODY = 1048576  # bytes, the most of a body
+
+
+def filled(front, piece, back):
+    """A body of the most bytes, filled with spaces."""
+    count = (BODY - len(front) - len(back)) // len(piece)
+    body = front + piece * count + back
+    return body + b" " * (BODY - len(body))
+
+
+def bulk(count, path):
+    """So many documents, each with a path of revisions."""
+    documents = [{"_id": "d%d" % n, "_revisions": {"start": path, "ids": ["%032x" % (n + k) for k in range(path)]}} for n in range(count)]
+    return request("POST", "/db/_bulk_docs", json.dumps({"docs": documents, "new_edits": False}, separators=(",", ":")))
+
+
+def merges(count):
+    """So many conflicts of one document."""
+    documents = [{"_id": "d", "_rev": "1-%032x" % n} for n in range(count)]
+    return request("POST", "/db/_bulk_docs", json.dumps({"docs": documents, "new_edits": False}, separators=(",", ":")))
+
+
+def edits(count):
+    """So many edits of one document, each over the one before."""
+    found, rev = [], None
+    for n in range(count):
+        body = {"n": n}
+        found.append(request("PUT", "/db/e" + ("?rev=" + revisions.text(rev) if rev else ""), body))
+        rev = revisions.child(rev, False, Body(body))
+    return b"".join(found)
+
+
+def inputs(stage):
+    get = request("GET", "/db/a")
+    yield "the largest body", request("PUT", "/db/a", filled(b"{", b" ", b"}")) + get
+    yield "the largest text", request("PUT", "/db/a", filled(b'{"t":"', b"\xc3\xa9", b'"}')) + get
+    yield "the longest list", request("PUT", "/db/a", filled(b'{"n":[1', b",9223372036854775807", b"]}")) + get
+    yield "the deepest body", request("PUT", "/db/a", filled(b"", b"[", b"")) + request("PUT", "/db/a", filled(b"", b'{"a":', b"")) + get
+    yield "a body that is too large", request("PUT", "/db/a", b" " * (BODY + 1)) + get
+    yield "the longest number", request("PUT", "/db/a", filled(b'{"n":', b"9", b"}")) + get
+    yield "many requests", request("PUT", "/db/a", {}) + get * 3000
+    if stage >= 2:
+        yield "a path past the limit", bulk(1, 1200) + bulk(1, 1200) + request("GET", "/db/d0?conflicts=true")
+        yield "many conflicts of one document", merges(300) + request("GET", "/db/d?conflicts=true")
+        yield "many edits of one document", edits(1100) + request("POST", "/db/_revs_diff", {"e": ["1-" + "a" * 32, "1200-" + "a" * 32]})
+        yield "the largest bulk", bulk(7000, 2) + request("GET", "/db/d7")
+        ordinary = json.dumps({"docs": [{"_id": "d%d" % (n // 2)} for n in range(10000)]}, separators=(",", ":"))
+        yield "a bulk of conflicts", request("POST", "/db/_bulk_docs", ordinary)
+        asked = json.dumps({"d%d" % n: ["1-" + "a" * 32] for n in range(15000)}, separators=(",", ":"))
+        yield "the largest difference", request("POST", "/db/_revs_diff", asked)
+    if stage >= 3:
+        yield "many changes", bulk(7000, 1) + request("GET", "/db/_changes") + request("GET", "/db/_all_docs") + request("GET", "/db/_changes?since=3500&limit=10")
+        yield "a long path shown", edits(20) + request("GET", "/db/e?revs=true&revs_info=true") + bulk(1, 1000) + request("GET", "/db/d0?revs=true&revs_info=true&open_revs=all")

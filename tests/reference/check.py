@@ -1,0 +1,286 @@
+#!/usr/bin/env python3
+"""Checks the reference, and the stored transcripts, against examples that were worked by hand.
+
+Each response is written out here: its status, the place, its body, and further lines of its head. Nothing of the
+reference is used to make them. The last line says how many held; status 1 where one failed.
+"""
+import hashlib
+import os
+import sys
+
+TESTS = os.path.dirname(os.path.dirname(os.path.abspath(__file__)))
+sys.path.insert(0, TESTS)
+
+from reference import json_profile, once, queries, revisions, trees  # noqa: E402
+from reference.database import Database, Merge  # noqa: E402
+
+STATUS = {200: "200 OK", 201: "201 Created", 400: "400 Bad Request", 404: "404 Not Found", 405: "405 Method Not Allowed", 409: "409 Conflict"}
+
+
+def md5(text):
+    return hashlib.md5(text.encode()).hexdigest()
+
+
+def h(text):
+    """`2-f*` stands for the generation 2 and the digit f 32 times."""
+    return text[:-2] + 32 * text[-2]
+
+
+A1 = "1-" + md5("0,,{}")
+A2 = "2-" + md5("0," + A1 + ',{"n":1}')
+A3 = "3-" + md5("0," + A2 + ',{"n":2}')
+X2 = "2-" + md5("1," + A1 + ",{}")
+X3 = "3-" + md5("0," + X2 + ",{}")
+
+CONFLICT = '{"error":"conflict","reason":"Document update conflict."}'
+MISSING = '{"error":"not_found","reason":"missing"}'
+DELETED = '{"error":"not_found","reason":"deleted"}'
+NUMBER = '{"error":"bad_request","reason":"number"}'
+DEPTH = '{"error":"bad_request","reason":"depth"}'
+JSON = '{"error":"bad_request","reason":"json"}'
+SHAPE = '{"error":"bad_request","reason":"shape"}'
+
+
+def written(id, rev):
+    return '{"id":"%s","ok":true,"rev":"%s"}' % (id, rev)
+
+
+def info(documents, deleted, update_seq):
+    return '{"db_name":"db","doc_count":%d,"doc_del_count":%d,"purge_seq":0,"update_seq":%d}' % (documents, deleted, update_seq)
+
+
+def changes(last_seq, pending, *rows):
+    return '{"last_seq":%d,"pending":%d,"results":[%s]}' % (last_seq, pending, ",".join(rows))
+
+
+def row(id, seq, rev, deleted=""):
+    return '{"changes":[{"rev":"%s"}],%s"id":"%s","seq":%d}' % (rev, deleted, id, seq)
+
+
+ROW_A = row("a", 4, X2, '"deleted":true,')
+ROW_B = row("b", 2, A1)
+ROW_C = row("c", 3, A1)
+
+# of each transcript its responses: status, place, body
+WORKED = {
+    "1-first-path/put-once": [(201, 1, written("a", A1))],
+    "1-first-path/put-twice": [(201, 1, written("a", A1)), (409, 2, CONFLICT)],
+    "1-first-path/number-past-i64": [(201, 1, written("n", "1-" + md5('0,,{"n":9223372036854775807}'))), (400, 1, NUMBER)],
+    "1-first-path/put-cut-in-body": [],
+    "1-first-path/put-cut-in-head": [],
+    "1-first-path/put-then-get": [(201, 1, written("a", A1)), (200, 1, '{"_id":"a","_rev":"%s"}' % A1)],
+    "1-first-path/welcome": [(200, 0, '{"couchdb":"Welcome"}')],
+    "1-first-path/nesting-of-a-body": [
+        (201, 1, written("a", "1-" + md5('0,,{"n":%s}' % (63 * "[" + 63 * "]")))),
+        (200, 1, '{"_id":"a","_rev":"1-%s","n":%s}' % (md5('0,,{"n":%s}' % (63 * "[" + 63 * "]")), 63 * "[" + 63 * "]")),
+    ],
+    "1-first-path/depth": [(400, 0, DEPTH)] * 5 + [(404, 0, MISSING)],
+    "1-first-path/depth-past-the-reader": [(400, 0, JSON)] * 2 + [(404, 0, MISSING)],
+    "2-conflicts/winner-is-not-deleted": [(201, 1, "[]"), (200, 1, '{"_id":"d","_rev":"%s"}' % h("1-0*"))],
+    "2-conflicts/conflict-kept": [
+        (201, 1, "[]"),
+        (201, 2, "[]"),
+        (200, 2, '{"_conflicts":["%s"],"_id":"d","_rev":"%s"}' % (h("1-a*"), h("1-b*"))),
+    ],
+    "2-conflicts/second-parent-refused": [
+        (201, 1, "[]"),
+        (201, 2, '[{"error":"bad_history","id":"d","reason":"A known revision has another parent."}]'),
+        (404, 2, MISSING),
+        (200, 2, '{"_id":"d","_rev":"%s"}' % h("2-b*")),
+    ],
+    "2-conflicts/limit-of-one-revision": [
+        (200, 1, '{"ok":true}'),
+        (201, 2, written("a", A1)),
+        (201, 3, written("a", A2)),
+        (201, 4, written("a", A3)),
+        (200, 4, '{"a":{"missing":["%s","%s"]}}' % (A1, A2)),
+        (200, 4, "1"),
+    ],
+    "2-conflicts/bulk-in-listed-order": [
+        (201, 1, written("a", A1)),
+        (201, 2, '[%s,{"error":"conflict","id":"a","reason":"Document update conflict."}]' % written("a", A2)),
+        (201, 3, "[]"),
+        (200, 3, '{"_id":"a","_rev":"%s","n":1}' % A2),
+    ],
+    "2-conflicts/differences": [
+        (201, 1, "[]"),
+        (201, 2, "[]"),
+        (200, 2, '{"d":{"missing":["%s","%s"],"possible_ancestors":["%s"]}}' % (h("3-e*"), h("2-f*"), h("2-b*"))),
+    ],
+    "2-conflicts/write-after-deletion": [
+        (201, 1, written("a", A1)),
+        (200, 2, written("a", X2)),
+        (404, 3, DELETED),
+        (201, 4, written("a", X3)),
+        (200, 4, '{"_id":"a","_rev":"%s"}' % X3),
+    ],
+    "3-queries/merge-twice-takes-one-number": [(201, 1, "[]"), (201, 2, "[]"), (200, 2, info(1, 0, 1))],
+    "3-queries/path-and-its-status": [
+        (201, 1, "[]"),
+        (201, 2, "[]"),
+        (
+            200,
+            2,
+            '{"_id":"d","_rev":"%s","_revisions":{"ids":["%s","%s","%s"],"start":3},"_revs_info":[%s]}'
+            % (
+                h("3-c*"),
+                32 * "c",
+                32 * "b",
+                32 * "a",
+                '{"rev":"%s","status":"available"},{"rev":"%s","status":"available"},{"rev":"%s","status":"missing"}'
+                % (h("3-c*"), h("2-b*"), h("1-a*")),
+            ),
+        ),
+        (200, 2, info(1, 0, 2)),
+    ],
+    "3-queries/local-document": [
+        (201, 1, written("_local/r", "0-1")),
+        (409, 2, CONFLICT),
+        (201, 3, written("_local/r", "0-2")),
+        (200, 4, written("_local/r", "0-0")),
+        (404, 5, MISSING),
+        (200, 5, changes(0, 0)),
+    ],
+    "3-queries/changes-in-pages": [
+        (201, 1, written("a", A1)),
+        (201, 2, written("b", A1)),
+        (201, 3, written("c", A1)),
+        (200, 4, written("a", X2)),
+        (200, 4, changes(3, 1, ROW_B, ROW_C)),
+        (200, 4, changes(4, 0, ROW_A)),
+        (404, 4, DELETED),
+        (
+            200,
+            4,
+            '{"offset":0,"rows":[{"id":"b","key":"b","value":{"rev":"%s"}},{"id":"c","key":"c","value":{"rev":"%s"}}],"total_rows":2}'
+            % (A1, A1),
+        ),
+    ],
+    "3-queries/open-latest-revisions": [
+        (201, 1, "[]"),
+        (201, 2, "[]"),
+        (
+            200,
+            2,
+            '[{"ok":{"_id":"d","_rev":"%s"}},{"ok":{"_id":"d","_rev":"%s"}},{"missing":"%s"}]' % (h("3-c*"), h("2-b*"), h("9-9*")),
+        ),
+    ],
+    "3-queries/changes-followed": [
+        (201, 1, written("a", A1)),
+        (201, 2, written("b", A1)),
+        (201, 3, written("c", A1)),
+        (200, 4, written("a", X2)),
+        (200, 4, changes(3, 1, ROW_B, ROW_C)),
+        (200, 4, changes(4, 0, ROW_A)),
+        (200, 4, changes(4, 0)),
+    ],
+}
+
+# lengths that were counted by hand
+LENGTHS = [(written("a", A1), 63), (CONFLICT, 57), ('{"_id":"a","_rev":"%s"}' % A1, 55)]
+
+
+def response(status, place, body):
+    head = "HTTP/1.1 %s\r\nContent-Type: application/json\r\nContent-Length: %d\r\nCouch-Place: %d\r\n\r\n"
+    return (head % (STATUS[status], len(body.encode()), place) + body).encode()
+
+
+def stored(name, ending):
+    with open(os.path.join(TESTS, "transcripts", name + ending), "rb") as file:
+        return file.read()
+
+
+def transcripts():
+    for name, responses in WORKED.items():
+        wanted = b"".join(response(*parts) for parts in responses)
+        yield name, stored(name, ".expected") == wanted and once.run(stored(name, ".http"), int(name[0]))[0] == wanted
+
+
+def literal():
+    """The first request and its response, as they stand in the description of the program."""
+    asked = b"PUT /db/a HTTP/1.1\r\nContent-Length: 2\r\n\r\n{}"
+    told = (
+        b"HTTP/1.1 201 Created\r\nContent-Type: application/json\r\nContent-Length: 63\r\nCouch-Place: 1\r\n\r\n"
+        b'{"id":"a","ok":true,"rev":"' + A1.encode() + b'"}'
+    )
+    yield "the first request", stored("1-first-path/put-once", ".http") == asked and len(asked) == 43
+    yield "the first response", once.run(asked) == (told, 0)
+    for cut in range(1, 44):
+        yield "without its last %d bytes" % cut, once.run(asked[: 43 - cut]) == (b"", 0)
+    yield "a body that is not whole", once.run(asked.replace(b": 2", b": 3")) == (b"", 0)
+    for body, length in LENGTHS:
+        yield "the length of " + body, len(body) == length
+
+
+def digests():
+    """Known digests of MD5."""
+    for text, digest in [
+        ("", "d41d8cd98f00b204e9800998ecf8427e"),
+        ("a", "0cc175b9c0f1b6a831c399e269772661"),
+        ("abc", "900150983cd24fb0d6963f7d28e17f72"),
+    ]:
+        yield "the digest of " + repr(text), md5(text) == digest
+    empty = json_profile.Body({})
+    yield "an identity", revisions.text(revisions.child(None, False, empty)) == A1
+    yield "an identity of a deletion", revisions.text(revisions.child(revisions.parse(A1), True, empty)) == X2
+
+
+def fault(data, deepest=json_profile.MAX_NESTING):
+    try:
+        json_profile.read(data.encode(), deepest)
+    except json_profile.JsonFault as fault:
+        return fault.reason
+    return None
+
+
+def nestings():
+    for levels, wanted in [(72, None), (73, "depth"), (127, "depth"), (128, "json")]:
+        yield "arrays nested %d deep" % levels, fault("[" * levels + "]" * levels) == wanted
+    for text, wanted in [
+        ('{"n":9223372036854775807}', None),
+        ('{"n":9223372036854775808}', "number"),
+        ("1e400", "json"),
+        ("-0", "number"),
+        ("1.0", "number"),
+        ("1e3", "number"),
+        ("18446744073709551616", "number"),
+        (r'"\ud800"', "json"),
+        ('{"n":1.5,"n":1}', None),
+    ]:
+        yield "reading " + text, fault(text) == wanted
+
+
+def follower():
+    """Three documents, then the first deleted: a follower gives two rows, then one, then none."""
+    database = Database()
+    for id in "abc":
+        database.bulk([Merge(id, [revisions.parse(A1)], False, json_profile.EMPTY)])
+    database.bulk([Merge("a", [revisions.parse(X2), revisions.parse(A1)], True, json_profile.EMPTY)])
+    following = queries.Follower(0, False)
+    for wanted in [[("b", 2), ("c", 3)], [("a", 4)], []]:
+        found = [(row["id"], row["seq"]) for row in following.next(database, 2)]
+        yield "a follower's rows " + str(wanted), found == wanted
+    yield "a follower's cursor", following.cursor == 4
+
+
+def stems():
+    """A path of three, and one of two beside it, over one root."""
+    tree = trees.graft({}, [(3, "c"), (2, "d"), (1, "a")], json_profile.EMPTY, False)
+    tree = trees.graft(tree, [(2, "b"), (1, "a")], json_profile.EMPTY, False)
+    for limit, wanted in [(1, {(3, "c"), (2, "b")}), (2, {(3, "c"), (2, "d"), (2, "b"), (1, "a")}), (3, set(tree))]:
+        yield "stemmed to %d" % limit, set(trees.stem(tree, limit)) == wanted
+
+
+def main():
+    passed = failed = 0
+    for checks in [transcripts, literal, digests, nestings, follower, stems]:
+        for name, holds in checks():
+            passed += holds
+            failed += not holds
+            if not holds:
+                print("failed: " + name)
+    print("%d passed, %d failed" % (passed, failed))
+    sys.exit(1 if failed else 0)
+
+
+main()

@@ -1,0 +1,159 @@
+"""The sequential database: what each command answers and leaves."""
+from dataclasses import dataclass
+from typing import Optional
+
+from . import revisions, trees
+from .json_profile import Body
+
+
+class Refused(Exception):
+    """A command's refusal: it is a reply all the same, and changes nothing."""
+
+    def __init__(self, kind):
+        super().__init__(kind)
+        self.kind = kind
+
+
+# the kinds of refusals
+CONFLICT, BAD_HISTORY, MISSING, DELETED, GENERATION = "conflict", "bad_history", "missing", "deleted", "generation"
+
+
+@dataclass
+class Edit:
+    """A new revision of a document, over the one that is named."""
+
+    id: str
+    named: Optional[tuple]
+    deleted: bool
+    body: Body
+
+
+@dataclass
+class Merge:
+    """A revision from another replica, with what is known of its ancestors, newest first."""
+
+    id: str
+    path: list
+    deleted: bool
+    body: Body
+
+
+@dataclass
+class Record:
+    tree: dict
+    seq: int
+
+
+@dataclass
+class Local:
+    number: int
+    body: Body
+
+
+class Database:
+    def __init__(self):
+        self.docs = {}
+        self.locals = {}
+        self.update_seq = 0
+        self.purge_seq = 0
+        self.revs_limit = 1000
+
+    def tree(self, id):
+        return self.docs[id].tree if id in self.docs else None
+
+    # ---- documents
+
+    def bulk(self, changes):
+        """In the order listed: of each change its revision, or why it was refused."""
+        return [self.attempt(change) for change in changes]
+
+    def attempt(self, change):
+        try:
+            return self.edit(change) if isinstance(change, Edit) else self.merge(change)
+        except Refused as refusal:
+            return refusal
+        except trees.BadHistory:
+            return Refused(BAD_HISTORY)
+
+    def edit(self, edit):
+        parent = self.parent_for(edit)
+        rev = revisions.child(parent, edit.deleted, edit.body)
+        if rev[0] > revisions.LAST_GENERATION:
+            raise Refused(GENERATION)
+        path = [rev] if parent is None else [rev, parent]
+        self.store(edit.id, path, edit.body, edit.deleted)
+        return rev
+
+    def parent_for(self, edit):
+        """What an edit becomes the child of."""
+        tree = self.tree(edit.id)
+        if tree is None:
+            if edit.deleted:
+                raise Refused(MISSING)
+            if edit.named is not None:
+                raise Refused(CONFLICT)
+            return None
+        if edit.named is not None:
+            if edit.named not in trees.leaves(tree):
+                raise Refused(CONFLICT)
+            return edit.named
+        best = trees.winner(tree)
+        if not tree[best].deleted:
+            raise Refused(CONFLICT)
+        if edit.deleted:
+            raise Refused(DELETED)
+        return best
+
+    def merge(self, merge):
+        self.store(merge.id, merge.path, merge.body, merge.deleted)
+        return merge.path[0]
+
+    def store(self, id, path, body, deleted):
+        """Grafts and stems. A record that is as it was takes no update number."""
+        before = self.tree(id)
+        after = trees.stem(trees.graft(before or {}, path, body, deleted), self.revs_limit)
+        if after != before:
+            self.update_seq += 1
+            self.docs[id] = Record(after, self.update_seq)
+
+    # ---- local documents
+
+    def write_local(self, id, named, body):
+        """The number of the local revision, 0 for a deletion, which has no body."""
+        present = self.locals.get(id)
+        if present is None:
+            if body is None:
+                raise Refused(MISSING)
+            if named is not None:
+                raise Refused(CONFLICT)
+            self.locals[id] = Local(1, body)
+            return 1
+        if named != present.number:
+            raise Refused(CONFLICT)
+        if body is None:
+            del self.locals[id]
+            return 0
+        if present.number == revisions.LAST_GENERATION:
+            raise Refused(GENERATION)
+        self.locals[id] = Local(present.number + 1, body)
+        return present.number + 1
+
+
+class Session:
+    """One session over a database: each command has the next place, a query the place of the last command."""
+
+    def __init__(self):
+        self.database = Database()
+        self.place = 0
+
+    def bulk(self, changes):
+        self.place += 1
+        return self.database.bulk(changes)
+
+    def set_limit(self, limit):
+        self.place += 1
+        self.database.revs_limit = limit
+
+    def write_local(self, id, named, body):
+        self.place += 1
+        return self.database.write_local(id, named, body)

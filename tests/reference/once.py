@@ -1,0 +1,39 @@
+"""A whole run of `couchd once`: bytes in, bytes out, and the exit status."""
+from . import actions
+from .database import Session
+from .framing import Unfinished, Unreadable, read_request
+from .responses import bad_request, response
+
+LAST_STAGE = 3
+
+# the reasons of what is refused with a close; until each has a text of its own, they have one
+CLOSING = {kind: "head" for kind in ("head", "large_head", "coding", "length", "large_body")}
+
+
+class Connection:
+    """Answers one request after another, until the input ends or the connection closes."""
+
+    def __init__(self, stage=LAST_STAGE):
+        self.session = Session()
+        self.stage = stage
+
+    def responses(self, data):
+        """Each response to the requests that the bytes are."""
+        at = 0
+        while at < len(data):
+            try:
+                request, at = read_request(data, at)
+            except Unfinished:
+                return
+            except Unreadable as refusal:
+                yield response(bad_request(CLOSING[refusal.kind]), self.session.place, True)
+                return
+            answer = actions.answer(self.session, request, self.stage)
+            yield response(answer, self.session.place, request.closes)
+            if request.closes:
+                return
+
+
+def run(data, stage=LAST_STAGE):
+    """The output and the status. Each end of the input, and each close, is status 0."""
+    return b"".join(Connection(stage).responses(data)), 0

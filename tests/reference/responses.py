@@ -1,0 +1,62 @@
+"""The texts of responses."""
+from . import json_profile
+from .database import BAD_HISTORY, CONFLICT, DELETED, GENERATION, MISSING
+
+REASONS = {
+    200: "OK",
+    201: "Created",
+    400: "Bad Request",
+    404: "Not Found",
+    405: "Method Not Allowed",
+    409: "Conflict",
+}
+
+# of each refusal of a command or a query: its status, its error and its reason
+REFUSALS = {
+    CONFLICT: (409, "conflict", "Document update conflict."),
+    BAD_HISTORY: (409, "bad_history", "A known revision has another parent."),
+    MISSING: (404, "not_found", "missing"),
+    DELETED: (404, "not_found", "deleted"),
+    GENERATION: (409, "generation", "The generation limit is reached."),
+}
+
+
+class Answer(Exception):
+    """A status, the JSON value that the body is, and the methods of the route where that is said. It is raised where a
+    check decides, and returned where an answer comes at the end."""
+
+    def __init__(self, status, value, methods=()):
+        super().__init__(status)
+        self.status = status
+        self.value = value
+        self.methods = methods
+
+
+def bad_request(reason):
+    return Answer(400, {"error": "bad_request", "reason": reason})
+
+
+def no_route():
+    return Answer(404, {"error": "not_found", "reason": "missing"})
+
+
+def method_not_allowed(methods):
+    return Answer(405, {"error": "method_not_allowed", "reason": "Method not allowed."}, methods)
+
+
+def refused(refusal):
+    status, error, reason = REFUSALS[refusal.kind]
+    return Answer(status, {"error": error, "reason": reason})
+
+
+def response(answer, place, closes):
+    body = json_profile.text(answer.value).encode("utf-8")
+    head = "HTTP/1.1 %d %s\r\n" % (answer.status, REASONS[answer.status])
+    head += "Content-Type: application/json\r\n"
+    head += "Content-Length: %d\r\n" % len(body)
+    head += "Couch-Place: %d\r\n" % place
+    if answer.methods:
+        head += "Allow: %s\r\n" % ", ".join(answer.methods)
+    if closes:
+        head += "Connection: close\r\n"
+    return head.encode("ascii") + b"\r\n" + body

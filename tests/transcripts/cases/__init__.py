@@ -1,0 +1,1 @@
+"""What the transcripts ask, as lists of requests. Each module has one folder's or more."""
