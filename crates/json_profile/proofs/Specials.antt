@@ -13,7 +13,7 @@ use Rattle.serde_json.proofs.Views.{Entry}
 use Rattle.model.specs.Profile.{is_special, without_specials, is_whole, members_whole, is_before, members_ordered}
 use Rattle.json_profile.specs.Objects.{has_special}
 use Rattle.json_profile.specs.Profiled.{IsProfiled, ArePlain}
-use Rattle.json_profile.proofs.Order.{lt, first_of, value_of, rest_of, ordered_from}
+use Rattle.json_profile.proofs.Order.{is_before-trans, first_of, value_of, rest_of, ordered_from}
 
 -- ---- the walk over an object's members
 
@@ -64,10 +64,6 @@ plain_if false k d ms is h = rw is (ap (member k d) h)
 pub without_specials-twice : (ms : Members) → without_specials (without_specials ms) ≡ without_specials ms
 without_specials-twice no_members = refl
 without_specials-twice (member k d ms) = plain_if (is_special k) k d _ refl (without_specials-twice ms)
-
-is_before-trans : (k l : List ℕ) (ms : Members) → is_lt (slice_cmp nat_cmp k l) ≡ true → is_before l ms ≡ true → is_before k ms ≡ true
-is_before-trans k l no_members low h = refl
-is_before-trans k l (member m e ms) low h = ap is_lt (nat_list_cmp_total.trans k l m (lt _ low) (lt _ h))
 
 is_before-if : (b : Bool) (k l : List ℕ) (d : Data) (ms : Members) → is_lt (slice_cmp nat_cmp k l) ≡ true → is_before k ms ≡ true → is_before k (cond b ms (member l d ms)) ≡ true
 is_before-if true k l d ms new old = old
