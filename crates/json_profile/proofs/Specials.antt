@@ -1,5 +1,5 @@
 -- The members without the special ones.
-use Rattle.std.proofs.Common.{◌≡◌, ℕ, List, [], ◌∷◌, ◌++◌, Bool, true, false, not, ◌&&◌, ◌||◌, cond, true≢false, Ordering, Less, Greater, string_bytes, string_cmp, nat_cmp, refl, ap, ◌∙◌}
+use Rattle.std.proofs.Common.{◌≡◌, ℕ, List, [], ◌∷◌, ◌++◌, Bool, true, false, not, ◌&&◌, ◌||◌, cond, true≢false, Less, Greater, string_bytes, string_cmp, nat_cmp, refl, ap, ◌∙◌}
 use Rattle.std.proofs.lemmas.Bool.{and_parts}
 use Rattle.std.proofs.lemmas.Cmp.{nat_list_cmp_total}
 use Rattle.std.specs.Cmp.Lexicographic.{slice_cmp}
@@ -83,7 +83,7 @@ without_specials-ordered no_members h = refl
 without_specials-ordered (member k d ms) h =
     let later = without_specials-ordered ms (rest_of k d ms h) in
     ordered_if (is_special k) k d (without_specials ms) later
-      (ordered_from k d (without_specials ms) (is_before-without k ms (first_of k d ms h) (rest_of k d ms h)) (value_of k d ms h) later)
+    (ordered_from k d (without_specials ms) (is_before-without k ms (first_of k d ms h) (rest_of k d ms h)) (value_of k d ms h) later)
 
 pub plain_rest : (ms : Members) → IsProfiled (object ms) → ArePlain (without_specials ms)
 plain_rest ms h = record { whole = without_specials-whole ms h.whole; ordered = without_specials-ordered ms h.ordered; plain = without_specials-twice ms }

@@ -1,7 +1,6 @@
 -- A member that is taken out of an object.
-use Rattle.std.proofs.Common.{◌≡◌, ◌≤◌, ℕ, suc, List, [], ◌∷◌, Bool, true, false, ◌&&◌, cond, max, Option, Some, None, unwrap_or, Ordering, Less, Equal, Greater, String, Global, true≢false, string_bytes, nat_cmp, refl, sym, ap, ◌∙◌, subst, arith}
+use Rattle.std.proofs.Common.{◌≡◌, ◌≤◌, ℕ, List, [], ◌∷◌, Bool, true, false, cond, Option, Some, unwrap_or, Ordering, Less, Equal, Greater, true≢false, string_bytes, nat_cmp, refl, sym, ap, ◌∙◌, subst, arith}
 use Rattle.std.proofs.lemmas.Bool.{and_parts, and_from}
-use Rattle.std.proofs.lemmas.Cmp.{nat_list_cmp_total}
 use Rattle.std.proofs.lemmas.Map.Text.{is_eq-slice_cmp}
 use Rattle.std.proofs.lemmas.Slice.Eq.{bytes_eq-Decides}
 use Rattle.std.specs.Cmp.Lexicographic.{slice_cmp}
@@ -12,7 +11,7 @@ use Rattle.serde_json.specs.Data.{Data, object, Members, no_members, member, dep
 use Rattle.serde_json.specs.Find.{get_member}
 use Rattle.serde_json.specs.View.{view, members_view}
 use Rattle.serde_json.proofs.Views.{Entry}
-use Rattle.model.specs.Profile.{is_special, without_specials, max_nesting, is_whole, members_whole, is_before, is_ordered, members_ordered}
+use Rattle.model.specs.Profile.{is_special, without_specials, max_nesting, is_whole, members_whole, is_before, members_ordered}
 use Rattle.json_profile.specs.Objects.{without}
 use Rattle.json_profile.specs.Profiled.{IsProfiled}
 use Rattle.json_profile.proofs.Order.{is_before-trans, first_of, value_of, rest_of, ordered_from}
@@ -47,14 +46,14 @@ without-ordered : (name : List ℕ) (ms : Members) → members_ordered ms ≡ tr
 without-ordered name no_members h = refl
 without-ordered name (member k d ms) h =
     either (λ ns. members_ordered ns ≡ true) (is_eq (slice_cmp nat_cmp name k)) ms (member k d (without name ms)) (rest_of k d ms h)
-      (ordered_from k d (without name ms) (is_before-without name k ms (first_of k d ms h) (rest_of k d ms h)) (value_of k d ms h) (without-ordered name ms (rest_of k d ms h)))
+    (ordered_from k d (without name ms) (is_before-without name k ms (first_of k d ms h) (rest_of k d ms h)) (value_of k d ms h) (without-ordered name ms (rest_of k d ms h)))
 
 without-whole : (name : List ℕ) (ms : Members) → members_whole ms ≡ true → members_whole (without name ms) ≡ true
 without-whole name no_members h = refl
 without-whole name (member k d ms) h =
     let parts = and_parts (is_whole d) (members_whole ms) h in
     either (λ ns. members_whole ns ≡ true) (is_eq (slice_cmp nat_cmp name k)) ms (member k d (without name ms)) parts.1
-      (and_from (is_whole d) (members_whole (without name ms)) parts.0 (without-whole name ms parts.1))
+    (and_from (is_whole d) (members_whole (without name ms)) parts.0 (without-whole name ms parts.1))
 
 without-nests : (name : List ℕ) (ms : Members) (n : ℕ) → members_depth ms ≤ n → members_depth (without name ms) ≤ n
 without-nests name no_members n h = h
