@@ -4,8 +4,11 @@ use md5::{Digest, Md5};
 use std::test::Fail;
 
 const FIRST: &str = "1-b7a5841aeb59f1be5d0e27b640827094";
+
 const SECOND: &str = "2-da7da3d3a3fd852f31bbfc77446d4d45";
+
 const THIRD: &str = "3-1f86e4a276555b9f7bb0770774ad36bb";
+
 const DELETED: &str = "2-afb96502f106d3ac58e31b6f3d8bc9a9";
 
 fn body(rt: &HostRuntime, text: &str) -> Result<Body, Fail> {
@@ -68,11 +71,18 @@ fn other_texts_are_malformed(rt: HostRuntime) {
         "1-g7a5841aeb59f1be5d0e27b640827094",
         "1-b7a5841aeb59f1be5d0e27b640827094 ",
     ] {
-        assert_eq!(rt; RevId::parse(text).err(), Some(RevFault::Malformed), "{text}");
+        assert_eq!(rt;
+            RevId::parse(text).err(),
+            Some(RevFault::Malformed),
+            "{text}"
+        );
     }
     let hash = "b7a5841aeb59f1be5d0e27b640827094";
     assert_eq!(rt; RevId::from_parts(0, hash).err(), Some(RevFault::Malformed));
-    assert_eq!(rt; RevId::from_parts(1, FIRST).err(), Some(RevFault::Malformed));
+    assert_eq!(rt;
+        RevId::from_parts(1, FIRST).err(),
+        Some(RevFault::Malformed)
+    );
 }
 
 #[test]
@@ -92,7 +102,10 @@ fn digests_are_those_of_md5(rt: HostRuntime) -> Result<(), Fail> {
         ("a", "0cc175b9c0f1b6a831c399e269772661"),
         ("abc", "900150983cd24fb0d6963f7d28e17f72"),
     ] {
-        assert_eq!(rt; hex::encode(alloc, Md5::digest(text.as_bytes()))?.as_str(), digest);
+        assert_eq!(rt;
+            hex::encode(alloc, Md5::digest(text.as_bytes()))?.as_str(),
+            digest
+        );
     }
     Ok(())
 }
