@@ -15,8 +15,21 @@ const FIRST: &str = "1-967a00dff5e02add41819138abb3284d";
 
 const SECOND: &str = "2-7051cbe5c8faecd085a3fa619e6e6337";
 
+fn id(alloc: Global) -> Result<DocId, Fail> {
+    Ok(DocId::new(alloc, "a")?)
+}
+
 fn body(alloc: Global) -> Result<Arc<Body>, Fail> {
     Ok(Arc::new(alloc, Body::empty(alloc))?)
+}
+
+/// The revisions of these texts.
+fn revisions(alloc: Global, texts: &[&str]) -> Result<Vec<RevId>, Fail> {
+    let mut revisions = Vec::new(alloc);
+    for text in texts {
+        revisions.push(RevId::parse(text)?)?;
+    }
+    Ok(revisions)
 }
 
 #[test]
@@ -30,98 +43,127 @@ fn seats_are_in_range(rt: HostRuntime) -> Result<(), Fail> {
     Ok(())
 }
 
-#[test]
-fn edits_are_copied(rt: HostRuntime) -> Result<(), Fail> {
-    let mut edits = Vec::new(rt.alloc());
+/// A command of one edit.
+fn edits(alloc: Global) -> Result<Option<Command>, Fail> {
+    let mut edits = Vec::new(alloc);
     edits.push(Edit {
-        id: DocId::new(rt.alloc(), "a")?,
+        id: id(alloc)?,
         named: Some(RevId::parse(FIRST)?),
         deleted: true,
-        body: body(rt.alloc())?,
+        body: body(alloc)?,
     })?;
-    let command = Command::edits(edits).ok_or("few")?.copy(rt.alloc())?;
+    Ok(Command::edits(edits))
+}
+
+#[test]
+fn edits_are_copied(rt: HostRuntime) -> Result<(), Fail> {
+    let command = edits(rt.alloc())?.ok_or("few")?.copy(rt.alloc())?;
     let CommandKind::Edits(edits) = command.kind() else {
         return Err("edits".into());
     };
     assert_eq!(rt; edits.len(), 1);
     assert!(&rt; edits[0].id.as_str() == "a");
-    assert!(&rt; edits[0].named == Some(RevId::parse(FIRST)?));
     assert!(&rt; edits[0].deleted);
     Ok(())
 }
 
+/// A merge of the revisions of these texts.
+fn merge(alloc: Global, texts: &[&str]) -> Result<Option<Merge>, Fail> {
+    let path = revisions(alloc, texts)?;
+    Ok(Merge::new(id(alloc)?, path, true, body(alloc)?))
+}
+
 #[test]
 fn merges_have_paths(rt: HostRuntime) -> Result<(), Fail> {
-    let path = Vec::from_slice(rt.alloc(), &[RevId::parse(SECOND)?, RevId::parse(FIRST)?])?;
-    let id = DocId::new(rt.alloc(), "a")?;
-    let merge = Merge::new(id, path, true, body(rt.alloc())?).ok_or("a path")?;
+    let merge = merge(rt.alloc(), &[SECOND, FIRST])?.ok_or("a path")?;
     assert!(&rt; merge.id().as_str() == "a");
     assert_eq!(rt; merge.path().len(), 2);
     assert!(&rt; merge.deleted());
-    let mut merges = Vec::new(rt.alloc());
-    merges.push(merge)?;
-    let command = Command::merges(merges).ok_or("few")?.copy(rt.alloc())?;
-    assert!(&rt; matches!(command.kind(), CommandKind::Merges(merges) if merges.len() == 1));
-
-    let back = Vec::from_slice(rt.alloc(), &[RevId::parse(FIRST)?, RevId::parse(SECOND)?])?;
-    let id = DocId::new(rt.alloc(), "a")?;
-    assert!(&rt; Merge::new(id, back, false, body(rt.alloc())?).is_none());
-    let id = DocId::new(rt.alloc(), "a")?;
-    assert!(&rt; Merge::new(id, Vec::new(rt.alloc()), false, body(rt.alloc())?).is_none());
     Ok(())
 }
 
 #[test]
-fn counters_and_limits_are_from_one(rt: HostRuntime) -> Result<(), Fail> {
-    let alloc = rt.alloc();
-    let write = Command::put_local(DocId::new(alloc, "a")?, Some(7), Some(body(alloc)?));
-    let write = write.ok_or("from 1")?.copy(alloc)?;
-    assert!(&rt;
-        matches!(
-            write.kind(),
-            CommandKind::PutLocal {
-                named: Some(7),
-                body: Some(_),
-                ..
-            }
-        )
-    );
-    assert!(&rt; Command::put_local(DocId::new(alloc, "a")?, Some(0), None).is_none());
-    assert!(&rt; Command::put_local(DocId::new(alloc, "a")?, None, None).is_some());
+fn other_lists_are_no_paths(rt: HostRuntime) -> Result<(), Fail> {
+    assert!(&rt; merge(rt.alloc(), &[FIRST, SECOND])?.is_none());
+    assert!(&rt; merge(rt.alloc(), &[])?.is_none());
+    Ok(())
+}
 
-    let limit = Command::set_limit(1000).ok_or("from 1")?.copy(alloc)?;
+/// A command of one merge.
+fn merges(alloc: Global) -> Result<Option<Command>, Fail> {
+    let mut merges = Vec::new(alloc);
+    merges.push(merge(alloc, &[FIRST])?.ok_or("a path")?)?;
+    Ok(Command::merges(merges))
+}
+
+#[test]
+fn merges_are_copied(rt: HostRuntime) -> Result<(), Fail> {
+    let command = merges(rt.alloc())?.ok_or("few")?.copy(rt.alloc())?;
+    assert!(&rt; matches!(command.kind(), CommandKind::Merges(merges) if merges.len() == 1));
+    Ok(())
+}
+
+#[test]
+fn local_writes_are_copied(rt: HostRuntime) -> Result<(), Fail> {
+    let write = Command::put_local(id(rt.alloc())?, Some(7), Some(body(rt.alloc())?));
+    let write = write.ok_or("from 1")?.copy(rt.alloc())?;
+    let CommandKind::PutLocal { named, body, .. } = write.kind() else {
+        return Err("a local write".into());
+    };
+    assert_eq!(rt; *named, Some(7));
+    assert!(&rt; body.is_some());
+    Ok(())
+}
+
+#[test]
+fn counters_are_from_one(rt: HostRuntime) -> Result<(), Fail> {
+    assert!(&rt; Command::put_local(id(rt.alloc())?, Some(0), None).is_none());
+    assert!(&rt; Command::put_local(id(rt.alloc())?, None, None).is_some());
+    Ok(())
+}
+
+#[test]
+fn limits_are_from_one(rt: HostRuntime) -> Result<(), Fail> {
+    let limit = Command::set_limit(1000).ok_or("from 1")?.copy(rt.alloc())?;
     assert!(&rt; matches!(limit.kind(), CommandKind::SetLimit(1000)));
     assert!(&rt; Command::set_limit(0).is_none());
     Ok(())
 }
 
-#[test]
-fn entries_are_copied(rt: HostRuntime) -> Result<(), Fail> {
-    let mut writes = Vec::new(rt.alloc());
+/// A reply to two edits.
+fn reply(alloc: Global) -> Result<Reply, Fail> {
+    let mut writes = Vec::new(alloc);
     writes.push(Ok(RevId::parse(FIRST)?))?;
     writes.push(Err(Refusal::new(RefusalKind::Conflict)))?;
-    let entry = Entry {
-        seat: Seat::new(1, 2).ok_or("in range")?,
-        command: Command::set_limit(3).ok_or("from 1")?,
-        reply: Reply::new(ReplyKind::Wrote(writes)),
-    };
-    let entry = entry.copy(rt.alloc())?;
-    assert_eq!(rt; entry.seat.call(), 2);
-    let ReplyKind::Wrote(writes) = entry.reply.kind() else {
+    Ok(Reply::new(ReplyKind::Wrote(writes)))
+}
+
+#[test]
+fn replies_are_copied(rt: HostRuntime) -> Result<(), Fail> {
+    let reply = reply(rt.alloc())?.copy(rt.alloc())?;
+    let ReplyKind::Wrote(writes) = reply.kind() else {
         return Err("writes".into());
     };
     assert_eq!(rt; writes.len(), 2);
-    assert!(&rt; matches!(writes[0], Ok(_)));
     assert!(&rt; matches!(writes[1], Err(refusal) if refusal.kind() == RefusalKind::Conflict));
-    let done = Reply::new(ReplyKind::Done).copy(rt.alloc())?;
-    assert!(&rt; matches!(done.kind(), ReplyKind::Done));
-    let local = Reply::new(ReplyKind::WroteLocal(Ok(7))).copy(rt.alloc())?;
-    assert!(&rt; matches!(local.kind(), ReplyKind::WroteLocal(Ok(7))));
+    Ok(())
+}
+
+#[test]
+fn entries_are_copied(rt: HostRuntime) -> Result<(), Fail> {
+    let entry = Entry {
+        seat: Seat::new(1, 2).ok_or("in range")?,
+        command: Command::set_limit(3).ok_or("from 1")?,
+        reply: Reply::new(ReplyKind::WroteLocal(Ok(7))),
+    };
+    let entry = entry.copy(rt.alloc())?;
+    assert_eq!(rt; entry.seat.call(), 2);
+    assert!(&rt; matches!(entry.reply.kind(), ReplyKind::WroteLocal(Ok(7))));
     Ok(())
 }
 
 /// Revisions of documents of these ids, none of each.
-fn asked(alloc: Global, ids: &[&str]) -> Result<Vec<AskedRevisions>, Fail> {
+fn named(alloc: Global, ids: &[&str]) -> Result<Option<NamedRevisions>, Fail> {
     let mut documents = Vec::new(alloc);
     for id in ids {
         documents.push(AskedRevisions {
@@ -129,83 +171,92 @@ fn asked(alloc: Global, ids: &[&str]) -> Result<Vec<AskedRevisions>, Fail> {
             revisions: Vec::new(alloc),
         })?;
     }
-    Ok(documents)
+    Ok(NamedRevisions::new(documents))
 }
 
 #[test]
 fn named_ids_rise(rt: HostRuntime) -> Result<(), Fail> {
-    let named = NamedRevisions::new(asked(rt.alloc(), &["a", "b"])?).ok_or("rising")?;
-    assert_eq!(rt; named.documents().len(), 2);
-    let query = Query::new(QueryKind::RevsDiff(named));
-    assert!(&rt; matches!(query.kind(), QueryKind::RevsDiff(_)));
-    assert!(&rt; NamedRevisions::new(asked(rt.alloc(), &["b", "a"])?).is_none());
-    assert!(&rt; NamedRevisions::new(asked(rt.alloc(), &["a", "a"])?).is_none());
-    assert!(&rt; NamedRevisions::new(asked(rt.alloc(), &[])?).is_some());
+    assert!(&rt; named(rt.alloc(), &["b", "a"])?.is_none());
+    assert!(&rt; named(rt.alloc(), &["a", "a"])?.is_none());
+    assert!(&rt; named(rt.alloc(), &[])?.is_some());
     Ok(())
 }
 
 #[test]
-fn answers_have_kinds(rt: HostRuntime) -> Result<(), Fail> {
-    let absent = Absent::new(AbsentKind::WasDeleted);
-    let answer = Answer::new(AnswerKind::Found(Err(absent)));
-    let AnswerKind::Found(Err(absent)) = answer.kind() else {
-        return Err("nothing found".into());
+fn a_difference_is_asked_of_named_revisions(rt: HostRuntime) -> Result<(), Fail> {
+    let named = named(rt.alloc(), &["a", "b"])?.ok_or("rising")?;
+    let query = Query::new(QueryKind::RevsDiff(named));
+    let QueryKind::RevsDiff(named) = query.kind() else {
+        return Err("a difference".into());
     };
-    assert!(&rt; absent.kind() == AbsentKind::WasDeleted);
+    assert_eq!(rt; named.documents().len(), 2);
+    Ok(())
+}
+
+#[test]
+fn small_kinds_are_kept(rt: HostRuntime) {
+    assert!(&rt; Absent::new(AbsentKind::WasDeleted).kind() == AbsentKind::WasDeleted);
     assert!(&rt; Status::new(StatusKind::NoBody).kind() == StatusKind::NoBody);
     assert!(&rt; Style::new(StyleKind::AllDocs).kind() == StyleKind::AllDocs);
+    let answer = Answer::new(AnswerKind::Limit(1000));
+    assert!(&rt; matches!(answer.kind(), AnswerKind::Limit(1000)));
+}
 
+#[test]
+fn differences_are_listed(rt: HostRuntime) -> Result<(), Fail> {
+    let difference = Difference {
+        missing: Vec::new(rt.alloc()),
+        possible_ancestors: Vec::new(rt.alloc()),
+    };
     let mut documents = Vec::new(rt.alloc());
-    documents.push((
-        DocId::new(rt.alloc(), "a")?,
-        Difference {
-            missing: Vec::new(rt.alloc()),
-            possible_ancestors: Vec::new(rt.alloc()),
-        },
-    ))?;
+    documents.push((id(rt.alloc())?, difference))?;
     assert_eq!(rt; Differences::new(documents).documents().len(), 1);
     Ok(())
 }
 
+const LARGEST: Limits = Limits {
+    sessions: 64,
+    queue: 1024,
+    gather: 64,
+    slice: 4096,
+    slack: 64,
+    tries: 64,
+    max_places: 4_294_967_295,
+};
+
+fn is_allowed(limits: Limits) -> bool {
+    Config::new(limits).is_some()
+}
+
 #[test]
 fn configurations_are_in_range(rt: HostRuntime) -> Result<(), Fail> {
-    let limits = Limits {
-        sessions: 64,
-        queue: 1024,
-        gather: 64,
-        slice: 4096,
-        slack: 0,
-        tries: 1,
-        max_places: 4_294_967_295,
-    };
-    assert_eq!(rt; Config::new(limits).ok_or("in range")?.limits().queue, 1024);
+    assert_eq!(rt;
+        Config::new(LARGEST).ok_or("in range")?.limits().queue,
+        1024
+    );
     assert!(&rt;
-        Config::new(Limits {
+        !is_allowed(Limits {
             queue: 1025,
-            ..limits
+            ..LARGEST
         })
-        .is_none()
     );
     assert!(&rt;
-        Config::new(Limits {
+        !is_allowed(Limits {
             sessions: 0,
-            ..limits
+            ..LARGEST
         })
-        .is_none()
     );
     assert!(&rt;
-        Config::new(Limits {
+        !is_allowed(Limits {
             slack: 65,
-            ..limits
+            ..LARGEST
         })
-        .is_none()
     );
     assert!(&rt;
-        Config::new(Limits {
+        !is_allowed(Limits {
             max_places: 0,
-            ..limits
+            ..LARGEST
         })
-        .is_none()
     );
     Ok(())
 }

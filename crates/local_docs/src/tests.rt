@@ -47,40 +47,81 @@ fn counter(alloc: Global, locals: &Locals) -> Result<u32, Fail> {
     Ok(locals.get(&id).map_or(0, |local| local.counter))
 }
 
+/// The number that the outcome has.
+fn number(outcome: Outcome) -> Result<u32, LocalFault> {
+    let (_, number) = outcome?;
+    Ok(number)
+}
+
+/// After one write.
+fn first(alloc: Global) -> Result<Locals, Fail> {
+    let (locals, _) = put(alloc, &Locals::new(alloc), None)??;
+    Ok(locals)
+}
+
+/// After a second write.
+fn second(alloc: Global) -> Result<Locals, Fail> {
+    let (locals, _) = put(alloc, &first(alloc)?, Some(1))??;
+    Ok(locals)
+}
+
+#[test]
+fn the_first_revision_is_one(rt: HostRuntime) -> Result<(), Fail> {
+    let outcome = put(rt.alloc(), &Locals::new(rt.alloc()), None)?;
+    assert!(&rt; matches!(number(outcome), Ok(1)));
+    Ok(())
+}
+
 #[test]
 fn writes_name_the_revision_that_stands(rt: HostRuntime) -> Result<(), Fail> {
-    let (first, number) = put(rt.alloc(), &Locals::new(rt.alloc()), None)??;
-    assert_eq!(rt; number, 1);
-    assert!(&rt; matches!(put(rt.alloc(), &first, None)?, Err(LocalFault::Conflict)));
-    let (second, number) = put(rt.alloc(), &first, Some(1))??;
-    assert_eq!(rt; number, 2);
-    assert_eq!(rt; counter(rt.alloc(), &second.share()?)?, 2);
+    let first = first(rt.alloc())?;
+    assert!(&rt;
+        matches!(
+            number(put(rt.alloc(), &first, None)?),
+            Err(LocalFault::Conflict)
+        )
+    );
+    assert!(&rt; matches!(number(put(rt.alloc(), &first, Some(1))?), Ok(2)));
     // The older documents are as they were.
     assert_eq!(rt; counter(rt.alloc(), &first)?, 1);
     Ok(())
 }
 
 #[test]
+fn a_shared_map_is_the_same(rt: HostRuntime) -> Result<(), Fail> {
+    let shared = second(rt.alloc())?.share()?;
+    assert_eq!(rt; counter(rt.alloc(), &shared)?, 2);
+    Ok(())
+}
+
+#[test]
 fn deletions_name_the_revision_that_stands(rt: HostRuntime) -> Result<(), Fail> {
-    let (first, _number) = put(rt.alloc(), &Locals::new(rt.alloc()), None)??;
-    let (second, _number) = put(rt.alloc(), &first, Some(1))??;
-    let none = delete(rt.alloc(), &second, Some(2))??;
-    assert_eq!(rt; counter(rt.alloc(), &none)?, 0);
+    let none = delete(rt.alloc(), &second(rt.alloc())?, Some(2))??;
     assert!(&rt;
         matches!(
             delete(rt.alloc(), &none, Some(2))?,
             Err(LocalFault::Missing)
         )
     );
-    assert!(&rt; matches!(put(rt.alloc(), &none, Some(2))?, Err(LocalFault::Conflict)));
+    assert!(&rt;
+        matches!(
+            number(put(rt.alloc(), &none, Some(2))?),
+            Err(LocalFault::Conflict)
+        )
+    );
+    Ok(())
+}
+
+#[test]
+fn a_write_with_a_body_puts(rt: HostRuntime) -> Result<(), Fail> {
+    let outcome = write(rt.alloc(), &first(rt.alloc())?, Some(1))?;
+    assert!(&rt; matches!(number(outcome), Ok(2)));
     Ok(())
 }
 
 #[test]
 fn a_write_with_no_body_deletes(rt: HostRuntime) -> Result<(), Fail> {
-    let (first, number) = write(rt.alloc(), &Locals::new(rt.alloc()), None)??;
-    assert_eq!(rt; number, 1);
-    let (none, number) = write_none(rt.alloc(), &first, Some(1))??;
+    let (none, number) = write_none(rt.alloc(), &first(rt.alloc())?, Some(1))??;
     assert_eq!(rt; number, 0);
     assert_eq!(rt; counter(rt.alloc(), &none)?, 0);
     Ok(())
