@@ -3,3 +3,6 @@ pub mod Merged
 pub mod Agreement
 pub mod Parts
 pub mod Grafted
+pub mod Reached
+pub mod Restricted
+pub mod Raised
