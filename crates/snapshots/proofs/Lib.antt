@@ -1,0 +1,4 @@
+pub mod MapLists
+pub mod Numbered
+pub mod Counted
+pub mod Indexed
