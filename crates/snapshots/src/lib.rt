@@ -3,5 +3,7 @@
 
 mod documents;
 mod record;
+mod stub_merge;
+mod written;
 
 pub use record::Record;

@@ -1,0 +1,213 @@
+//! What a version holds beside its history: a database.
+ghost use Rattle.std.specs.Prelude.{◌≡◌, ◌≤◌, ◌<◌, ◌+◌, length, IfOk, false, option_map, option_copied, unwrap_or};
+ghost use Rattle.std.specs.Arc.{arc_value};
+ghost use Rattle.model.specs.Map.{get};
+ghost use Rattle.model.specs.Command.{IsLimit, max_edits};
+ghost use Rattle.model.specs.Edit.{revision_written};
+ghost use Rattle.model.specs.Database as model;
+ghost use Rattle.model.specs.Database.{empty_database, same_tree, tree_at, edit_in, merge_in, after_edit, after_merge, edit_replies, after_edits, merge_replies, after_merges, put_local_reply, after_put_local, reply_to, changed_by, calls_of, counted};
+
+use crate::documents::Documents;
+use crate::record::Record;
+use crate::stub_locals::{LocalDoc, LocalFault, Locals};
+use crate::stub_merge::is_same;
+use crate::written::{edited, merged};
+use commands::{Command, CommandKind, Edit, Merge, Refusal, RefusalKind, Reply, ReplyKind, Seat};
+use cow_index::CowMap;
+use document_id::DocId;
+use json_profile::Body;
+use revision_id::RevId;
+use revision_tree::RevTree;
+use std::alloc::{AllocError, Global};
+use std::marker::Model;
+use std::sync::Arc;
+
+#[derive(Drop)]
+pub(crate) struct Content {
+    alloc: Global,
+    documents: Documents,
+    locals: Locals,
+    revs_limit: u32,
+    /// Of each session, how many commands it has made.
+    calls: CowMap<u16, u64>,
+}
+
+impl Model for Content {
+    ghost use Rattle.std.specs.Prelude.{◌<◌};
+    ghost use Rattle.std.specs.Coded.{codes};
+    ghost use Rattle.model.specs.JsonCode.{coded_members};
+    ghost use Rattle.model.specs.Database.{Database};
+    ghost use Rattle.snapshots.specs.Content.{content_of};
+
+    ghost Value = { Database };
+
+    ghost coded = { Prim.hlevel (codes, coded_members) };
+
+    ghost view = { λ c. content_of c.documents c.locals c.revs_limit c.calls.entries };
+
+    ghost invariant = { λ c. 0 < c.revs_limit };
+}
+
+impl Content {
+    pub(crate) fn new(alloc: Global) -> Content
+        ensures { result ≡ empty_database }
+    {
+        Content {
+            alloc,
+            documents: Documents::new(alloc),
+            locals: Locals::new(alloc),
+            revs_limit: 1000,
+            calls: CowMap::new(alloc),
+        }
+    }
+
+    /// The same content. It grows nothing.
+    pub(crate) fn share(&self) -> Result<Content, AllocError>
+        ensures { IfOk result (λ c. c ≡ self.now) }
+    {
+        Ok(Content {
+            alloc: self.alloc,
+            documents: self.documents.share()?,
+            locals: self.locals.share()?,
+            revs_limit: self.revs_limit,
+            calls: self.calls.share()?,
+        })
+    }
+
+    pub(crate) fn record(&self, id: &DocId) -> Option<&Record>
+        ensures { option_copied result ≡ get self.now.docs id.now }
+    {
+        self.documents.get(id)
+    }
+
+    fn tree(&self, id: &DocId) -> Option<&RevTree>
+        ensures { option_copied result ≡ tree_at self.now id.now }
+    {
+        self.record(id).map(Record::tree)
+    }
+
+    pub(crate) fn update_seq(&self) -> u64
+        ensures { result ≡ self.now.update_seq }
+    {
+        self.documents.update_seq()
+    }
+
+    /// How many revisions are kept above a leaf, itself among them.
+    pub(crate) fn revs_limit(&self) -> u32
+        ensures limit { result ≡ self.now.revs_limit }
+        ensures not_zero { 0 < result }
+    {
+        self.revs_limit
+    }
+
+    fn holds(&self, id: &DocId, tree: &RevTree) -> bool
+        ensures { result ≡ unwrap_or (option_map (same_tree tree.now) (tree_at self.now id.now)) false }
+    {
+        match self.tree(id) {
+            Some(held) => is_same(tree, held),
+            None => false,
+        }
+    }
+
+    /// Gives the document this tree, at the next update number, unless it has it already.
+    #[tactic(auto, unfolding(model::specs::Database::store))]
+    fn store(&mut self, id: &DocId, tree: RevTree) -> Result<(), AllocError>
+        requires room { self.old.update_seq < u64.MAX }
+        ensures stored { IfOk result (λ _. self.new ≡ model.store self.old id.now tree) }
+    {
+        if self.holds(id, &tree) {
+            return Ok(());
+        }
+        self.update(id, tree)
+    }
+
+    fn update(&mut self, id: &DocId, tree: RevTree) -> Result<(), AllocError>
+        requires room { self.old.update_seq < u64.MAX }
+        ensures updated { IfOk result (λ _. self.new ≡ model.with_tree self.old id.now tree) }
+    {
+        self.documents.update(self.alloc, id, tree)
+    }
+
+    fn edit(&mut self, edit: &Edit) -> Result<Result<RevId, Refusal>, AllocError>
+        requires room { self.old.update_seq < u64.MAX }
+        ensures reply { IfOk result (λ r. r ≡ revision_written (edit_in self.old edit.now)) }
+        ensures after { IfOk result (λ _. self.new ≡ after_edit self.old edit.now) }
+    {
+        match edited(self.alloc, self.revs_limit(), self.tree(&edit.id), edit)? {
+            Ok(written) => {
+                self.store(&edit.id, written.tree)?;
+                Ok(Ok(written.rev))
+            }
+            Err(refusal) => Ok(Err(refusal)),
+        }
+    }
+
+    fn merge(&mut self, merge: &Merge) -> Result<Result<RevId, Refusal>, AllocError>
+        requires room { self.old.update_seq < u64.MAX }
+        ensures reply { IfOk result (λ r. r ≡ revision_written (merge_in self.old merge.now)) }
+        ensures after { IfOk result (λ _. self.new ≡ after_merge self.old merge.now) }
+    {
+        match merged(self.alloc, self.revs_limit(), self.tree(merge.id()), merge)? {
+            Ok(written) => {
+                self.store(merge.id(), written.tree)?;
+                Ok(Ok(written.rev))
+            }
+            Err(refusal) => Ok(Err(refusal)),
+        }
+    }
+
+    /// One after another, in the order listed.
+    fn edits(&mut self, edits: &[Edit]) -> Result<Vec<Result<RevId, Refusal>>, AllocError>
+        requires room { self.old.update_seq + length edits.now ≤ u64.MAX }
+        ensures replies { IfOk result (λ rs. rs.items ≡ edit_replies self.old edits.now) }
+        ensures after { IfOk result (λ _. self.new ≡ after_edits self.old edits.now) }
+    {
+        let mut replies = Vec::with_capacity(self.alloc, edits.len())?;
+        for edit in edits {
+            replies.push(self.edit(edit)?)?;
+        }
+        Ok(replies)
+    }
+
+    /// One after another, in the order listed.
+    fn merges(&mut self, merges: &[Merge]) -> Result<Vec<Result<RevId, Refusal>>, AllocError>
+        requires room { self.old.update_seq + length merges.now ≤ u64.MAX }
+        ensures replies { IfOk result (λ rs. rs.items ≡ merge_replies self.old merges.now) }
+        ensures after { IfOk result (λ _. self.new ≡ after_merges self.old merges.now) }
+    {
+        let mut replies = Vec::with_capacity(self.alloc, merges.len())?;
+        for merge in merges {
+            replies.push(self.merge(merge)?)?;
+        }
+        Ok(replies)
+    }
+
+    /// Writes a local document, or with no body deletes it.
+    fn put_local(
+        &mut self,
+        id: &DocId,
+        named: Option<u32>,
+        body: Option<&Arc<Body>>,
+    ) -> Result<Result<u32, Refusal>, AllocError>
+        ensures reply { IfOk result (λ r. r ≡ put_local_reply self.old id.now named (option_map arc_value (option_copied body.entry))) }
+        ensures after { IfOk result (λ _. self.new ≡ after_put_local self.old id.now named (option_map arc_value (option_copied body.entry))) }
+    {
+        match self.locals.write(id, named, body) {
+            Ok((locals, counter)) => {
+                self.locals = locals;
+                Ok(Ok(counter))
+            }
+            Err(LocalFault::Conflict) => Ok(Err(Refusal::new(RefusalKind::Conflict))),
+            Err(LocalFault::Missing) => Ok(Err(Refusal::new(RefusalKind::Missing))),
+            Err(LocalFault::LastCounter) => Ok(Err(Refusal::new(RefusalKind::GenerationLimit))),
+            Err(LocalFault::Memory) => Err(AllocError),
+        }
+    }
+
+    fn set_limit(&mut self, limit: u32)
+        requires { 0 < limit }
+        ensures { self.new ≡ record self.old { revs_limit = limit } }
+    {
+        self.revs_limit = limit;
+    }
+}
