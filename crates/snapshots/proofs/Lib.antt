@@ -2,3 +2,4 @@ pub mod MapLists
 pub mod Numbered
 pub mod Counted
 pub mod Indexed
+pub mod Bulks

@@ -9,13 +9,13 @@ ghost use Rattle.model.specs.Database.{empty_database, same_tree, tree_at, edit_
 
 use crate::documents::Documents;
 use crate::record::Record;
-use crate::stub_locals::{LocalDoc, LocalFault, Locals};
 use crate::stub_merge::is_same;
 use crate::written::{edited, merged};
 use commands::{Command, CommandKind, Edit, Merge, Refusal, RefusalKind, Reply, ReplyKind, Seat};
 use cow_index::CowMap;
 use document_id::DocId;
 use json_profile::Body;
+use local_docs::{LocalDoc, LocalFault, Locals};
 use revision_id::RevId;
 use revision_tree::RevTree;
 use std::alloc::{AllocError, Global};

@@ -134,10 +134,15 @@ fn renumbered(
     ensures { IfOk result (λ m. m.entries ≡ put_entry nat_cmp seq (id.now, stored.now)
         (without_number (option_copied old.entry) numbers.now.entries)) }
 {
-    let owned = id.share()?;
-    let numbered = (owned, stored.share()?);
+    let numbered = (id.share()?, stored.share()?);
+    without_old(numbers, old)?.insert(seq, numbered)
+}
+
+fn without_old(numbers: &Numbers, old: Option<&Record>) -> Result<Numbers, AllocError>
+    ensures { IfOk result (λ m. m.entries ≡ without_number (option_copied old.entry) numbers.now.entries) }
+{
     match old {
-        Some(old) => numbers.remove(&old.seq())?.insert(seq, numbered),
-        None => numbers.insert(seq, numbered),
+        Some(old) => numbers.remove(&old.seq()),
+        None => numbers.share(),
     }
 }

@@ -1,6 +1,7 @@
 //! Versions of the database: each is what its history of answered commands makes of the empty one.
 #![tactic(auto)]
 
+mod content;
 mod documents;
 mod record;
 mod stub_merge;
