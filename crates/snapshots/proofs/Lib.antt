@@ -3,3 +3,4 @@ pub mod Numbered
 pub mod Counted
 pub mod Indexed
 pub mod Bulks
+pub mod Calls

@@ -210,4 +210,62 @@ impl Content {
     {
         self.revs_limit = limit;
     }
+
+    /// What a command changes, and what it is answered.
+    #[tactic(auto, unfolding(model::specs::Database::reply_to, model::specs::Database::changed_by))]
+    fn change(&mut self, command: &Command) -> Result<Reply, AllocError>
+        requires room { self.old.update_seq + max_edits ≤ u64.MAX }
+        ensures reply { IfOk result (λ r. r ≡ reply_to self.old command.now) }
+        ensures after { IfOk result (λ _. self.new ≡ changed_by self.old command.now) }
+    {
+        match command.kind() {
+            CommandKind::Edits(edits) => {
+                let replies = self.edits(edits)?;
+                Ok(Reply::new(ReplyKind::Wrote(replies)))
+            }
+            CommandKind::Merges(merges) => {
+                let replies = self.merges(merges)?;
+                Ok(Reply::new(ReplyKind::Wrote(replies)))
+            }
+            CommandKind::PutLocal { id, named, body } => {
+                let reply = self.put_local(id, *named, body.as_ref())?;
+                Ok(Reply::new(ReplyKind::WroteLocal(reply)))
+            }
+            CommandKind::SetLimit(limit) => {
+                self.set_limit(*limit);
+                Ok(Reply::new(ReplyKind::Done))
+            }
+        }
+    }
+
+    /// How many commands the session has made.
+    pub(crate) fn calls_of(&self, session: u16) -> u64
+        ensures { result ≡ calls_of self.now session }
+    {
+        match self.calls.get(&session) {
+            Some(calls) => *calls,
+            None => 0,
+        }
+    }
+
+    fn count_call(&mut self, session: u16, call: u64) -> Result<(), AllocError>
+        requires { call ≡ calls_of self.old session + 1 }
+        ensures { IfOk result (λ _. self.new ≡ counted self.old session) }
+    {
+        self.calls = self.calls.insert(session, call)?;
+        Ok(())
+    }
+
+    /// Does the command, and counts it as a call of its session.
+    #[tactic(auto, unfolding(model::specs::Database::act))]
+    pub(crate) fn act(&mut self, seat: Seat, command: &Command) -> Result<Reply, AllocError>
+        requires next { seat.call ≡ calls_of self.old seat.session + 1 }
+        requires room { self.old.update_seq + max_edits ≤ u64.MAX }
+        ensures reply { IfOk result (λ r. r ≡ reply_to self.old command.now) }
+        ensures after { IfOk result (λ _. self.new ≡ model.act self.old seat command.now) }
+    {
+        let reply = self.change(command)?;
+        self.count_call(seat.session(), seat.call())?;
+        Ok(reply)
+    }
 }

@@ -5,6 +5,8 @@ mod content;
 mod documents;
 mod record;
 mod stub_merge;
+mod version;
 mod written;
 
 pub use record::Record;
+pub use version::Version;
