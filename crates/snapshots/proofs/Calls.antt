@@ -35,9 +35,6 @@ calls_of-few es s = omega (arith, calls-replay empty_database es s, length-filte
 pub content-counted : (documents : Listing) (locals : Map names Local) (limit : ℕ) (calls later : List (ℕ × ℕ)) (d : Database) (s n : ℕ) → content_of documents locals limit calls ≡ d → later ≡ listed.put nat_cmp s n calls → n ≡ calls_of d s + 1 → content_of documents locals limit later ≡ counted d s
 content-counted documents locals limit calls later d s n is put_call next =
     ap (λ es. content_of documents locals limit es) put_call
-    ∙ ap (λ (m : Map numbers ℕ). record before { calls = m }) (from_list-put numbers s n calls)
-    ∙ ap (λ k. record before { calls = put {O = numbers} (from_list calls) s k }) (next ∙ ap (λ (e : Database). calls_of e s + 1) (sym is))
+    ∙ ap (λ (m : Map numbers ℕ). record (content_of documents locals limit calls) { calls = m }) (from_list-put numbers s n calls)
+    ∙ ap (λ k. record (content_of documents locals limit calls) { calls = put {O = numbers} (from_list calls) s k }) (next ∙ ap (λ (e : Database). calls_of e s + 1) (sym is))
     ∙ ap (λ (e : Database). counted e s) is
-  where
-    abbrev before : Database
-    before = content_of documents locals limit calls

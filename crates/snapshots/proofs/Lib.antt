@@ -4,3 +4,5 @@ pub mod Counted
 pub mod Indexed
 pub mod Bulks
 pub mod Calls
+pub mod Places
+pub mod Histories

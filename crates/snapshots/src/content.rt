@@ -2,7 +2,7 @@
 ghost use Rattle.std.specs.Prelude.{◌≡◌, ◌≤◌, ◌<◌, ◌+◌, length, IfOk, false, option_map, option_copied, unwrap_or};
 ghost use Rattle.std.specs.Arc.{arc_value};
 ghost use Rattle.model.specs.Map.{get};
-ghost use Rattle.model.specs.Command.{IsLimit, max_edits};
+ghost use Rattle.model.specs.Command.{IsCommand, IsSeat, max_edits};
 ghost use Rattle.model.specs.Edit.{revision_written};
 ghost use Rattle.model.specs.Database as model;
 ghost use Rattle.model.specs.Database.{empty_database, same_tree, tree_at, edit_in, merge_in, after_edit, after_merge, edit_replies, after_edits, merge_replies, after_merges, put_local_reply, after_put_local, reply_to, changed_by, calls_of, counted};
@@ -217,6 +217,7 @@ impl Content {
         requires room { self.old.update_seq + max_edits ≤ u64.MAX }
         ensures reply { IfOk result (λ r. r ≡ reply_to self.old command.now) }
         ensures after { IfOk result (λ _. self.new ≡ changed_by self.old command.now) }
+        ensures limits { IfOk result (λ _. IsCommand command.now) }
     {
         match command.kind() {
             CommandKind::Edits(edits) => {
@@ -263,6 +264,7 @@ impl Content {
         requires room { self.old.update_seq + max_edits ≤ u64.MAX }
         ensures reply { IfOk result (λ r. r ≡ reply_to self.old command.now) }
         ensures after { IfOk result (λ _. self.new ≡ model.act self.old seat command.now) }
+        ensures limits { IfOk result (λ _. IsSeat seat × IsCommand command.now) }
     {
         let reply = self.change(command)?;
         self.count_call(seat.session(), seat.call())?;

@@ -89,7 +89,9 @@ impl Version {
     fn pushed(&self, entry: Entry) -> Result<CowMap<u64, Entry>, AllocError>
         ensures { IfOk result (λ m. m.entries ≡ placed_from 1 (self.now ++ entry ∷ [])) }
     {
-        self.history.insert(self.place() + 1, entry)
+        let place = self.place() + 1;
+        let history = self.history.insert(place, entry)?;
+        Ok(history)
     }
 
     /// The number of entries, which is the place of the last.
