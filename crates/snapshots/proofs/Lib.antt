@@ -6,3 +6,4 @@ pub mod Bulks
 pub mod Calls
 pub mod Places
 pub mod Histories
+pub mod Shown

@@ -1,18 +1,21 @@
 //! What a version holds beside its history: a database.
-ghost use Rattle.std.specs.Prelude.{◌≡◌, ◌≤◌, ◌<◌, ◌+◌, length, IfOk, false, option_map, option_copied, unwrap_or};
+ghost use Rattle.std.specs.Prelude.{◌≡◌, ◌≤◌, ◌<◌, ◌+◌, ◌^◌, ℕ, length, IfOk, false, option_map, option_copied, unwrap_or};
 ghost use Rattle.std.specs.Arc.{arc_value};
-ghost use Rattle.model.specs.Map.{get};
-ghost use Rattle.model.specs.Command.{IsCommand, IsSeat, max_edits};
+ghost use Rattle.std.specs.Map.Iter.{ShowsInOrder, deref_pair};
+ghost use Rattle.model.specs.Map.{entries, get};
+ghost use Rattle.model.specs.Changes.{every_id, changed_since as changed_above};
+ghost use Rattle.model.specs.Answers.{counts};
+ghost use Rattle.model.specs.Command.{Id, IsCommand, IsSeat, max_edits};
 ghost use Rattle.model.specs.Edit.{revision_written};
 ghost use Rattle.model.specs.Database as model;
-ghost use Rattle.model.specs.Database.{empty_database, same_tree, tree_at, edit_in, merge_in, after_edit, after_merge, edit_replies, after_edits, merge_replies, after_merges, put_local_reply, after_put_local, reply_to, changed_by, calls_of, counted};
+ghost use Rattle.model.specs.Database.{Record as Stored, empty_database, same_tree, tree_at, edit_in, merge_in, after_edit, after_merge, edit_replies, after_edits, merge_replies, after_merges, put_local_reply, after_put_local, reply_to, changed_by, calls_of, counted};
 
 use crate::documents::Documents;
 use crate::record::Record;
 use crate::stub_merge::is_same;
 use crate::written::{edited, merged};
-use commands::{Command, CommandKind, Edit, Merge, Refusal, RefusalKind, Reply, ReplyKind, Seat};
-use cow_index::CowMap;
+use commands::{Command, CommandKind, Counts, Edit, Merge, Refusal, RefusalKind, Reply, ReplyKind, Seat};
+use cow_index::{CowMap, Range, Shared};
 use document_id::DocId;
 use json_profile::Body;
 use local_docs::{LocalDoc, LocalFault, Locals};
@@ -98,6 +101,52 @@ impl Content {
         ensures not_zero { 0 < result }
     {
         self.revs_limit
+    }
+
+    /// The documents, in the order of their ids.
+    pub(crate) fn records(&self) -> Range<'_, DocId, Shared<Record>>
+        ensures rest { result ≡ entries self.now.docs }
+        ensures fits { length result < 2 ^ 64 }
+        ensures runs { ShowsInOrder (deref_pair {K = Id} {X = Stored}) }
+    {
+        self.documents.iter()
+    }
+
+    /// The documents with a number above `since`, in the order of their numbers.
+    #[tactic(auto, unfolding(model::specs::Changes::by_seq))]
+    pub(crate) fn changed_since(&self, since: u64) -> Range<'_, u64, (DocId, Shared<Record>)>
+        requires { self.now.update_seq < u64.MAX }
+        ensures rest { result ≡ changed_above every_id self.now since }
+        ensures fits { length result < 2 ^ 64 }
+        ensures runs { ShowsInOrder (deref_pair {K = ℕ} {X = Id × Stored}) }
+    {
+        self.documents.changed_since(since)
+    }
+
+    /// How many documents have a number above `since`.
+    #[tactic(auto, unfolding(model::specs::Changes::by_seq))]
+    pub(crate) fn count_changed_since(&self, since: u64) -> u64
+        requires { self.now.update_seq < u64.MAX }
+        ensures { result ≡ length (changed_above every_id self.now since) }
+    {
+        self.documents.count_changed_since(since)
+    }
+
+    pub(crate) fn counts(&self) -> Counts
+        ensures { result ≡ counts self.now }
+    {
+        Counts {
+            doc_count: self.documents.live(),
+            doc_del_count: self.documents.deleted(),
+            update_seq: self.documents.update_seq(),
+            purge_seq: 0,
+        }
+    }
+
+    pub(crate) fn local(&self, id: &DocId) -> Option<&LocalDoc>
+        ensures { option_copied result ≡ get self.now.locals id.now }
+    {
+        self.locals.get(id)
     }
 
     fn holds(&self, id: &DocId, tree: &RevTree) -> bool

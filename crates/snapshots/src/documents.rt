@@ -1,13 +1,18 @@
 //! The documents by their ids and by their update numbers, and how many of them are live.
-ghost use Rattle.std.specs.Prelude.{◌≡◌, ◌<◌, IfOk, option_copied};
+ghost use Rattle.std.specs.Prelude.{◌≡◌, ◌<◌, ◌^◌, ℕ, length, IfOk, option_copied};
 ghost use Rattle.std.specs.Ordering.{nat_cmp};
 ghost use Rattle.std.specs.Cmp.Lexicographic.{slice_cmp};
 ghost use Rattle.std.specs.FinMap.Entries.{find, put as put_entry};
-ghost use Rattle.model.specs.Map.{get, empty};
-ghost use Rattle.snapshots.specs.Listing.{updated, live_in, without_number};
+ghost use Rattle.std.specs.Map.Iter.{ShowsInOrder, deref_pair};
+ghost use Rattle.model.specs.Map.{entries, get, empty};
+ghost use Rattle.model.specs.Command.{Id};
+ghost use Rattle.model.specs.Database.{Record as Stored};
+ghost use Rattle.model.specs.Changes.{every_id, changed_since as changed_above};
+ghost use Rattle.model.specs.Answers.{counts};
+ghost use Rattle.snapshots.specs.Listing.{database_of, updated, live_in, without_number};
 
 use crate::record::Record;
-use cow_index::{CowMap, Shared};
+use cow_index::{CowMap, Range, Shared};
 use document_id::DocId;
 use revision_tree::RevTree;
 use std::alloc::{AllocError, Global};
@@ -71,6 +76,47 @@ impl Documents {
         ensures { result ≡ self.now.update_seq }
     {
         self.update_seq
+    }
+
+    /// The documents, in the order of their ids.
+    pub(crate) fn iter(&self) -> Range<'_, DocId, Shared<Record>>
+        ensures rest { result ≡ entries self.now.docs }
+        ensures fits { length result < 2 ^ 64 }
+        ensures runs { ShowsInOrder (deref_pair {K = Id} {X = Stored}) }
+    {
+        self.by_id.iter()
+    }
+
+    /// The documents with a number above `since`, in the order of their numbers.
+    pub(crate) fn changed_since(&self, since: u64) -> Range<'_, u64, (DocId, Shared<Record>)>
+        requires { self.now.update_seq < u64.MAX }
+        ensures rest { result ≡ changed_above every_id (database_of self.now) since }
+        ensures fits { length result < 2 ^ 64 }
+        ensures runs { ShowsInOrder (deref_pair {K = ℕ} {X = Id × Stored}) }
+    {
+        self.by_number.range_from(&(since.min(self.update_seq) + 1))
+    }
+
+    /// How many documents have a number above `since`, counted on one way down the index.
+    pub(crate) fn count_changed_since(&self, since: u64) -> u64
+        requires { self.now.update_seq < u64.MAX }
+        ensures { result ≡ length (changed_above every_id (database_of self.now) since) }
+    {
+        self.by_number.count_from(&(since.min(self.update_seq) + 1))
+    }
+
+    /// How many documents have a winner that is not deleted.
+    pub(crate) fn live(&self) -> u64
+        ensures { result ≡ (counts (database_of self.now)).doc_count }
+    {
+        self.live
+    }
+
+    /// How many documents have a deleted winner.
+    pub(crate) fn deleted(&self) -> u64
+        ensures { result ≡ (counts (database_of self.now)).doc_del_count }
+    {
+        self.by_id.len() - self.live
     }
 
     /// Gives the document this tree, under the next update number.

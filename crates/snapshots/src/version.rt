@@ -1,15 +1,20 @@
 //! A version of the database.
-ghost use Rattle.std.specs.Prelude.{◌≡◌, ◌≤◌, ◌<◌, ◌+◌, ◌∷◌, ◌++◌, [], length, IfOk, option_copied};
-ghost use Rattle.model.specs.Map.{get};
-ghost use Rattle.model.specs.Database.{empty_database, calls_of};
+ghost use Rattle.std.specs.Prelude.{◌≡◌, ◌≤◌, ◌<◌, ◌+◌, ◌^◌, ◌∷◌, ◌++◌, [], ℕ, length, IfOk, option_copied};
+ghost use Rattle.std.specs.Map.Iter.{ShowsInOrder, deref_pair};
+ghost use Rattle.model.specs.Map.{entries, get};
+ghost use Rattle.model.specs.Command.{Id};
+ghost use Rattle.model.specs.Changes.{every_id, changed_since as changed_above};
+ghost use Rattle.model.specs.Answers.{counts};
+ghost use Rattle.model.specs.Database.{Record as Stored, empty_database, calls_of};
 ghost use Rattle.model.specs.History.{replay, entry_of};
 ghost use Rattle.snapshots.specs.Version.{IsHistory, entry_at, placed_from};
 
 use crate::content::Content;
 use crate::record::Record;
-use commands::{Command, Copied, Entry, Seat};
-use cow_index::CowMap;
+use commands::{Command, Copied, Counts, Entry, Seat};
+use cow_index::{CowMap, Range, Shared};
 use document_id::DocId;
+use local_docs::LocalDoc;
 use std::alloc::{AllocError, Global};
 use std::marker::Model;
 
@@ -134,5 +139,43 @@ impl Version {
         ensures { result ≡ (replay empty_database self.now).revs_limit }
     {
         self.content.revs_limit()
+    }
+
+    /// The documents, in the order of their ids.
+    pub fn records(&self) -> Range<'_, DocId, Shared<Record>>
+        ensures rest { result ≡ entries (replay empty_database self.now).docs }
+        ensures fits { length result < 2 ^ 64 }
+        ensures runs { ShowsInOrder (deref_pair {K = Id} {X = Stored}) }
+    {
+        self.content.records()
+    }
+
+    /// The documents with an update number above `since`, in the order of these numbers.
+    pub fn changed_since(&self, since: u64) -> Range<'_, u64, (DocId, Shared<Record>)>
+        ensures rest { result ≡ changed_above every_id (replay empty_database self.now) since }
+        ensures fits { length result < 2 ^ 64 }
+        ensures runs { ShowsInOrder (deref_pair {K = ℕ} {X = Id × Stored}) }
+    {
+        self.content.changed_since(since)
+    }
+
+    /// How many documents have an update number above `since`, counted on one way down the index.
+    pub fn count_changed_since(&self, since: u64) -> u64
+        ensures { result ≡ length (changed_above every_id (replay empty_database self.now) since) }
+    {
+        self.content.count_changed_since(since)
+    }
+
+    /// How many documents there are, live and deleted, and the last numbers that were given.
+    pub fn counts(&self) -> Counts
+        ensures { result ≡ counts (replay empty_database self.now) }
+    {
+        self.content.counts()
+    }
+
+    pub fn local(&self, id: &DocId) -> Option<&LocalDoc>
+        ensures { option_copied result ≡ get (replay empty_database self.now).locals id.now }
+    {
+        self.content.local(id)
     }
 }
