@@ -1,0 +1,4 @@
+pub mod LeafLists
+pub mod SeenLists
+pub mod OrderLists
+pub mod LackLists
