@@ -2,3 +2,4 @@ pub mod LeafLists
 pub mod SeenLists
 pub mod OrderLists
 pub mod LackLists
+pub mod RowLists
