@@ -2,7 +2,7 @@
 use Rattle.std.specs.Prelude.{◌≡◌, ◌-◌, ℕ, suc, List, [], ◌∷◌, ◌++◌, length, map, take, slice_get, Option, Some, None, refl}
 use Rattle.std.specs.List.{filter_map}
 use Rattle.std.proofs.Common.{sym, ap, subst, ◌∙◌, append-nil, arith}
-use Rattle.std.proofs.lemmas.List.{take_all}
+use Rattle.std.proofs.lemmas.List.{map-append, take_all}
 use Rattle.std.proofs.lemmas.List.Elements.{filter_map-append}
 use Rattle.std.proofs.lemmas.Option.{none-some, same_Some}
 use Rattle.model.specs.Query.{Row}
@@ -24,13 +24,9 @@ first_rows-most None n rows e = take_all n rows (omega (arith, e))
 first_rows-most (Some limit) n rows e = refl
 
 module _ {A X Y : Type 0} (f : A → X) (h : X → Option Y) where
-  map-more : (xs : List A) (x : A) → map f (xs ++ x ∷ []) ≡ map f xs ++ f x ∷ []
-  map-more [] x = refl
-  map-more (y ∷ ys) x = ap (λ zs. f y ∷ zs) (map-more ys x)
-
   -- what a further element gives goes last
   pub filter_map-more : (xs : List A) (x : A) (y : Y) → h (f x) ≡ Some y → filter_map h (map f (xs ++ x ∷ [])) ≡ filter_map h (map f xs) ++ y ∷ []
-  filter_map-more xs x y e = ap (filter_map h) (map-more xs x) ∙ filter_map-append h (map f xs) (f x ∷ []) ∙ ap (λ ys. filter_map h (map f xs) ++ ys) (rw e refl)
+  filter_map-more xs x y e = ap (filter_map h) (map-append f xs (x ∷ [])) ∙ filter_map-append h (map f xs) (f x ∷ []) ∙ ap (λ ys. filter_map h (map f xs) ++ ys) (rw e refl)
 
   pub filter_map-same : (xs : List A) (x : A) → h (f x) ≡ None → filter_map h (map f (xs ++ x ∷ [])) ≡ filter_map h (map f xs)
-  filter_map-same xs x e = ap (filter_map h) (map-more xs x) ∙ filter_map-append h (map f xs) (f x ∷ []) ∙ ap (λ ys. filter_map h (map f xs) ++ ys) (rw e refl) ∙ append-nil (filter_map h (map f xs))
+  filter_map-same xs x e = ap (filter_map h) (map-append f xs (x ∷ [])) ∙ filter_map-append h (map f xs) (f x ∷ []) ∙ ap (λ ys. filter_map h (map f xs) ++ ys) (rw e refl) ∙ append-nil (filter_map h (map f xs))

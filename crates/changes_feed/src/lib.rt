@@ -1,6 +1,7 @@
 //! The answers of queries over a version of the database.
 #![tactic(auto)]
 
+mod answered;
 mod difference;
 mod document;
 mod follower;
@@ -11,6 +12,7 @@ mod opened;
 mod page;
 mod reads;
 
+pub use answered::answer;
 pub use difference::revs_diff;
 pub use follower::Follower;
 pub use found::get;
