@@ -1,0 +1,5 @@
+pub mod Puts
+pub mod Merged
+pub mod Agreement
+pub mod Parts
+pub mod Grafted
