@@ -39,7 +39,7 @@ module _ (t : Tree) where
   losers_by p =
       ap (filter (λ r. p (is_deleted t r))) (drop-map (λ (l : Leaf). l.rev) 1 (leaves t))
       ∙ filter-map_alike (λ (l : Leaf). l.rev) (λ r. p (is_deleted t r)) (λ l. p l.deleted) (losers t)
-        (All-weaker (λ (l : Leaf). is_deleted t l.rev ≡ l.deleted) (λ l. p (is_deleted t l.rev) ≡ p l.deleted) (λ l e. ap p e) (losers t) (flags 1))
+      (All-weaker (λ (l : Leaf). is_deleted t l.rev ≡ l.deleted) (λ l. p (is_deleted t l.rev) ≡ p l.deleted) (λ l e. ap p e) (losers t) (flags 1))
 
   pub latest-revs : (r : Rev) → filter (λ q. among (path_of t q) r) (revs_of (leaves t)) ≡ latest_of t r
   latest-revs r = filter-map (λ (l : Leaf). l.rev) (λ q. among (path_of t q) r) (leaves t)

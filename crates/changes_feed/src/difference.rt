@@ -16,8 +16,8 @@ use revision_tree::RevTree;
 use snapshots::Version;
 use std::alloc::{AllocError, Global};
 
-/// Of each document the revisions asked for that are not known, in the order asked, and the leaves of a generation
-/// below the largest of these. A document that lacks none is left out.
+/// Of each document the revisions asked for that are not known, in the order asked, and the leaves
+/// of a generation below the largest of these. A document that lacks none is left out.
 pub fn revs_diff(
     alloc: Global,
     version: &Version,
@@ -100,11 +100,7 @@ fn difference_with(missing: Vec<RevId>, possible_ancestors: Vec<RevId>) -> Optio
 }
 
 /// The revisions that are not known, each at its first place.
-fn missing_from(
-    alloc: Global,
-    tree: &RevTree,
-    asked: &[RevId],
-) -> Result<Vec<RevId>, AllocError>
+fn missing_from(alloc: Global, tree: &RevTree, asked: &[RevId]) -> Result<Vec<RevId>, AllocError>
     ensures { IfOk result (λ missing. missing.items ≡ missing_in tree.now asked.now) }
 {
     once(alloc, &not_known(alloc, tree, asked)?)

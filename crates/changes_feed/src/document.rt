@@ -5,7 +5,7 @@ ghost use Rattle.model.specs.Tree.{revs_of, path_of};
 ghost use Rattle.changes_feed.specs.Shown.{path_statuses};
 ghost use Rattle.model.specs.Documents.{document as document_of, losers, status_of, stored as stored_in};
 
-use crate::leaves::{conflicts_of, deleted_conflicts_of};
+use crate::leaves::{deleted_conflicts_of, live_conflicts_of};
 use commands::{Document, Options, Status, StatusKind};
 use document_id::DocId;
 use json_profile::Body;
@@ -82,11 +82,7 @@ fn revs_info(
 }
 
 /// The known path of a revision, newest first, each with what is kept of it.
-fn statuses(
-    alloc: Global,
-    tree: &RevTree,
-    rev: RevId,
-) -> Result<Vec<(RevId, Status)>, AllocError>
+fn statuses(alloc: Global, tree: &RevTree, rev: RevId) -> Result<Vec<(RevId, Status)>, AllocError>
     ensures { IfOk result (λ info. info.items ≡ path_statuses tree.now rev) }
 {
     let path = tree.path_of(alloc, rev)?;
@@ -114,7 +110,7 @@ fn conflicts(alloc: Global, tree: &RevTree, wanted: bool) -> Result<Vec<RevId>, 
     if !wanted {
         return Ok(Vec::new(alloc));
     }
-    conflicts_of(alloc, tree)
+    live_conflicts_of(alloc, tree)
 }
 
 fn deleted_conflicts(alloc: Global, tree: &RevTree, wanted: bool) -> Result<Vec<RevId>, AllocError>

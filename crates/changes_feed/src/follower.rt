@@ -45,8 +45,8 @@ impl Follower {
         self.cursor
     }
 
-    /// The first `limit` rows above the cursor, all where there are fewer. The cursor goes to the last of them, and stays
-    /// where memory is refused.
+    /// The first `limit` rows above the cursor, all where there are fewer. The cursor goes to the
+    /// last of them, and stays where memory is refused.
     pub fn next(
         &mut self,
         alloc: Global,

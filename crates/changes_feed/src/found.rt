@@ -15,7 +15,8 @@ use revision_tree::RevTree;
 use snapshots::Version;
 use std::alloc::{AllocError, Global};
 
-/// The winner of a document, or the revision named: with `latest` the newest leaf that descends from it.
+/// The winner of a document, or the revision named: with `latest` the newest leaf that descends
+/// from it.
 pub fn get(
     alloc: Global,
     version: &Version,
@@ -27,7 +28,7 @@ pub fn get(
 {
     match version.record(id) {
         Some(record) => found_in(alloc, id, record.tree(), rev, options),
-        None => Ok(Err(Absent::new(AbsentKind::IsMissing))),
+        None => Ok(Err(missing())),
     }
 }
 
@@ -45,7 +46,7 @@ fn found_in(
     };
     match named_by(alloc, tree, options, rev)? {
         Some(named) => shown(alloc, id, tree, options, named),
-        None => Ok(Err(Absent::new(AbsentKind::IsMissing))),
+        None => Ok(Err(missing())),
     }
 }
 
@@ -91,6 +92,12 @@ fn shown(
 {
     match stored(alloc, id, tree, options, rev)? {
         Some(document) => Ok(Ok(document)),
-        None => Ok(Err(Absent::new(AbsentKind::IsMissing))),
+        None => Ok(Err(missing())),
     }
+}
+
+fn missing() -> Absent
+    ensures { result ≡ IsUnknown }
+{
+    Absent::new(AbsentKind::IsMissing)
 }

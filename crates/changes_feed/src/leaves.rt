@@ -10,7 +10,7 @@ use revision_tree::RevTree;
 use std::alloc::{AllocError, Global};
 
 /// The leaves other than the winner that are not deleted, in the winner's order.
-pub(crate) fn conflicts_of(alloc: Global, tree: &RevTree) -> Result<Vec<RevId>, AllocError>
+pub(crate) fn live_conflicts_of(alloc: Global, tree: &RevTree) -> Result<Vec<RevId>, AllocError>
     ensures { IfOk result (λ revs. revs.items ≡ revs_of (filter (λ l. not l.deleted) (losers tree.now))) }
 {
     live_after_first(alloc, tree, &tree.leaves(alloc)?)
@@ -23,11 +23,7 @@ pub(crate) fn deleted_conflicts_of(alloc: Global, tree: &RevTree) -> Result<Vec<
     deleted_after_first(alloc, tree, &tree.leaves(alloc)?)
 }
 
-fn live_after_first(
-    alloc: Global,
-    tree: &RevTree,
-    revs: &[RevId],
-) -> Result<Vec<RevId>, AllocError>
+fn live_after_first(alloc: Global, tree: &RevTree, revs: &[RevId]) -> Result<Vec<RevId>, AllocError>
     ensures { IfOk result (λ live. live.items ≡ filter (λ r. not (is_deleted tree.now r)) (drop 1 revs.now)) }
 {
     revs.iter()
@@ -52,11 +48,7 @@ fn deleted_after_first(
 }
 
 /// The leaves that descend from a revision, itself if it is one, in the winner's order.
-pub(crate) fn latest_of(
-    alloc: Global,
-    tree: &RevTree,
-    rev: RevId,
-) -> Result<Vec<RevId>, AllocError>
+pub(crate) fn latest_of(alloc: Global, tree: &RevTree, rev: RevId) -> Result<Vec<RevId>, AllocError>
     ensures { IfOk result (λ revs. revs.items ≡ latest_in tree.now rev) }
 {
     descendants(alloc, tree, rev, &tree.leaves(alloc)?)
@@ -81,12 +73,7 @@ fn descendants(
 }
 
 /// Whether `rev` is on the known path of `later`.
-fn is_on_path(
-    alloc: Global,
-    tree: &RevTree,
-    later: RevId,
-    rev: RevId,
-) -> Result<bool, AllocError>
+fn is_on_path(alloc: Global, tree: &RevTree, later: RevId, rev: RevId) -> Result<bool, AllocError>
     ensures { IfOk result (λ found. found ≡ among (path_of tree.now later) rev) }
 {
     let path = tree.path_of(alloc, later)?;

@@ -18,8 +18,9 @@ use snapshots::Version;
 use std::alloc::{AllocError, Global};
 use std::collections::BTreeSet;
 
-/// All leaves of a document, or the revisions listed, each as a document or by its name where its body is not there.
-/// With `latest` a known revision stands for the leaves that descend from it, and each leaf is given once.
+/// All leaves of a document, or the revisions listed, each as a document or by its name where its
+/// body is not there. With `latest` a known revision stands for the leaves that descend from it,
+/// and each leaf is given once.
 pub fn open_revs(
     alloc: Global,
     version: &Version,
@@ -48,10 +49,7 @@ fn opened_unknown(
     }
 }
 
-fn all_missing(
-    alloc: Global,
-    asked: &[RevId],
-) -> Result<Vec<Result<Document, RevId>>, AllocError>
+fn all_missing(alloc: Global, asked: &[RevId]) -> Result<Vec<Result<Document, RevId>>, AllocError>
     ensures { IfOk result (λ answer. answer.items ≡ map Err asked.now) }
 {
     asked.iter().map(|rev| Err(*rev)).collect(alloc)
@@ -119,7 +117,8 @@ fn asked_of(
     leaves_once(alloc, tree, &all_latest(alloc, tree, asked)?)
 }
 
-/// The leaves that descend from each of the revisions, one after another, and those that are not known themselves.
+/// The leaves that descend from each of the revisions, one after another, and those that are not
+/// known themselves.
 fn all_latest(alloc: Global, tree: &RevTree, asked: &[RevId]) -> Result<Vec<RevId>, AllocError>
     ensures { IfOk result (λ revs. revs.items ≡ flat_map (latest_or_same tree.now) asked.now) }
 {
@@ -130,11 +129,7 @@ fn all_latest(alloc: Global, tree: &RevTree, asked: &[RevId]) -> Result<Vec<RevI
     Ok(all)
 }
 
-fn latest_or_itself(
-    alloc: Global,
-    tree: &RevTree,
-    rev: RevId,
-) -> Result<Vec<RevId>, AllocError>
+fn latest_or_itself(alloc: Global, tree: &RevTree, rev: RevId) -> Result<Vec<RevId>, AllocError>
     ensures { IfOk result (λ revs. revs.items ≡ latest_or_same tree.now rev) }
 {
     if tree.knows(rev) {

@@ -12,8 +12,8 @@ use revision_tree::RevTree;
 use snapshots::{Record, Version};
 use std::alloc::{AllocError, Global};
 
-/// The first rows above `since` in the order of the updates, at most `limit` of them where there is a limit. A limit of
-/// 0 acts as 1. It costs the rows that it gives and two ways down the index.
+/// The first rows above `since` in the order of the updates, at most `limit` of them where there is
+/// a limit. A limit of 0 acts as 1. It costs the rows that it gives and two ways down the index.
 pub fn changes(
     alloc: Global,
     version: &Version,
@@ -84,12 +84,12 @@ fn row(
     alloc: Global,
     seq: u64,
     id: &DocId,
-    record: &Record,
+    stored: &Record,
     style: Style,
 ) -> Result<Row, AllocError>
-    ensures { IfOk result (λ row. row ≡ row_of style (seq, (id.now, record.now))) }
+    ensures { IfOk result (λ row. row ≡ row_of style (seq, (id.now, stored.now))) }
 {
-    let tree = record.tree();
+    let tree = stored.tree();
     Ok(Row {
         seq,
         id: id.share()?,

@@ -28,10 +28,10 @@ pub fn all_docs(alloc: Global, version: &Version) -> Result<Vec<(DocId, RevId)>,
     Ok(documents)
 }
 
-fn live_document(id: &DocId, record: &Record) -> Result<Option<(DocId, RevId)>, AllocError>
-    ensures { IfOk result (λ document. document ≡ live_of (id.now, record.now)) }
+fn live_document(id: &DocId, stored: &Record) -> Result<Option<(DocId, RevId)>, AllocError>
+    ensures { IfOk result (λ document. document ≡ live_of (id.now, stored.now)) }
 {
-    let winner = record.tree().winner();
+    let winner = stored.tree().winner();
     if winner.deleted {
         return Ok(None);
     }

@@ -22,8 +22,8 @@ loop-document-preserved c =
     let e = c.document-item.result in
     let more : take (i + 1) docs ≡ take i docs ++ e ∷ [] = take_more docs i e c.loop-document-test.true ∙ ap (λ d. take i docs ++ d ∷ []) (sym c.document-item.is) in
     let told : one_lacking c.document.inside.id c.in_ok-difference.difference ≡ one_lacking e.0 (f e.0 e.1) =
-        ap (one_lacking c.document.inside.id) (c.in_ok-difference.ensures ∙ ap (f c.document.inside.id) c.deref.ensures.value)
-        ∙ ap (λ (d : Id × List Rev). one_lacking d.0 (f d.0 d.1)) c.document.view_is in
+    ap (one_lacking c.document.inside.id) (c.in_ok-difference.ensures ∙ ap (f c.document.inside.id) c.deref.ensures.value)
+    ∙ ap (λ (d : Id × List Rev). one_lacking d.0 (f d.0 d.1)) c.document.view_is in
     c.in_ok-add.ensures
     ∙ ap (λ ls. ls ++ one_lacking c.document.inside.id c.in_ok-difference.difference) c.loop-document.invariant
     ∙ ap (λ ls. refine_list names f (take i docs) ++ ls) told

@@ -14,5 +14,5 @@ pub returns : goal.returns
 returns c =
     let all = changed_since every_id (replay empty_database c.args.version.now) c.args.since in
     let t = YieldsList-end (YieldsList-from_take {s = c.into_iter-seq-iterator.result} c.args.most (YieldsList-from_rest {shows = deref_pair} all cc) cc)
-        c.loop-seq.yielded _ c.loop-seq.yielded_by _ _ c.in-None.is c.next.ensures.steps in
+    c.loop-seq.yielded _ c.loop-seq.yielded_by _ _ c.in-None.is c.next.ensures.steps in
     c.loop-seq.invariant ∙ ap (map (row c.args.style)) t.0 ∙ sym (take-map (row c.args.style) c.args.most all)

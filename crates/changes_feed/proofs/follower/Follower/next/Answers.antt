@@ -13,8 +13,8 @@ returns-clause-right c = λ m s earlier num follows le right.
     let later = chronicle_of c.args.version.now in
     let given = take c.args.limit (rows_since every_id (now later) f.cursor f.style) in
     let rows : c.in_ok-rows.rows.items ≡ given =
-        c.in_ok-rows.ensures ∙ ap (λ (g : Following). take c.args.limit (rows_since every_id (now later) g.cursor g.style)) c.self.view_is in
+    c.in_ok-rows.ensures ∙ ap (λ (g : Following). take c.args.limit (rows_since every_id (now later) g.cursor g.style)) c.self.view_is in
     let last : c.last_seq-self-inside.result ≡ last_seq_of f.cursor given =
-        c.last_seq-self-inside.ensures ∙ (λ i. last_seq_of (c.self.view_is i).cursor ((c.deref.ensures.value ∙ rows) i)) in
+    c.last_seq-self-inside.ensures ∙ (λ i. last_seq_of (c.self.view_is i).cursor ((c.deref.ensures.value ∙ rows) i)) in
     subst (λ (p : List Row × ℕ). IsRightFeed every_id f.style (fed m p.0) s p.1 (now later)) (λ i. (sym rows i, sym last i))
     (c.feeds_stay_right.ensures.next every_id f.style m s f.cursor c.args.limit later earlier num follows le right)

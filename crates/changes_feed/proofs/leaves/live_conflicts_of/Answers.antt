@@ -3,7 +3,7 @@ use Rattle.std.specs.Prelude.{IfOk, drop, filter, not, ◌≡◌}
 use Rattle.std.proofs.Common.{ap, subst, ◌∙◌}
 use Rattle.model.specs.Tree.{is_deleted}
 use Rattle.changes_feed.proofs.LeafLists.{losers_by}
-use Rattle.changes_feed.proofs.leaves.conflicts_of.Goals as goal
+use Rattle.changes_feed.proofs.leaves.live_conflicts_of.Goals as goal
 
 pub returns : goal.returns
 returns c = subst (λ xs. IfOk c.live_after_first.result (λ v. v.items ≡ xs))
