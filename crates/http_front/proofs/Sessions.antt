@@ -1,0 +1,72 @@
+-- Histories of a session that is alone.
+use Rattle.std.proofs.Common.{◌≡◌, ℕ, ◌+◌, ◌<◌, ◌≤◌, true, List, [], ◌∷◌, ◌++◌, length, refl, ap, sym, ◌∙◌, subst, arith, length-append}
+use Rattle.std.proofs.lemmas.Bool.{cond-true}
+use Rattle.std.proofs.lemmas.List.Elements.{filter-append}
+use Rattle.model.specs.Map.{same_key, same_key_itself}
+use Rattle.model.specs.Command.{Command, Seat, Entry, IsCounter, numbers}
+use Rattle.model.specs.Database.{Database, empty_database, calls_of}
+use Rattle.model.specs.History.{IsLegal, replay, entry_of, of_session}
+use Rattle.model.proofs.CallLaws.{calls-replay}
+use Rattle.model.proofs.HistoryLaws.{IsLegal-push, IsNext-entry_of}
+use Rattle.model.proofs.TellLaws.{Tells-last}
+use Rattle.http_front.specs.Outcome.{max_places}
+use Rattle.http_front.specs.Session.{IsAlone, WritesCall}
+
+pub of_session-append : (session : ℕ) (xs ys : List Entry) → of_session session (xs ++ ys) ≡ of_session session xs ++ of_session session ys
+of_session-append session xs ys = filter-append (λ e. same_key numbers session e.seat.session) xs ys
+
+-- an entry of the session
+pub of_session-own : (session : ℕ) (entry : Entry) → entry.seat.session ≡ session → of_session session (entry ∷ []) ≡ entry ∷ []
+of_session-own session entry own = cond-true _ _ _ (ap (same_key numbers session) own ∙ same_key_itself numbers session)
+
+-- all entries are calls of the session
+calls_of-alone : (session : ℕ) (history : List Entry) → IsAlone session history → calls_of (replay empty_database history) session ≡ length history
+calls_of-alone session history alone = calls-replay empty_database history session ∙ none (length (of_session session history)) ∙ ap length alone.own
+  where
+    none : (n : ℕ) → 0 + n ≡ n
+    none n = omega arith
+
+-- so its next call has a number
+pub IsCounter-next : (session : ℕ) (history : List Entry) (call : ℕ) → IsAlone session history → length history < max_places
+    → call ≡ calls_of (replay empty_database history) session + 1 → IsCounter call
+IsCounter-next session history call alone room next =
+    let calls = calls_of-alone session history alone in
+    (omega (arith, next), omega (arith, next, calls, room))
+
+module _ (session : ℕ) (old : List Entry) (seat : Seat) (command : Command) (own : seat.session ≡ session) where
+  -- the history with the call
+  abbrev after_call : List Entry
+  after_call = old ++ entry_of (replay empty_database old) seat command ∷ []
+
+  length-after_call : length after_call ≡ length old + 1
+  length-after_call = length-append old (entry_of (replay empty_database old) seat command ∷ [])
+
+  of_session-after_call : of_session session after_call ≡ of_session session old ++ entry_of (replay empty_database old) seat command ∷ []
+  of_session-after_call =
+      let entry = entry_of (replay empty_database old) seat command in
+      of_session-append session old (entry ∷ []) ∙ ap (λ (es : List Entry). of_session session old ++ es) (of_session-own session entry own)
+
+  module _ (next : seat.call ≡ calls_of (replay empty_database old) seat.session + 1) (alone : IsAlone session old) where
+    legal_after_call : IsLegal empty_database after_call
+    legal_after_call =
+        let entry = entry_of (replay empty_database old) seat command in
+        (IsLegal-push empty_database old entry).1 (alone.legal, IsNext-entry_of (replay empty_database old) seat command next)
+
+    -- a call of the session leaves it alone
+    pub IsAlone-after_call : length old < max_places → IsAlone session (old ++ entry_of (replay empty_database old) seat command ∷ [])
+    IsAlone-after_call room = record {
+      legal = legal_after_call;
+      own = of_session-after_call ∙ ap (λ (es : List Entry). es ++ entry_of (replay empty_database old) seat command ∷ []) alone.own;
+      room = omega (arith, room, length-after_call);
+    }
+
+    -- and is told
+    pub WritesCall-after_call : WritesCall session old seat command (length old + 1) (entry_of (replay empty_database old) seat command).reply (old ++ entry_of (replay empty_database old) seat command ∷ [])
+    WritesCall-after_call = record {
+      legal = legal_after_call;
+      seat = own;
+      more = entry_of (replay empty_database old) seat command ∷ [];
+      extends = refl;
+      told = Tells-last empty_database old (entry_of (replay empty_database old) seat command);
+      calls = of_session-after_call;
+    }

@@ -1,0 +1,5 @@
+pub mod Outcome
+pub mod Session
+pub mod Answers
+pub mod Connection
+pub mod Response
