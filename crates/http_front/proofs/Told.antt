@@ -1,6 +1,7 @@
 -- Turns of a session are told by the history at their end.
-use Rattle.std.proofs.Common.{◌≡◌, ℕ, ◌≤◌, List, [], ◌∷◌, ◌++◌, length, map, refl, ap, sym, ◌∙◌, subst, arith, append_assoc, length-append}
+use Rattle.std.proofs.Common.{◌≡◌, ℕ, ◌≤◌, List, [], ◌∷◌, ◌++◌, length, map, refl, ap, sym, ◌∙◌, subst, arith, append_assoc, length-append, None}
 use Rattle.std.specs.List.{FoldsTo, AllZip}
+use Rattle.std.proofs.KnownBytes.{Consumes-nil, Appends-nil}
 use Rattle.std.proofs.lemmas.List.{append-nil}
 use Rattle.model.specs.Command.{Entry}
 use Rattle.model.specs.Database.{empty_database}
@@ -11,6 +12,7 @@ use Rattle.model.proofs.TellLaws.{Tells-append}
 use Rattle.serving.specs.Turn.{Turn, all_turns}
 use Rattle.serving.specs.Served.{Streams, Served}
 use Rattle.serving.specs.declared.outcome.Ended.{Ended}
+use Rattle.serving.specs.declared.outcome.Cause.TheVariants as cause
 use Rattle.http_front.specs.Outcome.{Outcome, Fixed, Wrote, WroteUntold, Read, OutOfMemory, Full, Placed, IsToldAt, IsWritten, IsRead, TellsAt, written}
 use Rattle.http_front.specs.Answers.{Answers, AnswersAlone}
 use Rattle.http_front.specs.Connection.{IsConnection, places_named, entries_written}
@@ -130,3 +132,28 @@ served_alone before after old final ended served alone =
       failed_reads = served.failed_reads;
       failed_writes = served.failed_writes;
     }
+
+-- nothing was read or written, for want of memory
+pub served_nothing : (streams : Streams) → IsConnection 0 streams streams [] [] (record { answered = 0; cause = cause.Memory })
+served_nothing streams = record {
+  read = [];
+  turns = [];
+  cut = None;
+  rest = [];
+  part = [];
+  outcomes = [];
+  more = [];
+  reads = Consumes-nil streams.left;
+  splits = refl;
+  told = tt;
+  legal = tt;
+  extends = refl;
+  entries = refl;
+  places = (omega arith, tt);
+  writes = Appends-nil streams.taken;
+  is_part = refl;
+  answered = refl;
+  ends = (refl, refl, refl);
+  failed_reads = refl;
+  failed_writes = refl;
+}

@@ -3,3 +3,4 @@ pub mod Session
 pub mod Answers
 pub mod Connection
 pub mod Response
+pub mod Once

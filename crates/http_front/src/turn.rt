@@ -19,6 +19,7 @@ use http_routes::Routes;
 use std::alloc::{AllocError, Global};
 
 /// What serves connections beside a session.
+#[derive(Drop)]
 pub struct Setting {
     pub(crate) alloc: Global,
     pub(crate) routes: Routes,
