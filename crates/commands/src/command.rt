@@ -1,0 +1,151 @@
+ghost use Rattle.std.specs.Prelude.{◌≡◌, ◌↔◌, ◌≤◌, ◌<◌, length, Some, IsSome, IfSome, IfOk, option_map};
+ghost use Rattle.std.specs.Arc.{arc_value};
+ghost use Rattle.model.specs.Command.{IsCommand, IsCounter, IsLimit, max_edits};
+ghost use Rattle.model.specs.Command as model;
+ghost use Rattle.commands.specs.Command.{command_of};
+
+use crate::copied::{Copied, copy_all};
+use crate::edit::{Edit, read_all_limits};
+use crate::merge::{Merge, read_all_merges};
+use document_id::DocId;
+use json_profile::Body;
+use std::alloc::{AllocError, Global};
+use std::marker::Model;
+use std::sync::Arc;
+
+/// The most edits or merges of a command.
+pub const MAX_EDITS: usize = 1_048_576;
+
+/// What is asked, by its kind.
+#[derive(Drop)]
+pub enum CommandKind {
+    /// Edits, one after another.
+    Edits(Vec<Edit>),
+    /// Revisions from another replica, one after another.
+    Merges(Vec<Merge>),
+    /// A write of a local document over the revision number that it names, with no body for a
+    /// deletion.
+    PutLocal {
+        id: DocId,
+        named: Option<u32>,
+        body: Option<Arc<Body>>,
+    },
+    /// How many revisions are kept above a leaf, itself among them.
+    SetLimit(u32),
+}
+
+/// What a session asks to be done, within the limits.
+#[derive(Drop)]
+pub struct Command {
+    kind: CommandKind,
+}
+
+impl Model for Command {
+    ghost use Rattle.model.specs.Command.{Command, IsCommand};
+    ghost use Rattle.std.specs.Coded.{codes};
+    ghost use Rattle.model.specs.JsonCode.{coded_members};
+
+    ghost Value = { Command };
+
+    ghost coded = { Prim.hlevel (codes, coded_members) };
+
+    ghost use Rattle.commands.specs.Command.{command_of};
+
+    ghost view = { λ c. command_of c.kind };
+
+    ghost invariant = { λ c. IsCommand (command_of c.kind) };
+}
+
+impl Command {
+    /// Edits, at most [`MAX_EDITS`] of them.
+    pub fn edits(edits: Vec<Edit>) -> Option<Command>
+        ensures few { IsSome result ↔ (length edits.items ≤ max_edits) }
+        ensures command { IfSome result (λ command. command ≡ model.Edits edits.items) }
+    {
+        if edits.len() > MAX_EDITS {
+            return None;
+        }
+        read_all_limits(&edits);
+        Some(Command {
+            kind: CommandKind::Edits(edits),
+        })
+    }
+
+    /// Merges, at most [`MAX_EDITS`] of them.
+    pub fn merges(merges: Vec<Merge>) -> Option<Command>
+        ensures few { IsSome result ↔ (length merges.items ≤ max_edits) }
+        ensures command { IfSome result (λ command. command ≡ model.Merges merges.items) }
+    {
+        if merges.len() > MAX_EDITS {
+            return None;
+        }
+        read_all_merges(&merges);
+        Some(Command {
+            kind: CommandKind::Merges(merges),
+        })
+    }
+
+    /// A write of a local document, or with no body its deletion. A revision number that is named
+    /// is from 1.
+    pub fn put_local(id: DocId, named: Option<u32>, body: Option<Arc<Body>>) -> Option<Command>
+        ensures counter { IsSome result ↔ IfSome named IsCounter }
+        ensures command { IfSome result (λ command. command ≡ model.PutLocal id named (option_map arc_value body)) }
+    {
+        if named == Some(0) {
+            return None;
+        }
+        let _text = id.as_str();
+        if let Some(body) = &body {
+            let _object = body.value();
+        }
+        Some(Command {
+            kind: CommandKind::PutLocal { id, named, body },
+        })
+    }
+
+    /// The limit of revisions, from 1.
+    pub fn set_limit(limit: u32) -> Option<Command>
+        ensures in_range { IsSome result ↔ IsLimit limit }
+        ensures command { IfSome result (λ command. command ≡ model.SetLimit limit) }
+    {
+        if limit == 0 {
+            return None;
+        }
+        Some(Command {
+            kind: CommandKind::SetLimit(limit),
+        })
+    }
+
+    pub fn kind(&self) -> &CommandKind
+        ensures kind { command_of result.now ≡ self.now }
+        ensures is_command { IsCommand self.now }
+    {
+        &self.kind
+    }
+}
+
+impl Copied for Command {
+    fn copy(&self, alloc: Global) -> Result<Command, AllocError> {
+        let kind = match &self.kind {
+            CommandKind::Edits(edits) => CommandKind::Edits(copy_all(alloc, edits)?),
+            CommandKind::Merges(merges) => CommandKind::Merges(copy_all(alloc, merges)?),
+            CommandKind::PutLocal { id, named, body } => CommandKind::PutLocal {
+                id: id.share()?,
+                named: *named,
+                body: share_body(body)?,
+            },
+            CommandKind::SetLimit(limit) => CommandKind::SetLimit(*limit),
+        };
+        Ok(Command { kind })
+    }
+}
+
+/// One more owner of the body, if there is one.
+fn share_body(body: &Option<Arc<Body>>) -> Result<Option<Arc<Body>>, AllocError>
+    ensures same { IfOk result (λ shared. option_map arc_value shared ≡ option_map arc_value body.now) }
+{
+    match body {
+        Some(body) => Ok(Some(body.clone()?)),
+        None => Ok(None),
+    }
+}

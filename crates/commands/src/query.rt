@@ -1,0 +1,68 @@
+ghost use Rattle.std.specs.Prelude.{◌≡◌};
+ghost use Rattle.commands.specs.Query.{query_of};
+
+use crate::named::NamedRevisions;
+use crate::options::Options;
+use crate::style::Style;
+use document_id::DocId;
+use revision_id::RevId;
+use std::marker::Model;
+
+/// What is asked of the database as it stands, by its kind.
+#[derive(Drop)]
+pub enum QueryKind {
+    /// The winner, or the revision named.
+    Get {
+        id: DocId,
+        rev: Option<RevId>,
+        options: Options,
+    },
+    /// All leaves, or the revisions listed.
+    OpenRevs {
+        id: DocId,
+        asked: Option<Vec<RevId>>,
+        options: Options,
+    },
+    /// Which of these revisions are not known.
+    RevsDiff(NamedRevisions),
+    /// The changes after a number, at most `limit` rows where there is a limit.
+    Changes {
+        since: u64,
+        limit: Option<u64>,
+        style: Style,
+    },
+    AllDocuments,
+    Info,
+    GetLocal(DocId),
+    RevsLimit,
+}
+
+/// What is asked of the database as it stands.
+#[derive(Drop)]
+pub struct Query {
+    kind: QueryKind,
+}
+
+impl Model for Query {
+    ghost use Rattle.model.specs.Query.{Query};
+
+    ghost Value = { Query };
+
+    ghost use Rattle.commands.specs.Query.{query_of};
+
+    ghost view = { λ q. query_of q.kind };
+}
+
+impl Query {
+    pub fn new(kind: QueryKind) -> Query
+        ensures query { result ≡ query_of kind }
+    {
+        Query { kind }
+    }
+
+    pub fn kind(&self) -> &QueryKind
+        ensures kind { query_of result.now ≡ self.now }
+    {
+        &self.kind
+    }
+}

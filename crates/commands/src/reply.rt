@@ -1,0 +1,59 @@
+ghost use Rattle.std.specs.Prelude.{◌≡◌, IfOk};
+ghost use Rattle.commands.specs.Reply.{reply_of};
+
+use crate::copied::Copied;
+use crate::refusal::Refusal;
+use revision_id::RevId;
+use std::alloc::{AllocError, Global};
+use std::marker::Model;
+
+/// What a command is answered, by its kind.
+#[derive(Drop)]
+pub enum ReplyKind {
+    /// Of each edit or merge its revision.
+    Wrote(Vec<Result<RevId, Refusal>>),
+    /// The number of the local document's revision, 0 for a deletion.
+    WroteLocal(Result<u32, Refusal>),
+    Done,
+}
+
+/// What a command is answered.
+#[derive(Drop)]
+pub struct Reply {
+    kind: ReplyKind,
+}
+
+impl Model for Reply {
+    ghost use Rattle.model.specs.Command.{Reply};
+
+    ghost Value = { Reply };
+
+    ghost use Rattle.commands.specs.Reply.{reply_of};
+
+    ghost view = { λ r. reply_of r.kind };
+}
+
+impl Reply {
+    pub fn new(kind: ReplyKind) -> Reply
+        ensures reply { result ≡ reply_of kind }
+    {
+        Reply { kind }
+    }
+
+    pub fn kind(&self) -> &ReplyKind
+        ensures kind { reply_of result.now ≡ self.now }
+    {
+        &self.kind
+    }
+}
+
+impl Copied for Reply {
+    fn copy(&self, alloc: Global) -> Result<Reply, AllocError> {
+        let kind = match &self.kind {
+            ReplyKind::Wrote(writes) => ReplyKind::Wrote(Vec::from_slice(alloc, writes)?),
+            ReplyKind::WroteLocal(write) => ReplyKind::WroteLocal(*write),
+            ReplyKind::Done => ReplyKind::Done,
+        };
+        Ok(Reply { kind })
+    }
+}

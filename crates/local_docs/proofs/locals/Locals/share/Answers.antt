@@ -1,0 +1,8 @@
+use Rattle.std.proofs.Common.{ap, ◌∙◌}
+use Rattle.model.specs.Command.{names}
+use Rattle.model.specs.Local.{Local}
+use Rattle.model.specs.Map.{Map, same_list}
+use Rattle.local_docs.proofs.locals.Locals.share.Goals as goal
+
+pub returns : goal.returns
+returns c = record { same = same_list _ _ c.in_ok-share.ensures.entries ∙ c.self.view_is }

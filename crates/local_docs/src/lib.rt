@@ -1,0 +1,13 @@
+//! The local documents: each has the number of its last revision and a body, and is never
+//! replicated.
+#![tactic(auto)]
+
+mod fault;
+mod local;
+mod locals;
+#[cfg(test)]
+mod tests;
+
+pub use fault::LocalFault;
+pub use local::LocalDoc;
+pub use locals::Locals;
