@@ -3,8 +3,8 @@ use Rattle.std.proofs.Common.{◌≡◌, ℕ, ◌+◌, ◌<◌, ◌≤◌, true,
 use Rattle.std.proofs.lemmas.Bool.{cond-true}
 use Rattle.std.proofs.lemmas.List.Elements.{filter-append}
 use Rattle.model.specs.Map.{same_key, same_key_itself}
-use Rattle.model.specs.Command.{Command, Seat, Entry, IsCounter, numbers}
-use Rattle.model.specs.Database.{Database, empty_database, calls_of}
+use Rattle.model.specs.Command.{Command, Reply, Seat, Entry, IsCounter, numbers}
+use Rattle.model.specs.Database.{Database, empty_database, calls_of, reply_to}
 use Rattle.model.specs.History.{IsLegal, replay, entry_of, of_session}
 use Rattle.model.proofs.CallLaws.{calls-replay}
 use Rattle.model.proofs.HistoryLaws.{IsLegal-push, IsNext-entry_of}
@@ -70,3 +70,26 @@ module _ (session : ℕ) (old : List Entry) (seat : Seat) (command : Command) (o
       told = Tells-last empty_database old (entry_of (replay empty_database old) seat command);
       calls = of_session-after_call;
     }
+
+module _ (old next : List Entry) (seat : Seat) (command : Command) (seat_is : seat ≡ record { session = 0; call = calls_of (replay empty_database old) 0 + 1 }) (next_is : next ≡ old ++ entry_of (replay empty_database old) seat command ∷ []) (alone : IsAlone 0 old) where
+  is_own : seat.session ≡ 0
+  is_own = ap (λ (s : Seat). s.session) seat_is
+
+  is_next : seat.call ≡ calls_of (replay empty_database old) seat.session + 1
+  is_next = ap (λ (s : Seat). s.call) seat_is ∙ ap (λ (n : ℕ). calls_of (replay empty_database old) n + 1) (sym is_own)
+
+  -- the next version is alone too
+  pub IsAlone-next : length old < max_places → IsAlone 0 next
+  IsAlone-next room = subst (IsAlone 0) (sym next_is) (IsAlone-after_call 0 old seat command is_own is_next alone room)
+
+  -- and its last entry is told
+  pub WritesCall-next : (place : ℕ) (reply : Reply) → place ≡ length next → reply ≡ reply_to (replay empty_database old) command → WritesCall 0 old seat command place reply next
+  WritesCall-next place reply at_last told =
+      let place_is : place ≡ length old + 1 = at_last ∙ ap length next_is ∙ length-after_call 0 old seat command is_own in
+      subst (λ (h : List Entry). WritesCall 0 old seat command place reply h) (sym next_is)
+      (subst (λ (p : ℕ). WritesCall 0 old seat command p reply (after_call 0 old seat command is_own)) (sym place_is)
+      (subst (λ (r : Reply). WritesCall 0 old seat command (length old + 1) r (after_call 0 old seat command is_own)) (sym told)
+      (WritesCall-after_call 0 old seat command is_own is_next alone)))
+
+  pub next-entry : (reply : Reply) → reply ≡ reply_to (replay empty_database old) command → next ≡ old ++ record { seat = seat; command = command; reply = reply } ∷ []
+  next-entry reply told = next_is ∙ ap (λ (r : Reply). old ++ record { seat = seat; command = command; reply = r } ∷ []) (sym told)

@@ -1,9 +1,8 @@
 //! A response at hand.
 
-ghost use Rattle.std.specs.Prelude.{◌≡◌, true, string_bytes, MatchResult, if◌then◌else◌};
-ghost use Rattle.http_response.specs.Texts.{no_memory_text};
+ghost use Rattle.std.specs.Prelude.{◌≡◌, ℕ, List, string_bytes, IfOk};
 ghost use Rattle.http_front.specs.Outcome.{after_closing};
-ghost use Rattle.http_front.specs.Response.{bytes_of};
+ghost use Rattle.http_front.specs.Response.{bytes_of, SaysLost, SendsOrLost};
 
 use arrayvec::ArrayString;
 use http_response::{Connection, Lost, NO_MEMORY_ROOM, no_memory};
@@ -27,8 +26,7 @@ pub(crate) enum Text {
 impl Response {
     /// Says that memory was refused, after which the connection closes.
     pub(crate) fn out_of_memory(place: u64, lost: Lost) -> Response
-        ensures text { bytes_of result.text ≡ no_memory_text place lost }
-        ensures closes { result.closes ≡ true }
+        ensures { SaysLost place lost result }
     {
         Response {
             text: Text::NoMemory(no_memory(place, lost)),
@@ -43,9 +41,8 @@ impl Response {
         place: u64,
         lost: Lost,
     ) -> Response
-        ensures { MatchResult text
-            (λ made. (bytes_of result.text ≡ string_bytes made) × (result.closes ≡ closes))
-            (λ _. (bytes_of result.text ≡ no_memory_text place lost) × (result.closes ≡ true)) }
+        ensures { (said : List ℕ) → IfOk text (λ made. string_bytes made ≡ said)
+            → SendsOrLost said closes place lost result }
     {
         match text {
             Ok(made) => Response {

@@ -2,13 +2,13 @@
 
 ghost use Rattle.std.specs.Prelude.{◌≡◌, ◌↔◌, ◌+◌, ◌<◌, List, [], ◌∷◌, ◌++◌, length, IfOk, IfErr, OnErr, Err};
 ghost use Rattle.model.specs.Command.{Entry};
-ghost use Rattle.model.specs.Database.{empty_database, calls_of};
-ghost use Rattle.model.specs.History.{replay, entry_of};
+ghost use Rattle.model.specs.Database.{empty_database, calls_of, reply_to};
+ghost use Rattle.model.specs.History.{replay};
 ghost use Rattle.http_front.specs.Outcome.{max_places};
 ghost use Rattle.http_front.specs.Session.{IsAlone, WritesCall};
 ghost use Rattle.http_front.specs.declared.session.WriteFault.TheVariants.{Memory};
 
-use commands::{Command, Reply, Seat};
+use commands::{Command, Copied, Reply, Seat};
 use snapshots::Version;
 use std::alloc::{AllocError, Global};
 use std::marker::Model;
@@ -84,11 +84,14 @@ impl Session {
     pub fn write(&mut self, alloc: Global, command: &Command) -> Result<Receipt, WriteFault>
         ensures written { IfOk result (λ receipt. WritesCall 0 self.old
             receipt.seat command.now receipt.place receipt.reply self.new) }
+        ensures reply { IfOk result (λ receipt.
+            receipt.reply ≡ reply_to (replay empty_database self.old) command.now) }
         // Nothing else is written, and the entry stands at the end.
-        ensures alone { IfOk result (λ receipt.
-            (self.new ≡ self.old
-            ++ entry_of (replay empty_database self.old) receipt.seat command.now ∷ [])
-            × (receipt.place ≡ length self.new)) }
+        ensures alone { IfOk result (λ receipt. (self.new ≡ self.old ++ record {
+          seat = receipt.seat;
+          command = command.now;
+          reply = receipt.reply;
+        } ∷ []) × (receipt.place ≡ length self.new)) }
         ensures full { (result ≡ Err WriteFault.Full) ↔ (length self.old ≡ max_places) }
         ensures fault { OnErr result (self.new ≡ self.old) }
     {
@@ -123,10 +126,13 @@ fn next_version(
     ensures alone { IfOk result (λ next. IsAlone 0 next.0) }
     ensures written { IfOk result (λ next. WritesCall 0 version.now
         next.1.seat command.now next.1.place next.1.reply next.0) }
-    ensures entry { IfOk result (λ next.
-        (next.0 ≡ version.now
-        ++ entry_of (replay empty_database version.now) next.1.seat command.now ∷ [])
-        × (next.1.place ≡ length next.0)) }
+    ensures reply { IfOk result (λ next.
+        next.1.reply ≡ reply_to (replay empty_database version.now) command.now) }
+    ensures entry { IfOk result (λ next. (next.0 ≡ version.now ++ record {
+      seat = next.1.seat;
+      command = command.now;
+      reply = next.1.reply;
+    } ∷ []) × (next.1.place ≡ length next.0)) }
     ensures full { (result ≡ Err WriteFault.Full) ↔ (length version.now ≡ max_places) }
 {
     if version.place() == MAX_PLACES {
@@ -158,5 +164,5 @@ fn last_reply(alloc: Global, version: &Version) -> Result<Reply, AllocError>
         → IfOk result (λ reply. reply ≡ entry.reply) }
 {
     let entry = version.entry(version.place()).unwrap();
-    entry.reply().copy(alloc)
+    entry.reply.copy(alloc)
 }
