@@ -1,0 +1,5 @@
+pub mod Checks
+pub mod JsonTexts
+pub mod Members
+pub mod Parts
+pub mod RevisionTexts

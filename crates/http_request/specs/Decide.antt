@@ -1,0 +1,73 @@
+-- What a request asks, or why it is refused.
+use Rattle.std.specs.Prelude.{ℕ, List, [], ◌∷◌, Option, Ok, Err, Some, None, codes, is_none}
+use Rattle.std.specs.List.{find}
+use Rattle.std.specs.Str.{bytes_eq}
+use Rattle.http_framing.specs.Request.{Request}
+use Rattle.http_target.specs.Target.{path_of, query_of}
+use Rattle.http_target.specs.Query.{parameter}
+use Rattle.http_routes.specs.Routes.{route_of, methods_of, name_of}
+use Rattle.http_routes.specs.declared.Route.{Route}
+use Rattle.http_routes.specs.declared.Route.TheVariants as route
+use Rattle.http_routes.specs.declared.Method.{Method}
+use Rattle.http_routes.specs.declared.Method.TheVariants as method
+use Rattle.model.specs.Command.{Edits}
+use Rattle.model.specs.Query.{Get}
+use Rattle.http_request.specs.Steps.{Checked, and_then, check}
+use Rattle.http_request.specs.Identity.{path_id}
+use Rattle.http_request.specs.Parameters.{options_of, rev_parameter, no_replication}
+use Rattle.http_request.specs.Document.{edit_of}
+use Rattle.http_request.specs.declared.asked.Asked.{Asked}
+use Rattle.http_request.specs.declared.asked.Asked.TheVariants as asked
+use Rattle.http_request.specs.declared.asked.Form.TheVariants as form
+use Rattle.http_request.specs.declared.refusal.Refusal.TheVariants as refusal
+use Rattle.http_request.specs.declared.refusal.Reason.TheVariants as reason
+
+abbrev pub route_found : Option Route → Checked Route
+route_found None = Err refusal.Missing
+route_found (Some route) = Ok route
+
+-- the route of the path
+abbrev pub route_in : List ℕ → Checked Route
+route_in path = route_found (route_of path)
+
+-- the method of the route that has this name
+abbrev pub method_of : Route → List ℕ → Option Method
+method_of route name = find (λ method. bytes_eq (name_of method) name) (methods_of route)
+
+abbrev pub method_found : Route → Option Method → Checked Method
+method_found route None = Err (refusal.MethodNotAllowed route)
+method_found route (Some method) = Ok method
+
+abbrev pub method_in : Route → List ℕ → Checked Method
+method_in route name = method_found route (method_of route name)
+
+-- GET of a document
+abbrev pub get_document : List ℕ → List ℕ → Checked Asked
+get_document path query =
+    and_then (path_id path) (λ id.
+    and_then (options_of query) (λ options.
+    and_then (check (is_none (parameter (codes "open_revs") query)) reason.Parameter) (λ _.
+    and_then (rev_parameter query) (λ rev.
+    Ok (asked.Query (Get id rev options))))))
+
+-- PUT of a document
+abbrev pub put_document : List ℕ → List ℕ → List ℕ → Checked Asked
+put_document path query body =
+    and_then (path_id path) (λ id.
+    and_then (no_replication query) (λ _.
+    and_then (rev_parameter query) (λ rev.
+    and_then (edit_of id rev body) (λ edit.
+    Ok (asked.Command form.Put (Edits (edit ∷ [])))))))
+
+-- what is asked of a route
+abbrev pub asked_of : Route → Method → List ℕ → List ℕ → List ℕ → Checked Asked
+asked_of route.Root method path query body = Ok asked.Welcome
+asked_of route.Document method.Get path query body = get_document path query
+asked_of route.Document method.Put path query body = put_document path query body
+
+-- what a request asks, or why it is refused; each check is made before the next
+unfoldable pub decide : Request → Checked Asked
+decide request =
+    and_then (route_in (path_of request.target)) (λ route.
+    and_then (method_in route request.method) (λ method.
+    asked_of route method (path_of request.target) (query_of request.target) request.body))

@@ -1,0 +1,25 @@
+//! What can be asked.
+
+use commands::{Command, Query};
+
+/// What a request asks.
+#[derive(Drop)]
+pub enum Asked {
+    /// `GET /`
+    Welcome,
+    /// To change the database. The reply is told in this form.
+    Command(Form, Command),
+    /// To read the database.
+    Query(Query),
+}
+
+/// How the reply to a command is told.
+#[derive(Clone, Copy, Debug, PartialEq, Eq)]
+pub enum Form {
+    /// As that of a write of one document.
+    Put,
+    /// As that of a deletion of one document.
+    Delete,
+    /// As the command is: of a bulk as a list.
+    Whole,
+}

@@ -1,0 +1,134 @@
+use crate::{Asked, Form, Reason, Refusal, read_request};
+use commands::{CommandKind, QueryKind};
+use http_framing::request::Request;
+use http_routes::{Route, Routes};
+use std::test::Fail;
+
+fn ask(
+    rt: &HostRuntime,
+    method: &str,
+    target: &str,
+    body: &str,
+) -> Result<Result<Asked, Refusal>, Fail> {
+    let routes = Routes::new(rt.alloc())?;
+    let request = Request::new(method.as_bytes(), target, body.as_bytes(), false);
+    Ok(read_request(rt.alloc(), &routes, &request)?)
+}
+
+fn refusal(
+    rt: &HostRuntime,
+    method: &str,
+    target: &str,
+    body: &str,
+) -> Result<Option<Refusal>, Fail> {
+    Ok(ask(rt, method, target, body)?.err())
+}
+
+fn bad(rt: &HostRuntime, target: &str, body: &str) -> Result<Option<Reason>, Fail> {
+    match ask(rt, "PUT", target, body)? {
+        Err(Refusal::BadRequest(reason)) => Ok(Some(reason)),
+        _ => Ok(None),
+    }
+}
+
+const REV: &str = "1-0123456789abcdef0123456789abcdef";
+
+#[test]
+fn a_put(rt: HostRuntime) -> Result<(), Fail> {
+    let target = "/db/caf%C3%A9%2Fa?q=1&%72ev=1-0123456789abcdef0123456789abcdef&rev=x";
+    let body = r#"{"_id":"café/a","n":1,"_deleted":true,"_conflicts":[],"_revisions":0}"#;
+    let asked = ask(&rt, "PUT", target, body)?.ok().ok_or("refused")?;
+    let Asked::Command(form, command) = asked else {
+        return Err("no command".into());
+    };
+    assert_eq!(rt; form, Form::Put);
+    let CommandKind::Edits(edits) = command.kind() else {
+        return Err("no edits".into());
+    };
+    let edit = edits.first().ok_or("no edit")?;
+    assert_eq!(rt; edit.id.as_str(), "café/a");
+    let named = edit.named.ok_or("no revision")?;
+    assert_eq!(rt; named.text(rt.alloc())?.as_str(), REV);
+    assert!(rt; edit.deleted);
+    assert_eq!(rt; edit.body.text(rt.alloc())?.as_str(), r#"{"n":1}"#);
+    Ok(())
+}
+
+#[test]
+fn a_get(rt: HostRuntime) -> Result<(), Fail> {
+    let asked = ask(&rt, "GET", "/db/a?conflicts=true&revs=false", "")?;
+    let Asked::Query(query) = asked.ok().ok_or("refused")? else {
+        return Err("no query".into());
+    };
+    let QueryKind::Get { id, rev, options } = query.kind() else {
+        return Err("no get".into());
+    };
+    assert_eq!(rt; id.as_str(), "a");
+    assert!(rt; rev.is_none() && options.conflicts && !options.revs);
+    assert!(rt; matches!(ask(&rt, "GET", "/", "")?, Ok(Asked::Welcome)));
+    Ok(())
+}
+
+#[test]
+fn routes_and_methods(rt: HostRuntime) -> Result<(), Fail> {
+    let missing = Some(Refusal::Missing);
+    assert_eq!(rt; refusal(&rt, "GET", "/db//a", "")?, missing);
+    assert_eq!(rt; refusal(&rt, "X", "/other", "")?, missing);
+    let not_allowed = Some(Refusal::MethodNotAllowed(Route::Document));
+    assert_eq!(rt; refusal(&rt, "HEAD", "/db/_x", "")?, not_allowed);
+    Ok(())
+}
+
+#[test]
+fn ids(rt: HostRuntime) -> Result<(), Fail> {
+    let mut long = String::from_str(rt.alloc(), "/db/")?;
+    for _ in 0..512 {
+        long.push('a')?;
+    }
+    assert_eq!(rt; bad(&rt, long.as_str(), "{}")?, None);
+    long.push('a')?;
+    assert_eq!(rt; bad(&rt, long.as_str(), "{}")?, Some(Reason::Id));
+    assert_eq!(rt; bad(&rt, "/db/%FF", "{}")?, Some(Reason::Id));
+    assert_eq!(rt; bad(&rt, "/db/%5Fa?rev=x", "{}")?, Some(Reason::Id));
+    assert_eq!(rt; bad(&rt, "/db/a", r#"{"_id":"b"}"#)?, Some(Reason::Id));
+    Ok(())
+}
+
+#[test]
+fn bodies(rt: HostRuntime) -> Result<(), Fail> {
+    let parameter = Some(Reason::Parameter);
+    assert_eq!(rt; bad(&rt, "/db/a?new_edits=false&rev=x", "")?, parameter);
+    assert_eq!(rt; bad(&rt, "/db/a?rev=x", "")?, Some(Reason::Revision));
+    assert_eq!(rt; bad(&rt, "/db/a", "{")?, Some(Reason::Json));
+    let number = r#"{"_id":1,"n":9223372036854775808}"#;
+    assert_eq!(rt; bad(&rt, "/db/a", number)?, Some(Reason::Number));
+    assert_eq!(rt; bad(&rt, "/db/a", "[]")?, Some(Reason::Shape));
+    assert_eq!(rt;
+        bad(&rt, "/db/a", r#"{"_rev":1,"_x":1}"#)?,
+        Some(Reason::Shape)
+    );
+    assert_eq!(rt;
+        bad(&rt, "/db/a", r#"{"_id":"b","_x":1}"#)?,
+        Some(Reason::Member)
+    );
+    let revision = Some(Reason::Revision);
+    assert_eq!(rt; bad(&rt, "/db/a", r#"{"_rev":"1-A"}"#)?, revision);
+    let other = r#"{"_rev":"2-0123456789abcdef0123456789abcdef"}"#;
+    let target = "/db/a?rev=1-0123456789abcdef0123456789abcdef";
+    assert_eq!(rt; bad(&rt, target, other)?, revision);
+    Ok(())
+}
+
+#[test]
+fn depths(rt: HostRuntime) -> Result<(), Fail> {
+    let mut body = String::from_str(rt.alloc(), r#"{"_rev":1,"a":"#)?;
+    for _ in 0..64 {
+        body.push('[')?;
+    }
+    for _ in 0..64 {
+        body.push(']')?;
+    }
+    body.push('}')?;
+    assert_eq!(rt; bad(&rt, "/db/a", body.as_str())?, Some(Reason::Depth));
+    Ok(())
+}
