@@ -1,5 +1,5 @@
 -- Histories of a session that is alone.
-use Rattle.std.proofs.Common.{◌≡◌, ℕ, ◌+◌, ◌<◌, ◌≤◌, true, List, [], ◌∷◌, ◌++◌, length, refl, ap, sym, ◌∙◌, subst, arith, length-append}
+use Rattle.std.proofs.Common.{◌≡◌, ℕ, ◌+◌, ◌<◌, ◌≤◌, true, List, [], ◌∷◌, ◌++◌, length, refl, ap, sym, ◌∙◌, subst, arith, length-append, add-one, Some}
 use Rattle.std.proofs.lemmas.Bool.{cond-true}
 use Rattle.std.proofs.lemmas.List.Elements.{filter-append}
 use Rattle.model.specs.Map.{same_key, same_key_itself}
@@ -8,7 +8,8 @@ use Rattle.model.specs.Database.{Database, empty_database, calls_of, reply_to}
 use Rattle.model.specs.History.{IsLegal, replay, entry_of, of_session}
 use Rattle.model.proofs.CallLaws.{calls-replay}
 use Rattle.model.proofs.HistoryLaws.{IsLegal-push, IsNext-entry_of}
-use Rattle.model.proofs.TellLaws.{Tells-last}
+use Rattle.model.proofs.TellLaws.{Tells-last, slice_get-push}
+use Rattle.snapshots.specs.Version.{entry_at}
 use Rattle.http_front.specs.Outcome.{max_places}
 use Rattle.http_front.specs.Session.{IsAlone, WritesCall}
 
@@ -93,3 +94,17 @@ module _ (old next : List Entry) (seat : Seat) (command : Command) (seat_is : se
 
   pub next-entry : (reply : Reply) → reply ≡ reply_to (replay empty_database old) command → next ≡ old ++ record { seat = seat; command = command; reply = reply } ∷ []
   next-entry reply told = next_is ∙ ap (λ (r : Reply). old ++ record { seat = seat; command = command; reply = r } ∷ []) (sym told)
+
+-- ---- the last entry
+
+pub entry_at-last : (front : List Entry) (entry : Entry) (n : ℕ) → n ≡ length (front ++ entry ∷ []) → entry_at (front ++ entry ∷ []) n ≡ Some entry
+entry_at-last front entry n is =
+    ap (entry_at (front ++ entry ∷ [])) (is ∙ length-append front (entry ∷ []) ∙ add-one (length front)) ∙ slice_get-push front entry
+
+-- a history that is not empty has a last entry
+pub front_and_last : (history : List Entry) → 0 < length history → (front : List Entry) × (last : Entry) × (history ≡ front ++ last ∷ [])
+front_and_last [] some = absurd (omega (arith, some))
+front_and_last (e ∷ []) some = ([], e, refl)
+front_and_last (e ∷ f ∷ es) some =
+    let rest = front_and_last (f ∷ es) (omega arith) in
+    (e ∷ rest.0, rest.1, ap (λ (h : List Entry). e ∷ h) rest.2)

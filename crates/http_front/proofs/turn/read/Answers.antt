@@ -14,6 +14,6 @@ pub returns : goal.returns
 returns c =
     λ request asks closes_is.
     answers_query c.args.session.now c.place-place.result c.place-place.ensures c.new.result request c.args.closes closes_is c.args.query.now c.in-Ok.found asks
-    (c.in-Ok.ensures ∙ ap (λ (es : List Entry). answer_to (replay empty_database es) c.args.query.now) c.look.ensures.seen)
+    (c.in-Ok.ensures.answer ∙ ap (λ (es : List Entry). answer_to (replay empty_database es) c.args.query.now) c.look.ensures.seen)
     (subst (λ (k : Connection). SendsOrLost (answer_text c.place-place.result k c.args.query.now c.in-Ok.found) c.args.closes c.place-place.result lost.Call c.new.result)
     c.connection_after.ensures (c.new.ensures _ c.answer-text.ensures.text))

@@ -12,7 +12,7 @@ returns-in-Ok-Welcome c =
     let place = c.place-place.result in
     let closes = c.closes-closes.result in
     answers_decided c.args.session.now place c.place-place.ensures c.new.result c.args.request.now closes (sym c.closes-closes.ensures) (Ok asked.Welcome) _
-    (sym (c.in-Ok-Welcome.is ∙ ap Ok c.in-Ok-Welcome.field-0-is) ∙ c.in-Ok.ensures) refl
+    (sym (c.in-Ok-Welcome.is ∙ ap Ok c.in-Ok-Welcome.field-0-is) ∙ c.in-Ok.ensures.decides) refl
     (subst (λ (k : Connection). SendsOrLost (welcome_text place k) closes place lost.Call c.new.result)
     c.connection_after.ensures (c.new.ensures _ c.welcome-text.ensures.text))
 
@@ -21,6 +21,6 @@ returns-in-Err c =
     let place = c.place-place.result in
     let closes = c.closes-closes.result in
     answers_decided c.args.session.now place c.place-place.ensures c.new-in-Err.result c.args.request.now closes (sym c.closes-closes.ensures) (Err c.in-Err.refusal) _
-    (sym c.in-Err.is ∙ c.in-Ok.ensures) refl
+    (sym c.in-Err.is ∙ c.in-Ok.ensures.decides) refl
     (subst (λ (k : Connection). SendsOrLost (refusal_text place k c.in-Err.refusal) closes place lost.Call c.new-in-Err.result)
     c.connection_after-in-Err.ensures (c.new-in-Err.ensures _ c.refused-text.ensures.text))
