@@ -1,0 +1,2 @@
+pub mod LostTexts
+pub mod Whole

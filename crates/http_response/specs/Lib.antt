@@ -1,0 +1,5 @@
+pub mod Response
+pub mod Problem
+pub mod Document
+pub mod Told
+pub mod Texts

@@ -1,0 +1,83 @@
+-- Why something was not done, as a response tells it.
+use Rattle.std.specs.Prelude.{ℕ, List, ◌++◌, codes}
+use Rattle.http_framing.specs.declared.FramingFault.{FramingFault}
+use Rattle.http_request.specs.declared.refusal.Refusal.{Refusal}
+use Rattle.http_request.specs.declared.refusal.Refusal.TheVariants as refusal
+use Rattle.http_request.specs.declared.refusal.Reason.{Reason}
+use Rattle.http_request.specs.declared.refusal.Reason.TheVariants as reason
+use Rattle.model.specs.Command as model
+use Rattle.model.specs.Query as query
+use Rattle.http_response.specs.declared.response.Status.{Status}
+use Rattle.http_response.specs.declared.response.Status.TheVariants as status
+use Rattle.http_response.specs.declared.response.Allow.{Allow}
+use Rattle.http_response.specs.declared.response.Allow.TheVariants as allow
+
+-- the name of an error, and its reason
+abbrev pub problem_text : List ℕ → List ℕ → List ℕ
+problem_text error why = codes "{\"error\":\"" ++ error ++ codes "\",\"reason\":\"" ++ why ++ codes "\"}"
+
+abbrev pub reason_name : Reason → List ℕ
+reason_name reason.Id = codes "id"
+reason_name reason.Parameter = codes "parameter"
+reason_name reason.Revision = codes "revision"
+reason_name reason.Json = codes "json"
+reason_name reason.Number = codes "number"
+reason_name reason.Depth = codes "depth"
+reason_name reason.Shape = codes "shape"
+reason_name reason.Member = codes "member"
+
+-- ---- a request that is refused
+
+abbrev pub refusal_status : Refusal → Status
+refusal_status refusal.Missing = status.NotFound
+refusal_status (refusal.MethodNotAllowed route) = status.MethodNotAllowed
+refusal_status (refusal.BadRequest reason) = status.BadRequest
+
+abbrev pub refusal_allow : Refusal → Allow
+refusal_allow refusal.Missing = allow.Unsaid
+refusal_allow (refusal.MethodNotAllowed route) = allow.Methods route
+refusal_allow (refusal.BadRequest reason) = allow.Unsaid
+
+abbrev pub refusal_body : Refusal → List ℕ
+refusal_body refusal.Missing = problem_text (codes "not_found") (codes "missing")
+refusal_body (refusal.MethodNotAllowed route) = problem_text (codes "method_not_allowed") (codes "Method not allowed.")
+refusal_body (refusal.BadRequest reason) = problem_text (codes "bad_request") (reason_name reason)
+
+-- bytes that are refused, after which the connection closes
+abbrev pub closing_body : FramingFault → List ℕ
+closing_body fault = problem_text (codes "bad_request") (codes "head")
+
+-- ---- a write that is refused
+
+abbrev pub write_status : model.Refusal → Status
+write_status model.Conflict = status.Conflict
+write_status model.BadHistory = status.Conflict
+write_status model.Missing = status.NotFound
+write_status model.Deleted = status.NotFound
+write_status model.GenerationLimit = status.Conflict
+
+abbrev pub write_error : model.Refusal → List ℕ
+write_error model.Conflict = codes "conflict"
+write_error model.BadHistory = codes "bad_history"
+write_error model.Missing = codes "not_found"
+write_error model.Deleted = codes "not_found"
+write_error model.GenerationLimit = codes "generation"
+
+abbrev pub write_reason : model.Refusal → List ℕ
+write_reason model.Conflict = codes "Document update conflict."
+write_reason model.BadHistory = codes "A known revision has another parent."
+write_reason model.Missing = codes "missing"
+write_reason model.Deleted = codes "deleted"
+write_reason model.GenerationLimit = codes "The generation limit is reached."
+
+abbrev pub write_problem : model.Refusal → List ℕ
+write_problem refusal = problem_text (write_error refusal) (write_reason refusal)
+
+-- ---- what is not found
+
+abbrev pub absent_reason : query.Absent → List ℕ
+absent_reason query.IsMissing = codes "missing"
+absent_reason query.WasDeleted = codes "deleted"
+
+abbrev pub absent_problem : query.Absent → List ℕ
+absent_problem absent = problem_text (codes "not_found") (absent_reason absent)

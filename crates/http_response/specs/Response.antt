@@ -1,0 +1,59 @@
+-- The text of a response: a status line, headers and a body.
+use Rattle.std.specs.Prelude.{ℕ, Bool, List, [], ◌∷◌, ◌++◌, length, map, codes, if◌then◌else◌}
+use Rattle.std.specs.Fmt.{decimal}
+use Rattle.http_routes.specs.Routes.{methods_of, name_of}
+use Rattle.http_routes.specs.declared.Route.{Route}
+use Rattle.http_response.specs.declared.response.Status.{Status}
+use Rattle.http_response.specs.declared.response.Status.TheVariants as status
+use Rattle.http_response.specs.declared.response.Allow.{Allow}
+use Rattle.http_response.specs.declared.response.Allow.TheVariants as allow
+use Rattle.http_response.specs.declared.connection.Connection.{Connection}
+use Rattle.http_response.specs.declared.connection.Connection.TheVariants as connection
+
+abbrev pub crlf : List ℕ
+crlf = 13 ∷ 10 ∷ []
+
+-- a line of a head
+abbrev pub line : List ℕ → List ℕ
+line text = text ++ crlf
+
+-- the code and the reason
+abbrev pub status_text : Status → List ℕ
+status_text status.Ok = codes "200 OK"
+status_text status.Created = codes "201 Created"
+status_text status.BadRequest = codes "400 Bad Request"
+status_text status.NotFound = codes "404 Not Found"
+status_text status.MethodNotAllowed = codes "405 Method Not Allowed"
+status_text status.Conflict = codes "409 Conflict"
+status_text status.ServiceUnavailable = codes "503 Service Unavailable"
+status_text status.InsufficientStorage = codes "507 Insufficient Storage"
+
+-- words with `, ` between them
+abbrev pub listed : List (List ℕ) → List ℕ
+listed [] = []
+listed (word ∷ []) = word
+listed (word ∷ next ∷ words) = word ++ (codes ", " ++ listed (next ∷ words))
+
+-- the line that says which methods a route takes
+abbrev pub allow_line : Allow → List ℕ
+allow_line allow.Unsaid = []
+allow_line (allow.Methods route) = line (codes "Allow: " ++ listed (map name_of (methods_of route)))
+
+-- the line that says that the connection closes
+abbrev pub connection_line : Connection → List ℕ
+connection_line connection.Open = []
+connection_line connection.Close = line (codes "Connection: close")
+
+-- from the end of the status line to the length
+abbrev pub content_head : List ℕ
+content_head = crlf ++ line (codes "Content-Type: application/json") ++ codes "Content-Length: "
+
+-- from the end of the length to the place
+abbrev pub place_head : List ℕ
+place_head = crlf ++ codes "Couch-Place: "
+
+-- the text of a response with this body, at a place of the history
+abbrev pub response_text : Status → ℕ → Allow → Connection → List ℕ → List ℕ
+response_text status place allow connection body =
+    codes "HTTP/1.1 " ++ (status_text status ++ (content_head ++ (decimal (length body) ++ (place_head ++ (decimal place
+    ++ (crlf ++ (allow_line allow ++ (connection_line connection ++ (crlf ++ body)))))))))

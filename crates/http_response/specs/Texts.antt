@@ -1,0 +1,71 @@
+-- The texts of responses, each at a place of the history.
+use Rattle.std.specs.Prelude.{ℕ, List, ◌++◌, codes}
+use Rattle.model.specs.Command.{Command, Reply}
+use Rattle.model.specs.Query.{Query, Answer}
+use Rattle.http_framing.specs.declared.FramingFault.{FramingFault}
+use Rattle.http_request.specs.declared.asked.Form.{Form}
+use Rattle.http_request.specs.declared.refusal.Refusal.{Refusal}
+use Rattle.http_response.specs.Response.{response_text, status_text, content_head, place_head, connection_line, crlf}
+use Rattle.http_response.specs.Problem.{problem_text, refusal_status, refusal_allow, refusal_body, closing_body}
+use Rattle.http_response.specs.Told.{Told, reply_told, answer_told}
+use Rattle.http_response.specs.declared.response.Status.TheVariants as status
+use Rattle.http_response.specs.declared.response.Allow.TheVariants as allow
+use Rattle.http_response.specs.declared.connection.Connection.{Connection}
+use Rattle.http_response.specs.declared.connection.Connection.TheVariants as connection
+use Rattle.http_response.specs.declared.lost.Lost.{Lost}
+use Rattle.http_response.specs.declared.lost.Lost.TheVariants as lost
+
+-- a request that is refused
+unfoldable pub refusal_text : ℕ → Connection → Refusal → List ℕ
+refusal_text place connection refusal =
+    response_text (refusal_status refusal) place (refusal_allow refusal) connection (refusal_body refusal)
+
+-- bytes that are refused, with all that follows them
+unfoldable pub closing_text : ℕ → FramingFault → List ℕ
+closing_text place fault = response_text status.BadRequest place allow.Unsaid connection.Close (closing_body fault)
+
+-- `GET /`
+unfoldable pub welcome_text : ℕ → Connection → List ℕ
+welcome_text place connection = response_text status.Ok place allow.Unsaid connection (codes "{\"couchdb\":\"Welcome\"}")
+
+abbrev pub told_text : ℕ → Connection → Told → List ℕ
+told_text place connection told = response_text told.0 place allow.Unsaid connection told.1
+
+-- what became of a command
+unfoldable pub reply_text : ℕ → Connection → Form → Command → Reply → List ℕ
+reply_text place connection form command reply = told_text place connection (reply_told form command reply)
+
+-- what a query is answered
+unfoldable pub answer_text : ℕ → Connection → Query → Answer → List ℕ
+answer_text place connection query answer = told_text place connection (answer_told query answer)
+
+-- a command for which the history has no place
+unfoldable pub full_text : ℕ → Connection → List ℕ
+full_text place connection =
+    response_text status.ServiceUnavailable place allow.Unsaid connection (problem_text (codes "unavailable") (codes "full"))
+
+-- ---- want of memory
+
+abbrev pub lost_name : Lost → List ℕ
+lost_name lost.Call = codes "call"
+lost_name lost.Reply = codes "reply"
+
+abbrev pub no_memory_body : Lost → List ℕ
+no_memory_body lost = problem_text (codes "no_memory") (lost_name lost)
+
+-- memory was refused, and the connection closes
+unfoldable pub no_memory_text : ℕ → Lost → List ℕ
+no_memory_text place lost = response_text status.InsufficientStorage place allow.Unsaid connection.Close (no_memory_body lost)
+
+-- its length, in digits
+abbrev pub no_memory_length : Lost → List ℕ
+no_memory_length lost.Call = codes "37"
+no_memory_length lost.Reply = codes "38"
+
+-- its head as far as the place, and what goes on after it
+abbrev pub before_place : Lost → List ℕ
+before_place lost =
+    codes "HTTP/1.1 " ++ (status_text status.InsufficientStorage ++ (content_head ++ (no_memory_length lost ++ place_head)))
+
+abbrev pub after_place : Lost → List ℕ
+after_place lost = crlf ++ (connection_line connection.Close ++ (crlf ++ no_memory_body lost))

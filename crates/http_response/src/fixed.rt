@@ -1,0 +1,117 @@
+//! Responses that tell nothing of the database.
+
+ghost use Rattle.std.specs.Prelude.{◌≡◌, IfOk, string_bytes};
+ghost use Rattle.http_response.specs.Problem.{refusal_allow, refusal_body, refusal_status};
+ghost use Rattle.http_response.specs.Texts.{closing_text, full_text, refusal_text, welcome_text};
+
+use crate::connection::Connection;
+use crate::response::{Allow, Status, response};
+use http_framing::FramingFault;
+use http_request::{Reason, Refusal};
+use std::alloc::{AllocError, Global};
+
+/// The response to a request that is refused.
+#[tactic(auto, unfolding(crate::specs::Texts::refusal_text))]
+pub fn refused(
+    alloc: Global,
+    place: u64,
+    connection: Connection,
+    refusal: Refusal,
+) -> Result<String, AllocError>
+    ensures text { IfOk result (λ text. string_bytes text ≡ refusal_text place connection refusal) }
+{
+    let status = status_of(refusal);
+    let allow = allow_of(refusal);
+    response(alloc, status, place, allow, connection, body_of(refusal))
+}
+
+fn status_of(refusal: Refusal) -> Status
+    ensures { result ≡ refusal_status refusal }
+{
+    match refusal {
+        Refusal::Missing => Status::NotFound,
+        Refusal::MethodNotAllowed(_) => Status::MethodNotAllowed,
+        Refusal::BadRequest(_) => Status::BadRequest,
+    }
+}
+
+fn allow_of(refusal: Refusal) -> Allow
+    ensures { result ≡ refusal_allow refusal }
+{
+    match refusal {
+        Refusal::MethodNotAllowed(route) => Allow::Methods(route),
+        Refusal::Missing | Refusal::BadRequest(_) => Allow::Unsaid,
+    }
+}
+
+fn body_of(refusal: Refusal) -> &'static str
+    ensures { result.now ≡ refusal_body refusal }
+{
+    match refusal {
+        Refusal::Missing => r#"{"error":"not_found","reason":"missing"}"#,
+        Refusal::MethodNotAllowed(_) => {
+            r#"{"error":"method_not_allowed","reason":"Method not allowed."}"#
+        }
+        Refusal::BadRequest(reason) => bad_request(reason),
+    }
+}
+
+fn bad_request(reason: Reason) -> &'static str
+    ensures { result.now ≡ refusal_body (Refusal.BadRequest reason) }
+{
+    match reason {
+        Reason::Id => r#"{"error":"bad_request","reason":"id"}"#,
+        Reason::Parameter => r#"{"error":"bad_request","reason":"parameter"}"#,
+        Reason::Revision => r#"{"error":"bad_request","reason":"revision"}"#,
+        Reason::Json => r#"{"error":"bad_request","reason":"json"}"#,
+        Reason::Number => r#"{"error":"bad_request","reason":"number"}"#,
+        Reason::Depth => r#"{"error":"bad_request","reason":"depth"}"#,
+        Reason::Shape => r#"{"error":"bad_request","reason":"shape"}"#,
+        Reason::Member => r#"{"error":"bad_request","reason":"member"}"#,
+    }
+}
+
+/// The response to bytes that are refused, after which the connection closes.
+#[tactic(auto, unfolding(crate::specs::Texts::closing_text))]
+pub fn closing(alloc: Global, place: u64, _fault: FramingFault) -> Result<String, AllocError>
+    ensures text { IfOk result (λ text. string_bytes text ≡ closing_text place _fault) }
+{
+    response(
+        alloc,
+        Status::BadRequest,
+        place,
+        Allow::Unsaid,
+        Connection::Close,
+        r#"{"error":"bad_request","reason":"head"}"#,
+    )
+}
+
+/// The response to `GET /`.
+#[tactic(auto, unfolding(crate::specs::Texts::welcome_text))]
+pub fn welcome(alloc: Global, place: u64, connection: Connection) -> Result<String, AllocError>
+    ensures text { IfOk result (λ text. string_bytes text ≡ welcome_text place connection) }
+{
+    response(
+        alloc,
+        Status::Ok,
+        place,
+        Allow::Unsaid,
+        connection,
+        r#"{"couchdb":"Welcome"}"#,
+    )
+}
+
+/// The response to a command for which the history has no place.
+#[tactic(auto, unfolding(crate::specs::Texts::full_text))]
+pub fn full(alloc: Global, place: u64, connection: Connection) -> Result<String, AllocError>
+    ensures text { IfOk result (λ text. string_bytes text ≡ full_text place connection) }
+{
+    response(
+        alloc,
+        Status::ServiceUnavailable,
+        place,
+        Allow::Unsaid,
+        connection,
+        r#"{"error":"unavailable","reason":"full"}"#,
+    )
+}

@@ -1,0 +1,20 @@
+#![tactic(auto)]
+//! The texts of responses.
+//!
+//! A response has a head, which names its length and the place of the history that it is given at,
+//! and a JSON text as its body. `specs/Texts.antt` says each text byte by byte.
+
+mod answered;
+mod connection;
+mod document;
+mod fixed;
+mod lost;
+mod problem;
+mod replied;
+mod response;
+
+pub use answered::answer;
+pub use connection::Connection;
+pub use fixed::{closing, full, refused, welcome};
+pub use lost::{Lost, NO_MEMORY_ROOM, no_memory};
+pub use replied::reply;

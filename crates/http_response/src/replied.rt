@@ -1,0 +1,117 @@
+//! What became of a command.
+
+ghost use Rattle.std.specs.Prelude.{◌≡◌, IfOk, string_bytes};
+ghost use Rattle.commands.specs.Command.{command_of};
+ghost use Rattle.commands.specs.Reply.{reply_of};
+ghost use Rattle.http_response.specs.Texts.{reply_text};
+ghost use Rattle.http_response.specs.Told.{done, reply_told, told_edits, told_first, told_one};
+
+use crate::connection::Connection;
+use crate::document::written_text;
+use crate::problem::{body_of, status_of};
+use crate::response::{Allow, Status, response};
+use commands::{Command, CommandKind, Edit, Refusal, Reply, ReplyKind};
+use document_id::DocId;
+use http_request::Form;
+use revision_id::RevId;
+use std::alloc::{AllocError, Global};
+
+/// The response to a command, in a form.
+#[tactic(auto, unfolding(crate::specs::Texts::reply_text))]
+pub fn reply(
+    alloc: Global,
+    place: u64,
+    connection: Connection,
+    form: Form,
+    command: &Command,
+    reply: &Reply,
+) -> Result<String, AllocError>
+    ensures text { IfOk result (λ text. string_bytes text
+        ≡ reply_text place connection form command.now reply.now) }
+{
+    let (status, body) = tell(alloc, form, command.kind(), reply.kind())?;
+    response(
+        alloc,
+        status,
+        place,
+        Allow::Unsaid,
+        connection,
+        body.as_str(),
+    )
+}
+
+fn tell(
+    alloc: Global,
+    form: Form,
+    command: &CommandKind,
+    reply: &ReplyKind,
+) -> Result<(Status, String), AllocError>
+    ensures { IfOk result (λ told. (told.0, string_bytes told.1)
+        ≡ reply_told form (command_of command.now) (reply_of reply.now)) }
+{
+    match (command, reply) {
+        (CommandKind::Edits(edits), ReplyKind::Wrote(outcomes)) => {
+            tell_edits(alloc, form, edits, outcomes)
+        }
+        _ => tell_done(alloc),
+    }
+}
+
+pub(crate) fn tell_done(alloc: Global) -> Result<(Status, String), AllocError>
+    ensures { IfOk result (λ told. (told.0, string_bytes told.1) ≡ done) }
+{
+    Ok((Status::Ok, String::from_str(alloc, r#"{"ok":true}"#)?))
+}
+
+fn tell_edits(
+    alloc: Global,
+    form: Form,
+    edits: &[Edit],
+    outcomes: &[Result<RevId, Refusal>],
+) -> Result<(Status, String), AllocError>
+    ensures { IfOk result (λ told. (told.0, string_bytes told.1)
+        ≡ told_edits form edits.now outcomes.now) }
+{
+    match form {
+        Form::Put => tell_first(alloc, Status::Created, edits, outcomes),
+        Form::Delete => tell_first(alloc, Status::Ok, edits, outcomes),
+        Form::Whole => tell_done(alloc),
+    }
+}
+
+/// Tells of the first write.
+fn tell_first(
+    alloc: Global,
+    status: Status,
+    edits: &[Edit],
+    outcomes: &[Result<RevId, Refusal>],
+) -> Result<(Status, String), AllocError>
+    ensures { IfOk result (λ told. (told.0, string_bytes told.1)
+        ≡ told_first status edits.now outcomes.now) }
+{
+    let [edit, ..] = edits else {
+        return tell_done(alloc);
+    };
+    let [outcome, ..] = outcomes else {
+        return tell_done(alloc);
+    };
+    tell_one(alloc, status, &edit.id, outcome)
+}
+
+fn tell_one(
+    alloc: Global,
+    status: Status,
+    id: &DocId,
+    outcome: &Result<RevId, Refusal>,
+) -> Result<(Status, String), AllocError>
+    ensures { IfOk result (λ told. (told.0, string_bytes told.1)
+        ≡ told_one status id.now outcome.now) }
+{
+    match outcome {
+        Ok(rev) => Ok((status, written_text(alloc, id, rev)?)),
+        Err(refusal) => {
+            let kind = refusal.kind();
+            Ok((status_of(kind), String::from_str(alloc, body_of(kind))?))
+        }
+    }
+}
