@@ -1,0 +1,5 @@
+pub mod Listed
+pub mod Places
+pub mod Marked
+pub mod InOrder
+pub mod Ranked

@@ -1,0 +1,48 @@
+-- How many records are live after one is put.
+use Rattle.std.specs.Prelude.{◌≡◌, ◌+◌, ◌≤◌, ℕ, Bool, true, false, cond, ◌&&◌, List, [], ◌∷◌, length, filter, T, Option, Some, None, is_some, refl}
+use Rattle.std.specs.declared.cmp.Ordering.{Ordering}
+use Rattle.std.specs.declared.cmp.Ordering.TheVariants.{Less, Equal, Greater}
+use Rattle.std.specs.Ordering.{is_eq}
+use Rattle.std.specs.FinMap.Entries as listed
+use Rattle.std.specs.FinMap.Entries.{find, is_sorted, below_all, by_order, length-put}
+use Rattle.std.proofs.Common.{ap, subst, arith}
+use Rattle.model.specs.Map.{same_key}
+use Rattle.model.specs.Command.{Id, names}
+use Rattle.model.specs.Database.{Record}
+use Rattle.model.specs.Answers.{is_live}
+use Rattle.snapshots.specs.Listing.{live_count, live_in}
+
+second : (a b : Bool) → T (a && b) → T b
+second true b p = p
+second false b p = absurd p
+
+abbrev Records : Type 0
+Records = List (Id × Record)
+
+live_count-cons : (e : Id × Record) (es : Records) → live_count (e ∷ es) ≡ live_in (Some e.1) + live_count es
+live_count-cons e es = elim (is_live e.1) as (λ b. length (cond b (e ∷ filter (λ f. is_live f.1) es) (filter (λ f. is_live f.1) es)) ≡ cond b 1 0 + live_count es) [ true ↦ omega arith | false ↦ omega arith ]
+
+-- one that is found is among those counted
+pub live_in-le : (k : Id) (es : Records) → live_in (find names.cmp k es) ≤ live_count es
+live_in-le k [] = omega arith
+live_in-le k (e ∷ es) = elim (same_key names k e.0) as (λ b. live_in (cond b (Some e.1) (find names.cmp k es)) ≤ live_count (e ∷ es)) [
+    | true ↦ omega (arith, live_count-cons e es)
+    | false ↦ omega (arith, live_count-cons e es, live_in-le k es)
+  ]
+
+-- a key below the first of a list in order is not found there
+absent : (k : Id) (x : Record) (e : Id × Record) (es : Records) → names.cmp k e.0 ≡ Less → T (is_sorted names.cmp (e ∷ es)) → find names.cmp k (e ∷ es) ≡ None
+absent k x e es less s = at (find names.cmp k (e ∷ es)) (subst (λ r. length (by_order r ((k, x) ∷ e ∷ es) ((e.0, x) ∷ es) (e ∷ listed.put names.cmp k x es)) ≡ cond (is_some (find names.cmp k (e ∷ es))) (length (e ∷ es)) (length (e ∷ es) + 1)) less (length-put names.cmp names.total k x (e ∷ es) s))
+  where
+    at : (o : Option Record) → length ((k, x) ∷ e ∷ es) ≡ cond (is_some o) (length (e ∷ es)) (length (e ∷ es) + 1) → o ≡ None
+    at None same = refl
+    at (Some y) same = absurd (omega arith)
+
+pub live_count-put : (k : Id) (x : Record) (es : Records) → T (is_sorted names.cmp es) → live_count (listed.put names.cmp k x es) + live_in (find names.cmp k es) ≡ live_count es + live_in (Some x)
+live_count-put k x [] s = omega (arith, live_count-cons (k, x) [])
+live_count-put k x (e ∷ es) s =
+    elim (names.cmp k e.0) as (λ r. names.cmp k e.0 ≡ r → live_count (by_order r ((k, x) ∷ e ∷ es) ((e.0, x) ∷ es) (e ∷ listed.put names.cmp k x es)) + live_in (cond (is_eq r) (Some e.1) (find names.cmp k es)) ≡ live_count (e ∷ es) + live_in (Some x)) [
+      | Less ↦ λ less. omega (arith, live_count-cons (k, x) (e ∷ es), ap live_in (subst (λ r. cond (is_eq r) (Some e.1) (find names.cmp k es) ≡ None) less (absent k x e es less s)))
+      | Equal ↦ λ same. omega (arith, live_count-cons (e.0, x) es, live_count-cons e es)
+      | Greater ↦ λ more. omega (arith, live_count-cons e es, live_count-cons e (listed.put names.cmp k x es), live_count-put k x es (second (below_all names.cmp e.0 es) _ s))
+    ] refl

@@ -1,0 +1,79 @@
+-- A history with one more entry.
+use Rattle.std.specs.Prelude.{◌≡◌, ◌+◌, ◌<◌, ◌≤◌, ℕ, true, false, cond, List, [], ◌∷◌, ◌++◌, length, All, Option, Some, None, option_and_then, refl}
+use Rattle.std.proofs.Common.{ap, sym, subst, ◌∙◌, arith, length-append}
+use Rattle.std.proofs.lemmas.List.Elements.{All-nil, All-cons, All-append}
+use Rattle.model.specs.Map.{entries}
+use Rattle.model.specs.Revision.{Rev}
+use Rattle.model.specs.Tree.{Tree}
+use Rattle.model.specs.TreeChange.{cut}
+use Rattle.model.specs.PurgeLog.{logged}
+use Rattle.model.specs.Command.{Id, Command, Edits, Merges, PutLocal, Purge, SetLimit, Compact, Reply, Seat, Entry, IsCommand, IsSeat, IsEntry, max_edits}
+use Rattle.model.specs.Database.{Database, tree_at, leave, removed_of, purge_removed, after_purge, after_purges, changed_by, reply_to, act, calls_of, empty_database, IsDatabase}
+use Rattle.model.specs.History.{replay, IsLegal, entry_of}
+use Rattle.model.proofs.HistoryLaws.{replay-push, IsLegal-push, IsNext-entry_of}
+use Rattle.model.proofs.KeptLaws.{IsDatabase-act}
+use Rattle.model.proofs.ReplyLaws.{FitsReply-reply_to}
+use Rattle.snapshots.specs.Version.{IsHistory, IsVersion, entries_of, placed_from}
+use Rattle.snapshots.proofs.Bulks.{few-after_edits, few-after_merges}
+use Rattle.snapshots.proofs.Places.{entries_of-placed_from}
+
+few-leave : (d : Database) (id : Id) (o : Option Tree) → (leave d id o).update_seq ≤ d.update_seq + 1
+few-leave d id (Some t) = omega arith
+few-leave d id None = omega arith
+
+few-purge_removed : (d : Database) (id : Id) (named rs : List Rev) → (purge_removed d id named rs).update_seq ≤ d.update_seq + 1
+few-purge_removed d id named [] = omega arith
+few-purge_removed d id named (r ∷ rs) = few-leave (record d { purges = logged d.purges id (r ∷ rs) }) id (option_and_then (cut named) (tree_at d id))
+
+few-after_purges : (d : Database) (es : List (Id × List Rev)) → (after_purges d es).update_seq ≤ d.update_seq + length es
+few-after_purges d [] = omega arith
+few-after_purges d (e ∷ es) = omega (arith, few-purge_removed d e.0 e.1 (removed_of d e.0 e.1), few-after_purges (after_purge d e) es)
+
+-- a command gives at most as many update numbers as it may have edits
+few-changed_by : (d : Database) (c : Command) → IsCommand c → (changed_by d c).update_seq ≤ d.update_seq + max_edits
+unfolding changed_by
+few-changed_by d (Edits es) is = omega (arith, few-after_edits d es, is.0)
+few-changed_by d (Merges ms) is = omega (arith, few-after_merges d ms, is.0)
+few-changed_by d (PutLocal id named body) is = omega arith
+few-changed_by d (Purge named) is = omega (arith, few-after_purges d (entries named), is.0)
+few-changed_by d (SetLimit n) is = omega arith
+few-changed_by d Compact is = omega arith
+
+few-act : (d : Database) (seat : Seat) (c : Command) → IsCommand c → (act d seat c).update_seq ≤ d.update_seq + max_edits
+unfolding act
+few-act d seat c is = few-changed_by d c is
+
+module _ (es : List Entry) (seat : Seat) (c : Command) (h : IsHistory es) (is_seat : IsSeat seat) (is_command : IsCommand c) (next : seat.call ≡ calls_of (replay empty_database es) seat.session + 1) (room : length es < 4294967295) where
+  abbrev now : Database
+  now = replay empty_database es
+
+  abbrev entry : Entry
+  entry = entry_of now seat c
+
+  abbrev longer : List Entry
+  longer = es ++ entry ∷ []
+
+  is_entry : IsEntry entry
+  is_entry = record { seat = is_seat; command = is_command; reply = FitsReply-reply_to now c is_command h.database }
+
+  IsHistory-pushed : IsHistory longer
+  IsHistory-pushed = record {
+    legal = (IsLegal-push empty_database es entry).1 (h.legal, IsNext-entry_of now seat c next);
+    valid = All-append IsEntry es (entry ∷ []) h.valid (All-cons IsEntry entry [] is_entry (All-nil IsEntry));
+    database = subst IsDatabase (sym (replay-push empty_database es entry)) (IsDatabase-act now seat c is_command h.database);
+    few = omega (arith, length-append es (entry ∷ []), room);
+    numbers = omega (arith, length-append es (entry ∷ []), ap (λ (d : Database). d.update_seq) (replay-push empty_database es entry), few-act now seat c is_command, h.numbers);
+  }
+
+  pub IsVersion-pushed : (later : Database) (placed : List (ℕ × Entry)) → later ≡ act now seat c → placed ≡ placed_from 1 longer → IsVersion later placed
+  IsVersion-pushed later placed acted is =
+      let same : entries_of placed ≡ longer = ap entries_of is ∙ entries_of-placed_from 1 longer in
+      record {
+        places = is ∙ ap (placed_from 1) (sym same);
+        history = subst IsHistory (sym same) IsHistory-pushed;
+        replayed = acted ∙ sym (replay-push empty_database es entry) ∙ ap (replay empty_database) (sym same);
+      }
+
+-- an entry with the answer
+pub entry_of-is : (d : Database) (seat : Seat) (c copy : Command) (r : Reply) → copy ≡ c → r ≡ reply_to d c → ◌≡◌ {A = Entry} (record { seat = seat; command = copy; reply = r }) (entry_of d seat c)
+entry_of-is d seat c copy r same answers = λ i. record { seat = seat; command = same i; reply = answers i }

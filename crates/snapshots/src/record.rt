@@ -1,0 +1,52 @@
+//! A document as it is kept.
+ghost use Rattle.std.specs.Prelude.{◌≡◌};
+ghost use Rattle.model.specs.Answers.{is_live};
+
+use revision_tree::RevTree;
+use std::marker::Model;
+
+/// The revisions of a document, and the number of its last update.
+#[derive(Drop)]
+pub struct Record {
+    tree: RevTree,
+    seq: u64,
+}
+
+impl Model for Record {
+    ghost use Rattle.model.specs.Database.{Record};
+    ghost use Rattle.snapshots.specs.Codes.{coded_record};
+
+    ghost Value = { Record };
+
+    ghost coded = { coded_record };
+
+    ghost view = { λ r. record { tree = r.tree; seq = r.seq } };
+}
+
+impl Record {
+    pub(crate) fn new(tree: RevTree, seq: u64) -> Record
+        ensures { result ≡ record { tree = tree; seq = seq } }
+    {
+        Record { tree, seq }
+    }
+
+    pub fn tree(&self) -> &RevTree
+        ensures { result.now ≡ self.now.tree }
+    {
+        &self.tree
+    }
+
+    /// The update number, from 1.
+    pub fn seq(&self) -> u64
+        ensures { result ≡ self.now.seq }
+    {
+        self.seq
+    }
+
+    /// Whether the document's winner is not deleted.
+    pub fn is_live(&self) -> bool
+        ensures { result ≡ is_live self.now }
+    {
+        !self.tree.winner().deleted
+    }
+}

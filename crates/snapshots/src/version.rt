@@ -1,0 +1,181 @@
+//! A version of the database.
+ghost use Rattle.std.specs.Prelude.{◌≡◌, ◌≤◌, ◌<◌, ◌+◌, ◌^◌, ◌∷◌, ◌++◌, [], ℕ, length, IfOk, option_copied};
+ghost use Rattle.std.specs.Map.Iter.{ShowsInOrder, deref_pair};
+ghost use Rattle.model.specs.Map.{entries, get};
+ghost use Rattle.model.specs.Command.{Id};
+ghost use Rattle.model.specs.Changes.{every_id, changed_since as changed_above};
+ghost use Rattle.model.specs.Answers.{counts};
+ghost use Rattle.model.specs.Database.{Record as Stored, empty_database, calls_of};
+ghost use Rattle.model.specs.History.{replay, entry_of};
+ghost use Rattle.snapshots.specs.Version.{IsHistory, entry_at, placed_from};
+
+use crate::content::Content;
+use crate::record::Record;
+use commands::{Command, Copied, Counts, Entry, Seat};
+use cow_index::{CowMap, Range, Shared};
+use document_id::DocId;
+use local_docs::LocalDoc;
+use std::alloc::{AllocError, Global};
+use std::marker::Model;
+
+/// What a history of answered commands makes of the empty database. Contracts see the history.
+///
+/// No call changes a version: a command gives a new one, which shares with the older one all but
+/// the nodes on the way to what it changes.
+#[derive(Drop)]
+pub struct Version {
+    alloc: Global,
+    content: Content,
+    /// By place, from 1.
+    history: CowMap<u64, Entry>,
+}
+
+impl Model for Version {
+    ghost use Rattle.std.specs.Prelude.{List};
+    ghost use Rattle.std.specs.Coded.{codes};
+    ghost use Rattle.model.specs.JsonCode.{coded_members};
+    ghost use Rattle.model.specs.Command.{Entry};
+    ghost use Rattle.snapshots.specs.Version.{entries_of, IsVersion};
+
+    ghost Value = { List Entry };
+
+    ghost coded = { Prim.hlevel (codes, coded_members) };
+
+    ghost view = { λ v. entries_of v.history.entries };
+
+    ghost invariant = { λ v. IsVersion v.content v.history.entries };
+}
+
+impl Version {
+    /// The version of no entries.
+    pub fn empty(alloc: Global) -> Version
+        ensures { result ≡ [] }
+    {
+        Version {
+            alloc,
+            content: Content::new(alloc),
+            history: CowMap::new(alloc),
+        }
+    }
+
+    /// The same version. It grows nothing, but is refused at the largest count of owners.
+    pub fn share(&self) -> Result<Version, AllocError>
+        ensures same { IfOk result (λ v. v ≡ self.now) }
+    {
+        Ok(Version {
+            alloc: self.alloc,
+            content: self.content.share()?,
+            history: self.history.share()?,
+        })
+    }
+
+    /// The version after one more command.
+    pub fn act(&self, seat: Seat, command: &Command) -> Result<Version, AllocError>
+        requires next { seat.call ≡ calls_of (replay empty_database self.now) seat.session + 1 }
+        requires room { length self.now < 4294967295 }
+        ensures pushed { IfOk result (λ v. v ≡ self.now ++ entry_of (replay empty_database self.now) seat command.now ∷ []) }
+    {
+        let mut content = self.content.share()?;
+        let reply = content.act(seat, command)?;
+        let command = command.copy(self.alloc)?;
+        let history = self.pushed(Entry {
+            seat,
+            command,
+            reply,
+        })?;
+        Ok(Version {
+            alloc: self.alloc,
+            content,
+            history,
+        })
+    }
+
+    /// The history with one more entry, at the next place.
+    fn pushed(&self, entry: Entry) -> Result<CowMap<u64, Entry>, AllocError>
+        ensures { IfOk result (λ m. m.entries ≡ placed_from 1 (self.now ++ entry ∷ [])) }
+    {
+        let place = self.place() + 1;
+        let history = self.history.insert(place, entry)?;
+        Ok(history)
+    }
+
+    /// The number of entries, which is the place of the last.
+    pub fn place(&self) -> u64
+        ensures place { result ≡ length self.now }
+        ensures history { IsHistory self.now }
+    {
+        self.history.len()
+    }
+
+    /// The entry at a place, from 1.
+    pub fn entry(&self, place: u64) -> Option<&Entry>
+        ensures { option_copied result ≡ entry_at self.now place }
+    {
+        self.history.get(&place)
+    }
+
+    /// The number that the session's next command takes.
+    pub fn next_call(&self, session: u16) -> u64
+        ensures { result ≡ calls_of (replay empty_database self.now) session + 1 }
+    {
+        self.content.calls_of(session) + 1
+    }
+
+    pub fn record(&self, id: &DocId) -> Option<&Record>
+        ensures { option_copied result ≡ get (replay empty_database self.now).docs id.now }
+    {
+        self.content.record(id)
+    }
+
+    /// The last update number that was given, from 0.
+    pub fn update_seq(&self) -> u64
+        ensures { result ≡ (replay empty_database self.now).update_seq }
+    {
+        self.content.update_seq()
+    }
+
+    /// How many revisions are kept above a leaf, itself among them, from 1.
+    pub fn revs_limit(&self) -> u32
+        ensures { result ≡ (replay empty_database self.now).revs_limit }
+    {
+        self.content.revs_limit()
+    }
+
+    /// The documents, in the order of their ids.
+    pub fn records(&self) -> Range<'_, DocId, Shared<Record>>
+        ensures rest { result ≡ entries (replay empty_database self.now).docs }
+        ensures fits { length result < 2 ^ 64 }
+        ensures runs { ShowsInOrder (deref_pair {K = Id} {X = Stored}) }
+    {
+        self.content.records()
+    }
+
+    /// The documents with an update number above `since`, in the order of these numbers.
+    pub fn changed_since(&self, since: u64) -> Range<'_, u64, (DocId, Shared<Record>)>
+        ensures rest { result ≡ changed_above every_id (replay empty_database self.now) since }
+        ensures fits { length result < 2 ^ 64 }
+        ensures runs { ShowsInOrder (deref_pair {K = ℕ} {X = Id × Stored}) }
+    {
+        self.content.changed_since(since)
+    }
+
+    /// How many documents have an update number above `since`, counted on one way down the index.
+    pub fn count_changed_since(&self, since: u64) -> u64
+        ensures { result ≡ length (changed_above every_id (replay empty_database self.now) since) }
+    {
+        self.content.count_changed_since(since)
+    }
+
+    /// How many documents there are, live and deleted, and the last numbers that were given.
+    pub fn counts(&self) -> Counts
+        ensures { result ≡ counts (replay empty_database self.now) }
+    {
+        self.content.counts()
+    }
+
+    pub fn local(&self, id: &DocId) -> Option<&LocalDoc>
+        ensures { option_copied result ≡ get (replay empty_database self.now).locals id.now }
+    {
+        self.content.local(id)
+    }
+}
