@@ -18,3 +18,6 @@ pub use connection::Connection;
 pub use fixed::{closing, full, refused, welcome};
 pub use lost::{Lost, NO_MEMORY_ROOM, no_memory};
 pub use replied::reply;
+
+#[cfg(test)]
+mod tests;

@@ -1,0 +1,136 @@
+use crate::{Connection, Lost, answer, closing, full, no_memory, refused, reply, welcome};
+use commands::{
+    Absent, AbsentKind, Answer, AnswerKind, Command, Document, Edit, Options, Query, QueryKind,
+    Refusal as WriteRefusal, RefusalKind, Reply, ReplyKind,
+};
+use document_id::DocId;
+use http_framing::FramingFault;
+use http_request::{Form, Reason, Refusal};
+use http_routes::Route;
+use json_profile::Body;
+use revision_id::RevId;
+use std::sync::Arc;
+use std::test::Fail;
+
+const A1: &str = "1-0123456789abcdef0123456789abcdef";
+
+fn reply_to_put(
+    rt: &HostRuntime,
+    form: Form,
+    outcome: Result<RevId, WriteRefusal>,
+) -> Result<String, Fail> {
+    let alloc = rt.alloc();
+    let edit = Edit {
+        id: DocId::new(alloc, "a").ok().ok_or("id")?,
+        named: None,
+        deleted: false,
+        body: Arc::new(alloc, Body::empty(alloc)).ok().ok_or("memory")?,
+    };
+    let edits = vec![in alloc; edit].ok().ok_or("memory")?;
+    let command = Command::edits(edits).ok_or("command")?;
+    let outcomes = vec![in alloc; outcome].ok().ok_or("memory")?;
+    let told = Reply::new(ReplyKind::Wrote(outcomes));
+    Ok(reply(alloc, 1, Connection::Open, form, &command, &told)?)
+}
+
+#[test]
+fn a_put(rt: HostRuntime) -> Result<(), Fail> {
+    let rev = RevId::parse(A1).ok().ok_or("revision")?;
+    let text = reply_to_put(&rt, Form::Put, Ok(rev))?;
+    assert_eq!(rt;
+        text.as_str(),
+        "HTTP/1.1 201 Created\r\nContent-Type: application/json\r\nContent-Length: 63\r\nCouch-Place: 1\r\n\r\n{\"id\":\"a\",\"ok\":true,\"rev\":\"1-0123456789abcdef0123456789abcdef\"}"
+    );
+    let refused = WriteRefusal::new(RefusalKind::Conflict);
+    let text = reply_to_put(&rt, Form::Put, Err(refused))?;
+    assert_eq!(rt;
+        text.as_str(),
+        "HTTP/1.1 409 Conflict\r\nContent-Type: application/json\r\nContent-Length: 57\r\nCouch-Place: 1\r\n\r\n{\"error\":\"conflict\",\"reason\":\"Document update conflict.\"}"
+    );
+    Ok(())
+}
+
+fn answer_to_get(rt: &HostRuntime, found: Result<Document, Absent>) -> Result<String, Fail> {
+    let alloc = rt.alloc();
+    let query = Query::new(QueryKind::Get {
+        id: DocId::new(alloc, "a").ok().ok_or("id")?,
+        rev: None,
+        options: Options {
+            latest: false,
+            revs: false,
+            revs_info: false,
+            conflicts: false,
+            deleted_conflicts: false,
+        },
+    });
+    let found = Answer::new(AnswerKind::Found(found));
+    Ok(answer(alloc, 1, Connection::Close, &query, &found)?)
+}
+
+#[test]
+fn a_get(rt: HostRuntime) -> Result<(), Fail> {
+    let alloc = rt.alloc();
+    let document = Document {
+        id: DocId::new(alloc, "a").ok().ok_or("id")?,
+        rev: RevId::parse(A1).ok().ok_or("revision")?,
+        deleted: false,
+        body: Arc::new(alloc, Body::empty(alloc)).ok().ok_or("memory")?,
+        revisions: None,
+        revs_info: None,
+        conflicts: Vec::new(alloc),
+        deleted_conflicts: Vec::new(alloc),
+    };
+    assert_eq!(rt;
+        answer_to_get(&rt, Ok(document))?.as_str(),
+        "HTTP/1.1 200 OK\r\nContent-Type: application/json\r\nContent-Length: 55\r\nCouch-Place: 1\r\nConnection: close\r\n\r\n{\"_id\":\"a\",\"_rev\":\"1-0123456789abcdef0123456789abcdef\"}"
+    );
+    let deleted = Absent::new(AbsentKind::WasDeleted);
+    assert_eq!(rt;
+        answer_to_get(&rt, Err(deleted))?.as_str(),
+        "HTTP/1.1 404 Not Found\r\nContent-Type: application/json\r\nContent-Length: 40\r\nCouch-Place: 1\r\nConnection: close\r\n\r\n{\"error\":\"not_found\",\"reason\":\"deleted\"}"
+    );
+    Ok(())
+}
+
+#[test]
+fn refusals(rt: HostRuntime) -> Result<(), Fail> {
+    let alloc = rt.alloc();
+    let number = refused(
+        alloc,
+        12,
+        Connection::Open,
+        Refusal::BadRequest(Reason::Number),
+    )?;
+    assert_eq!(rt;
+        number.as_str(),
+        "HTTP/1.1 400 Bad Request\r\nContent-Type: application/json\r\nContent-Length: 41\r\nCouch-Place: 12\r\n\r\n{\"error\":\"bad_request\",\"reason\":\"number\"}"
+    );
+    let refusal = Refusal::MethodNotAllowed(Route::Document);
+    assert_eq!(rt;
+        refused(alloc, 0, Connection::Close, refusal)?.as_str(),
+        "HTTP/1.1 405 Method Not Allowed\r\nContent-Type: application/json\r\nContent-Length: 61\r\nCouch-Place: 0\r\nAllow: GET, PUT\r\nConnection: close\r\n\r\n{\"error\":\"method_not_allowed\",\"reason\":\"Method not allowed.\"}"
+    );
+    assert_eq!(rt;
+        closing(alloc, 0, FramingFault::LargeBody)?.as_str(),
+        "HTTP/1.1 400 Bad Request\r\nContent-Type: application/json\r\nContent-Length: 39\r\nCouch-Place: 0\r\nConnection: close\r\n\r\n{\"error\":\"bad_request\",\"reason\":\"head\"}"
+    );
+    Ok(())
+}
+
+#[test]
+fn fixed_texts(rt: HostRuntime) -> Result<(), Fail> {
+    let alloc = rt.alloc();
+    assert_eq!(rt;
+        welcome(alloc, 0, Connection::Open)?.as_str(),
+        "HTTP/1.1 200 OK\r\nContent-Type: application/json\r\nContent-Length: 21\r\nCouch-Place: 0\r\n\r\n{\"couchdb\":\"Welcome\"}"
+    );
+    assert_eq!(rt;
+        full(alloc, 1, Connection::Open)?.as_str(),
+        "HTTP/1.1 503 Service Unavailable\r\nContent-Type: application/json\r\nContent-Length: 39\r\nCouch-Place: 1\r\n\r\n{\"error\":\"unavailable\",\"reason\":\"full\"}"
+    );
+    assert_eq!(rt;
+        no_memory(18446744073709551615, Lost::Reply).as_str(),
+        "HTTP/1.1 507 Insufficient Storage\r\nContent-Type: application/json\r\nContent-Length: 38\r\nCouch-Place: 18446744073709551615\r\nConnection: close\r\n\r\n{\"error\":\"no_memory\",\"reason\":\"reply\"}"
+    );
+    Ok(())
+}
