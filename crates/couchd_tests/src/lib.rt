@@ -1,0 +1,5 @@
+#![tactic(auto)]
+//! Tests of connections over the whole store.
+
+#[cfg(test)]
+mod tests;

@@ -1,0 +1,93 @@
+-- The turns of a session that is alone.
+use Rattle.std.proofs.Common.{◌≡◌, ℕ, Bool, true, List, [], ◌∷◌, ◌++◌, length, take, Ok, Err, inl, inr, refl, ap, sym, ◌∙◌, subst, arith}
+use Rattle.std.proofs.lemmas.List.{append-nil, take_all}
+use Rattle.model.specs.Command.{Command, Reply, Seat, Entry}
+use Rattle.model.specs.Query.{Query, Answer}
+use Rattle.model.specs.Database.{empty_database}
+use Rattle.model.specs.History.{replay}
+use Rattle.model.specs.Answers.{answer_to}
+use Rattle.http_framing.specs.Request.{Request}
+use Rattle.http_framing.specs.Input.{Item, Asked, closes_connection}
+use Rattle.http_request.specs.Decide.{decide}
+use Rattle.http_request.specs.declared.asked.Asked.TheVariants as asked
+use Rattle.http_request.specs.declared.asked.Form.{Form}
+use Rattle.http_response.specs.Texts.{reply_text, answer_text, full_text}
+use Rattle.http_response.specs.declared.lost.Lost.TheVariants as lost
+use Rattle.http_front.specs.Outcome.{Outcome, Fixed, Wrote, WroteUntold, Read, OutOfMemory, Full, IsFixedText, HasFixedText, TellsAt, written, after_closing, max_places}
+use Rattle.http_front.specs.Session.{WritesCall}
+use Rattle.http_front.specs.Answers.{AnswersAlone}
+use Rattle.http_front.specs.Response.{turn_of, Sends, SaysLost, SendsOrLost}
+use Rattle.http_front.specs.declared.response.Response.{Response}
+
+module _ (history : List Entry) (place : ℕ) (place_is : place ≡ length history) (response : Response) where
+  -- nothing was written
+  unchanged : (item : Item) (outcome : Outcome) → written outcome ≡ [] → TellsAt 0 history (turn_of item response) place outcome → AnswersAlone history (turn_of item response) history
+  unchanged item outcome none told = record {
+    outcome = outcome;
+    told = subst (λ (p : ℕ). TellsAt 0 history (turn_of item response) p outcome) place_is told;
+    entries = sym (append-nil history) ∙ ap (λ (es : List Entry). history ++ es) (sym none);
+  }
+
+  -- memory was refused
+  pub answers_lost : (item : Item) → SaysLost place lost.Call response → AnswersAlone history (turn_of item response) history
+  answers_lost item says = unchanged item OutOfMemory refl (says.0, says.1)
+
+  -- the text of a refusal, or of `/`
+  pub answers_fixed : (item : Item) (text : List ℕ) → HasFixedText place item text → SendsOrLost text (closes_connection item) place lost.Call response
+      → AnswersAlone history (turn_of item response) history
+  answers_fixed item text fixed (inl sends) = unchanged item Fixed refl (subst (HasFixedText place item) (sym sends.0) fixed, sends.1)
+  answers_fixed item text fixed (inr says) = answers_lost item says
+
+  module _ (request : Request) (closes : Bool) (closes_is : request.closes ≡ closes) where
+    -- the text of what was decided, where that is a refusal or `/`
+    pub answers_decided : (decided : _) (text : List ℕ) → decided ≡ decide request → IsFixedText place closes decided text
+        → SendsOrLost text closes place lost.Call response → AnswersAlone history (turn_of (Asked request) response) history
+    answers_decided decided text is fixed sends =
+        answers_fixed (Asked request) text
+        (subst (λ (c : Bool). IsFixedText place c (decide request) text) (sym closes_is) (subst (λ d. IsFixedText place closes d text) is fixed))
+        (subst (λ (c : Bool). SendsOrLost text c place lost.Call response) (sym closes_is) sends)
+
+    -- the answer to a query
+    pub answers_query : (query : Query) (answer : Answer) → decide request ≡ Ok (asked.Query query) → answer ≡ answer_to (replay empty_database history) query
+        → SendsOrLost (answer_text place (after_closing closes) query answer) closes place lost.Call response
+        → AnswersAlone history (turn_of (Asked request) response) history
+    answers_query query answer asks answers (inl sends) =
+        let all : take place history ≡ history = take_all place history (omega (arith, place_is)) in
+        unchanged (Asked request) (Read query answer) refl (
+          record { asked = asks; told = (omega (arith, place_is), answers ∙ ap (λ (es : List Entry). answer_to (replay empty_database es) query) (sym all)) },
+          sends.0 ∙ ap (λ (c : Bool). answer_text place (after_closing c) query answer) (sym sends.1),
+          sends.1 ∙ sym closes_is,
+        )
+    answers_query query answer asks answers (inr says) = answers_lost (Asked request) says
+
+    -- the history is full
+    pub answers_full : (form : Form) (command : Command) → decide request ≡ Ok (asked.Command form command) → length history ≡ max_places
+        → SendsOrLost (full_text place (after_closing closes)) closes place lost.Call response
+        → AnswersAlone history (turn_of (Asked request) response) history
+    answers_full form command asks full (inl sends) =
+        unchanged (Asked request) Full refl
+        (form, command, asks, place_is ∙ full, sends.0 ∙ ap (λ (c : Bool). full_text place (after_closing c)) (sym sends.1), sends.1 ∙ sym closes_is)
+    answers_full form command asks full (inr says) = answers_lost (Asked request) says
+
+    module _ (old : List Entry) (seat : Seat) (form : Form) (command : Command) (reply : Reply) (asks : decide request ≡ Ok (asked.Command form command)) (writes : WritesCall 0 old seat command place reply history) (entry_is : history ≡ old ++ record { seat = seat; command = command; reply = reply } ∷ []) where
+      -- the entry was written
+      answers_entry : (outcome : Outcome) → written outcome ≡ record { seat = seat; command = command; reply = reply } ∷ [] → TellsAt 0 history (turn_of (Asked request) response) place outcome
+          → AnswersAlone old (turn_of (Asked request) response) history
+      answers_entry outcome one told = record {
+        outcome = outcome;
+        told = subst (λ (p : ℕ). TellsAt 0 history (turn_of (Asked request) response) p outcome) place_is told;
+        entries = entry_is ∙ ap (λ (es : List Entry). old ++ es) (sym one);
+      }
+
+      -- the reply to a command
+      pub answers_command : SendsOrLost (reply_text place (after_closing closes) form command reply) closes place lost.Reply response
+          → AnswersAlone old (turn_of (Asked request) response) history
+      answers_command (inl sends) =
+          answers_entry (Wrote form (record { seat = seat; command = command; reply = reply })) refl (
+            record { asked = asks; own = writes.seat; told = writes.told },
+            sends.0 ∙ ap (λ (c : Bool). reply_text place (after_closing c) form command reply) (sym sends.1),
+            sends.1 ∙ sym closes_is,
+          )
+      answers_command (inr says) =
+          answers_entry (WroteUntold form (record { seat = seat; command = command; reply = reply })) refl
+          (record { asked = asks; own = writes.seat; told = writes.told }, says.0, says.1)

@@ -1,0 +1,48 @@
+-- What a connection is, told by the history that its session has seen at the end.
+use Rattle.std.specs.Prelude.{◌≡◌, ℕ, List, [], ◌∷◌, ◌++◌, length, map, Option}
+use Rattle.std.specs.List.{flat_map, AllZip}
+use Rattle.std.specs.Io.KnownBytes.{Consumes, Appends}
+use Rattle.http_framing.specs.Input.{Splits}
+use Rattle.serving.specs.Turn.{Turn, all_turns, items_of, responses_of}
+use Rattle.serving.specs.Served.{Streams, IsPartOf, EndsBy, CountsReads, CountsWrites}
+use Rattle.serving.specs.declared.outcome.Ended.{Ended}
+use Rattle.model.specs.Command.{Entry}
+use Rattle.model.specs.Database.{empty_database}
+use Rattle.model.specs.History.{IsLegal, of_session}
+use Rattle.model.specs.Told.{NoneFalls}
+use Rattle.http_front.specs.Outcome.{Placed, IsToldAt, written}
+
+-- the places that are named, in order
+abbrev pub places_named : List Placed → List ℕ
+places_named outcomes = map (λ placed. placed.place) outcomes
+
+-- the entries that were written, in order
+abbrev pub entries_written : List Placed → List Entry
+entries_written outcomes = flat_map (λ placed. written placed.outcome) outcomes
+
+-- A connection of a session, which had seen the old history and has seen the final one at its end. What was read is
+-- the items of all turns and a rest, and what was written is their texts in order, with a part of the one that was cut.
+pub record IsConnection (session : ℕ) (before after : Streams) (old final : List Entry) (ended : Ended) : Type 0 where
+  pub read : List ℕ
+  pub turns : List Turn
+  pub cut : Option Turn
+  pub rest : List ℕ
+  pub part : List ℕ
+  pub outcomes : List Placed
+  pub more : List Entry
+  pub reads : Consumes before.left after.left read
+  pub splits : Splits read (items_of (all_turns turns cut)) rest
+  -- each text is told by the final history
+  pub told : AllZip (IsToldAt session final) (all_turns turns cut) outcomes
+  pub legal : IsLegal empty_database final
+  pub extends : final ≡ old ++ more
+  -- the session's new entries are those of the responses
+  pub entries : of_session session more ≡ entries_written outcomes
+  -- the places named never fall, from the old one up to the last
+  pub places : NoneFalls (length old) (places_named outcomes ++ length final ∷ [])
+  pub writes : Appends before.taken after.taken (responses_of turns ++ part)
+  pub is_part : IsPartOf cut part
+  pub answered : ended.answered ≡ length turns
+  pub ends : EndsBy ended.cause turns cut rest after.left
+  pub failed_reads : CountsReads ended.cause before.failed_reads after.failed_reads
+  pub failed_writes : CountsWrites ended.cause before.failed_writes after.failed_writes

@@ -1,0 +1,102 @@
+-- What becomes of a request, and the text that tells it.
+use Rattle.std.specs.Prelude.{◌≡◌, ℕ, Bool, true, List, [], ◌∷◌, Result, Ok, Err, if◌then◌else◌}
+use Rattle.model.specs.Command.{Entry, Command}
+use Rattle.model.specs.Query.{Query, Answer}
+use Rattle.model.specs.Database.{empty_database}
+use Rattle.model.specs.World.{WroteAt, Asked as AskedAt}
+use Rattle.model.specs.Told.{Tells}
+use Rattle.http_framing.specs.Input.{Item, Asked, Refused, closes_connection}
+use Rattle.http_request.specs.Decide.{decide}
+use Rattle.http_request.specs.declared.asked.Asked.{Asked as Asking}
+use Rattle.http_request.specs.declared.asked.Asked.TheVariants as asked
+use Rattle.http_request.specs.declared.asked.Form.{Form}
+use Rattle.http_request.specs.declared.refusal.Refusal.{Refusal}
+use Rattle.http_response.specs.Texts.{closing_text, refusal_text, welcome_text, reply_text, answer_text, full_text, no_memory_text}
+use Rattle.http_response.specs.declared.connection.Connection.{Connection as After}
+use Rattle.http_response.specs.declared.connection.Connection.TheVariants as after
+use Rattle.http_response.specs.declared.lost.Lost.TheVariants as lost
+use Rattle.serving.specs.Turn.{Turn}
+
+-- the most entries of a history
+abbrev pub max_places : ℕ
+max_places = 1000000
+
+-- what becomes of what stands on a connection
+pub data Outcome : Type 0 where
+  -- it is refused, or it asks for `/`
+  Fixed : Outcome
+  -- the command has this entry
+  Wrote : Form → Entry → Outcome
+  -- the command has this entry, and memory for the text of its reply was refused
+  WroteUntold : Form → Entry → Outcome
+  -- the query has this answer
+  Read : Query → Answer → Outcome
+  -- memory was refused, and no entry was written
+  OutOfMemory : Outcome
+  -- the history is full, and no entry was written
+  Full : Outcome
+
+-- what became of an item, and the place that the response names
+pub record Placed : Type 0 where
+  pub place : ℕ
+  pub outcome : Outcome
+
+-- the entries that were written
+abbrev pub written : Outcome → List Entry
+written (Wrote form entry) = entry ∷ []
+written (WroteUntold form entry) = entry ∷ []
+written _ = []
+
+-- the item is a request that asks this
+abbrev pub Asks : Item → Asking → Type 0
+Asks (Asked request) asking = decide request ≡ Ok asking
+Asks (Refused fault) asking = ⊥
+
+-- what a response says of the connection
+abbrev pub after_closing : Bool → After
+after_closing closes = if closes then after.Close else after.Open
+
+-- the text is that of a refusal, or of `/`
+abbrev pub IsFixedText : ℕ → Bool → Result Asking Refusal → List ℕ → Type 0
+IsFixedText place closes (Err refusal) text = text ≡ refusal_text place (after_closing closes) refusal
+IsFixedText place closes (Ok asked.Welcome) text = text ≡ welcome_text place (after_closing closes)
+IsFixedText place closes (Ok (asked.Command form command)) text = ⊥
+IsFixedText place closes (Ok (asked.Query query)) text = ⊥
+
+-- the text is the one that is fixed for the item at this place
+abbrev pub HasFixedText : ℕ → Item → List ℕ → Type 0
+HasFixedText place (Asked request) text = IsFixedText place request.closes (decide request) text
+HasFixedText place (Refused fault) text = text ≡ closing_text place fault
+
+module _ (session : ℕ) (history : List Entry) where
+  -- the item asks for a command, of which the history has this entry of the session at the place
+  pub record IsWritten (item : Item) (place : ℕ) (form : Form) (entry : Entry) : Type 0 where
+    pub asked : Asks item (asked.Command form entry.command)
+    pub own : entry.seat.session ≡ session
+    pub told : Tells empty_database history (WroteAt entry.seat entry.command place entry.reply)
+
+  -- the item asks for a query, which the first entries, as many as the place says, answer so
+  pub record IsRead (item : Item) (place : ℕ) (query : Query) (answer : Answer) : Type 0 where
+    pub asked : Asks item (asked.Query query)
+    pub told : Tells empty_database history (AskedAt session query place answer)
+
+  -- the text of the turn tells what became of its item, by this history
+  abbrev pub TellsAt : Turn → ℕ → Outcome → Type 0
+  TellsAt turn place Fixed = HasFixedText place turn.item turn.text × (turn.closes ≡ closes_connection turn.item)
+  TellsAt turn place (Wrote form entry) =
+      IsWritten turn.item place form entry
+      × (turn.text ≡ reply_text place (after_closing turn.closes) form entry.command entry.reply)
+      × (turn.closes ≡ closes_connection turn.item)
+  TellsAt turn place (WroteUntold form entry) =
+      IsWritten turn.item place form entry × (turn.text ≡ no_memory_text place lost.Reply) × (turn.closes ≡ true)
+  TellsAt turn place (Read query answer) =
+      IsRead turn.item place query answer
+      × (turn.text ≡ answer_text place (after_closing turn.closes) query answer)
+      × (turn.closes ≡ closes_connection turn.item)
+  TellsAt turn place OutOfMemory = (turn.text ≡ no_memory_text place lost.Call) × (turn.closes ≡ true)
+  TellsAt turn place Full =
+      (form : Form) × (command : Command) × Asks turn.item (asked.Command form command) × (place ≡ max_places)
+      × (turn.text ≡ full_text place (after_closing turn.closes)) × (turn.closes ≡ closes_connection turn.item)
+
+  abbrev pub IsToldAt : Turn → Placed → Type 0
+  IsToldAt turn placed = TellsAt turn placed.place placed.outcome

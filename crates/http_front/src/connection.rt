@@ -1,0 +1,70 @@
+//! The connections of a session.
+
+ghost use Rattle.std.specs.Prelude.{◌≡◌};
+ghost use Rattle.model.specs.History.{of_session};
+ghost use Rattle.serving.specs.Served.{Streams};
+ghost use Rattle.http_front.specs.Answers.{AnswersAlone};
+ghost use Rattle.http_front.specs.Connection.{IsConnection};
+
+use crate::session::Session;
+use crate::turn::{Setting, refuse, respond};
+use http_framing::FramingFault;
+use http_framing::request::Request;
+use serving::{Ended, Service, write_response};
+use std::alloc::Global;
+use streams::{Failed, Sink, Source};
+
+impl Service<Setting> for Session {
+    ghost answers = { λ _. AnswersAlone };
+
+    fn answer<W: Sink>(
+        &mut self,
+        setting: &Setting,
+        request: &Request<'_>,
+        writer: &mut W,
+    ) -> Result<bool, Failed> {
+        let response = respond(self, setting, request);
+        write_response(writer, response.bytes(), response.closes())
+    }
+
+    fn refuse<W: Sink>(
+        &mut self,
+        setting: &Setting,
+        fault: FramingFault,
+        writer: &mut W,
+    ) -> Result<(), Failed> {
+        let response = refuse(self, setting, fault);
+        write_response(writer, response.bytes(), response.closes())?;
+        Ok(())
+    }
+}
+
+/// Serves the requests of the reader to the writer, in order, each as soon as it is whole.
+pub fn serve<R: Source, W: Sink>(
+    alloc: Global,
+    reader: &mut R,
+    writer: &mut W,
+    session: &mut Session,
+    setting: &Setting,
+) -> Ended
+    ensures connection { IsConnection 0
+        (record {
+          left = R.left reader.old;
+          failed_reads = R.failed_reads reader.old;
+          taken = W.taken writer.old;
+          failed_writes = W.failed_writes writer.old;
+        })
+        (record {
+          left = R.left reader.new;
+          failed_reads = R.failed_reads reader.new;
+          taken = W.taken writer.new;
+          failed_writes = W.failed_writes writer.new;
+        })
+        session.old session.new result }
+    // No other session has entries.
+    ensures alone { of_session 0 session.new ≡ session.new }
+{
+    let ended = serving::serve(alloc, reader, writer, session, setting);
+    let _seen = session.look();
+    ended
+}

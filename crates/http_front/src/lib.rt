@@ -1,0 +1,13 @@
+#![tactic(auto)]
+//! Sessions of the database, and the connections that they serve.
+
+mod connection;
+mod once;
+mod response;
+mod session;
+mod turn;
+
+pub use connection::serve;
+pub use once::run_once;
+pub use session::{MAX_PLACES, Receipt, Session, WriteFault};
+pub use turn::Setting;

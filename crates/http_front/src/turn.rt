@@ -1,0 +1,110 @@
+//! The turns of a session.
+
+ghost use Rattle.std.specs.Prelude.{◌≡◌, ◌++◌, length, Ok};
+ghost use Rattle.http_framing.specs.Input.{Asked as AskedItem, Refused};
+ghost use Rattle.http_framing.specs.Request as framing;
+ghost use Rattle.http_request.specs.Decide.{decide};
+ghost use Rattle.http_front.specs.Answers.{AnswersAlone};
+ghost use Rattle.http_front.specs.Response.{turn_of};
+
+use crate::response::{Response, connection_after};
+use crate::session::{Session, WriteFault};
+use changes_feed::answer;
+use commands::{Command, Query};
+use http_framing::FramingFault;
+use http_framing::request::Request;
+use http_request::{Asked, Form, read_request};
+use http_response::{Lost, closing, full, refused, reply, welcome};
+use http_routes::Routes;
+use std::alloc::{AllocError, Global};
+
+/// What serves connections beside a session.
+#[derive(Drop)]
+pub struct Setting {
+    pub(crate) alloc: Global,
+    pub(crate) routes: Routes,
+}
+
+impl Setting {
+    /// Builds the routes.
+    pub fn new(alloc: Global) -> Result<Setting, AllocError> {
+        Ok(Setting {
+            alloc,
+            routes: Routes::new(alloc)?,
+        })
+    }
+}
+
+/// Does what a request asks, and answers it.
+pub(crate) fn respond(session: &mut Session, setting: &Setting, request: &Request<'_>) -> Response
+    ensures { AnswersAlone session.old (turn_of (AskedItem request.now) result) session.new }
+{
+    let alloc = setting.alloc;
+    let place = session.place();
+    let closes = request.closes();
+    let Ok(asked) = read_request(alloc, &setting.routes, request) else {
+        return Response::out_of_memory(place, Lost::Call);
+    };
+    match asked {
+        Ok(Asked::Command(form, command)) => write(session, alloc, form, &command, closes),
+        Ok(Asked::Query(query)) => read(session, alloc, &query, closes),
+        Ok(Asked::Welcome) => {
+            let text = welcome(alloc, place, connection_after(closes));
+            Response::new(text, closes, place, Lost::Call)
+        }
+        Err(refusal) => {
+            let text = refused(alloc, place, connection_after(closes), refusal);
+            Response::new(text, closes, place, Lost::Call)
+        }
+    }
+}
+
+/// Writes a command, and tells the reply in this form.
+fn write(
+    session: &mut Session,
+    alloc: Global,
+    form: Form,
+    command: &Command,
+    closes: bool,
+) -> Response
+    ensures { (request : framing.Request) → decide request ≡ Ok (Asked.Command form command.now)
+        → request.closes ≡ closes
+        → AnswersAlone session.old (turn_of (AskedItem request) result) session.new }
+{
+    let connection = connection_after(closes);
+    match session.write(alloc, command) {
+        Ok(receipt) => {
+            let place = receipt.place;
+            let text = reply(alloc, place, connection, form, command, &receipt.reply);
+            Response::new(text, closes, place, Lost::Reply)
+        }
+        Err(WriteFault::Memory) => Response::out_of_memory(session.place(), Lost::Call),
+        Err(WriteFault::Full) => {
+            let place = session.place();
+            Response::new(full(alloc, place, connection), closes, place, Lost::Call)
+        }
+    }
+}
+
+/// Answers a query by what the session has seen.
+fn read(session: &Session, alloc: Global, query: &Query, closes: bool) -> Response
+    ensures { (request : framing.Request) → decide request ≡ Ok (Asked.Query query.now)
+        → request.closes ≡ closes
+        → AnswersAlone session.now (turn_of (AskedItem request) result) session.now }
+{
+    let place = session.place();
+    let Ok(found) = answer(alloc, session.look(), query) else {
+        return Response::out_of_memory(place, Lost::Call);
+    };
+    let text = http_response::answer(alloc, place, connection_after(closes), query, &found);
+    Response::new(text, closes, place, Lost::Call)
+}
+
+/// Answers bytes that are refused.
+pub(crate) fn refuse(session: &Session, setting: &Setting, fault: FramingFault) -> Response
+    ensures { AnswersAlone session.now (turn_of (Refused fault) result) session.now }
+{
+    let place = session.place();
+    let text = closing(setting.alloc, place, fault);
+    Response::new(text, true, place, Lost::Call)
+}
