@@ -93,13 +93,14 @@ impl Json {
         self.value.as_str()
     }
 
+    /// The flag, of `true` or `false`.
     pub fn as_bool(&self) -> Option<bool>
         ensures { result ≡ bool_of self.now }
     {
         self.value.as_bool()
     }
 
-    /// The number, which is always there of a number.
+    /// The number, of a number.
     pub fn as_i64(&self) -> Option<i64>
         ensures { result ≡ option_and_then i64_of (as_number self.now) }
     {
