@@ -10,6 +10,8 @@ mod removed;
 mod restrict;
 mod stems;
 mod strips;
+#[cfg(test)]
+mod tests;
 mod written;
 
 pub use fault::MergeFault;
