@@ -6,3 +6,5 @@ pub mod Grafted
 pub mod Reached
 pub mod Restricted
 pub mod Raised
+pub mod Writes
+pub mod Compared

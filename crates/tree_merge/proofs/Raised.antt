@@ -1,5 +1,5 @@
 -- The list of the marks of a tree's revisions.
-use Rattle.std.specs.Prelude.{◌≡◌, ℕ, zero, suc, ◌+◌, ◌-◌, ◌<◌, ◌≤◌, max, nat_lt, Bool, true, false, cond, not, ◌&&◌, ◌||◌, List, [], ◌∷◌, ◌++◌, map, length, get_or, take, drop, set, All, AllPairs, Contains, Option, Some, None, is_some, option_and_then, refl}
+use Rattle.std.specs.Prelude.{◌≡◌, ℕ, zero, suc, ◌+◌, ◌-◌, ◌<◌, ◌≤◌, max, Bool, true, false, cond, not, ◌&&◌, ◌||◌, List, [], ◌∷◌, ◌++◌, map, length, get_or, take, drop, set, All, AllPairs, Contains, Option, Some, None, is_some, refl}
 use Rattle.std.proofs.Common.{sym, ap, subst, ◌∙◌, arith, sub-one, drop-cons}
 use Rattle.std.specs.declared.cmp.Ordering.TheVariants.{Less}
 use Rattle.std.proofs.Math.ListN.{length-map}
@@ -9,7 +9,7 @@ use Rattle.std.proofs.lemmas.List.{get_or-map, take_all, take_more, map-append}
 use Rattle.std.proofs.lemmas.List.Elements.{All-head, All-tail, All-weaker, All-contains_itself}
 use Rattle.model.specs.Map.{entries, get, refine_list}
 use Rattle.model.specs.Revision.{Rev, rev_cmp, revs, same_rev, same_rev-equal}
-use Rattle.model.specs.Tree.{Tree, Revision, IsForest, knows, is_at, is_leaf, among, parent_of}
+use Rattle.model.specs.Tree.{Tree, Revision, knows, is_at, is_leaf, among}
 use Rattle.model.specs.TreeChange.{restrict}
 use Rattle.model.proofs.ListLaws.{by_cases, AllPairs-head, AllPairs-tail}
 use Rattle.model.proofs.MapLaws.{Contains-entries, same_key-apart}
@@ -19,7 +19,6 @@ use Rattle.revision_tree.specs.Nodes.{IsListOf, entry_of, entries_of}
 use Rattle.revision_tree.proofs.Listed.{sorted_list, tree_of-list}
 use Rattle.revision_tree.proofs.Places.{got}
 use Rattle.tree_merge.specs.Reach.{first_mark, raised, reach, kept_of}
-use Rattle.tree_merge.proofs.Reached.{rising_entries, all_got}
 
 abbrev Entry : Type 0
 Entry = Rev × Revision

@@ -1,15 +1,14 @@
 -- The marks say which revisions lie so few steps above some leaf that isn't named.
-use Rattle.std.specs.Prelude.{◌≡◌, ◌≢◌, ◌↔◌, ◌⊎◌, ℕ, suc, ◌+◌, ◌-◌, ◌<◌, ◌≤◌, max, nat_lt, Bool, true, false, not, ◌&&◌, cond, List, [], ◌∷◌, All, AllPairs, Contains, Option, Some, None, refl}
+use Rattle.std.specs.Prelude.{◌≡◌, ◌↔◌, ◌⊎◌, ℕ, ◌+◌, ◌-◌, ◌<◌, ◌≤◌, max, Bool, true, false, not, ◌&&◌, cond, List, [], ◌∷◌, All, AllPairs, Contains, Option, Some, refl}
 use Rattle.std.proofs.Common.{sym, ap, subst, ◌∙◌, ⊎_elim, inl, inr, arith, lt-ltb, ltb-true}
-use Rattle.std.specs.declared.cmp.Ordering.TheVariants.{Less, Equal, Greater}
+use Rattle.std.specs.declared.cmp.Ordering.TheVariants.{Less}
 use Rattle.std.specs.Cmp.{tied_itself}
-use Rattle.std.proofs.lemmas.Bool.{cases_lt, true≢false, and_parts, and_from, not-true, not_from_false, cond-true, cond-false}
+use Rattle.std.proofs.lemmas.Bool.{cases_lt, and_parts, and_from, not-true, not_from_false, cond-true}
 use Rattle.std.proofs.lemmas.List.Elements.{All-head, All-tail, All-weaker, All-contains_itself}
 use Rattle.model.specs.Map.{entries, get}
-use Rattle.model.specs.Revision.{Rev, rev_cmp, rev_total, revs, same_rev}
-use Rattle.model.specs.Tree.{Tree, Revision, IsForest, IsNear, is_at, among, is_leaf, knows, parent_of, ancestor}
-use Rattle.model.specs.TreeChange.{IsHeld}
-use Rattle.model.proofs.ListLaws.{by_cases, AllPairs-head, AllPairs-tail, Contains-head, Contains-tail, Contains-cons_cases}
+use Rattle.model.specs.Revision.{Rev, rev_cmp, rev_total, revs}
+use Rattle.model.specs.Tree.{Tree, Revision, IsForest, is_at, among, is_leaf, parent_of}
+use Rattle.model.proofs.ListLaws.{by_cases, AllPairs-head, AllPairs-tail, Contains-cons_cases}
 use Rattle.model.proofs.MapLaws.{Contains-entries, IsRising-keys}
 use Rattle.model.proofs.RisingLaws.{AllPairs-map}
 use Rattle.model.proofs.TreeLaws.{is_at-equal, parent_in, known_of, knows_child}

@@ -1,9 +1,9 @@
 -- A stem and a cut are restrictions to what the marks reach.
-use Rattle.std.specs.Prelude.{◌≡◌, ◌↔◌, ℕ, ◌+◌, ◌<◌, ◌≤◌, Bool, true, false, List, [], ◌∷◌, length, Option, Some, None, is_some, Contains, refl}
+use Rattle.std.specs.Prelude.{◌≡◌, ◌↔◌, ℕ, ◌+◌, ◌<◌, ◌≤◌, List, [], ◌∷◌, length, Some, None, is_some, Contains, refl}
 use Rattle.std.proofs.Common.{sym, ap, subst, ◌∙◌, arith}
 use Rattle.model.specs.Map.{entries}
-use Rattle.model.specs.Revision.{Rev, IsRev, revs, last_generation}
-use Rattle.model.specs.Tree.{Tree, Revision, IsForest, IsTree, IsInRange, IsNear, knows, is_leaf, among}
+use Rattle.model.specs.Revision.{Rev, revs, last_generation}
+use Rattle.model.specs.Tree.{Tree, Revision, IsForest, IsTree, IsInRange, IsNear, among}
 use Rattle.model.specs.TreeChange.{IsHeld, IsRestriction, restrict, stem, cut}
 use Rattle.model.proofs.ListLaws.{by_cases, Contains-head}
 use Rattle.model.proofs.MapLaws.{Contains-entries}

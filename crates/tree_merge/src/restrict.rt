@@ -48,12 +48,7 @@ fn kept(
 }
 
 /// Shares a revision where it is marked.
-fn keep(
-    tree: &RevTree,
-    marks: &[u32],
-    kept: &mut Vec<Node>,
-    node: &Node,
-) -> Result<(), AllocError>
+fn keep(tree: &RevTree, marks: &[u32], kept: &mut Vec<Node>, node: &Node) -> Result<(), AllocError>
     requires long { length marks.now ≡ length (entries tree.now) }
     requires known { knows tree.now node.now.rev ≡ true }
     requires parent { IfSome node.now.parent (λ p. knows tree.now p ≡ true) }

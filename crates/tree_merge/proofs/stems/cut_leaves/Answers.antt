@@ -1,4 +1,4 @@
-use Rattle.std.proofs.Common.{◌≡◌, ◌==◌, ◌∙◌, ℕ, true, false, sym, ap, length, Some, eqb-true, eq-eqb, arith}
+use Rattle.std.proofs.Common.{◌≡◌, ◌==◌, ◌∙◌, ℕ, false, sym, ap, Some, eqb-true, eq-eqb, arith}
 use Rattle.std.proofs.lemmas.Bool.{true≢false}
 use Rattle.tree_merge.proofs.Restricted.{cut_empty, cut_list, left}
 use Rattle.tree_merge.proofs.stems.cut_leaves.Goals as goal
