@@ -1,16 +1,15 @@
 -- What is read stands in order, and stays so without the special members.
-use Rattle.std.proofs.Common.{◌≡◌, ℕ, List, [], ◌∷◌, Bool, true, false, ◌&&◌, cond, Option, Some, None, option_map, option_and_then, Ordering, Less, Equal, Greater, nat_cmp, true≢false, refl, sym, ap, ◌∙◌, subst}
+use Rattle.std.proofs.Common.{◌≡◌, ℕ, List, Bool, true, ◌&&◌, Option, Some, None, option_map, option_and_then, Ordering, Less, Equal, Greater, nat_cmp, true≢false, refl, sym, ap, ◌∙◌, subst}
 use Rattle.std.specs.Prelude.{⊤}
 use Rattle.std.proofs.lemmas.Bool.{and_parts, and_from}
 use Rattle.std.proofs.lemmas.Cmp.{nat_list_cmp_total}
 use Rattle.std.specs.Ordering.{is_lt, match_ordering, ordering_reverse}
 use Rattle.std.specs.Cmp.Lexicographic.{slice_cmp}
-use Rattle.json.specs.Token.{Token}
 use Rattle.json.specs.Lex.{tokens}
 use Rattle.json.specs.Json as json
-use Rattle.serde_json.specs.Data.{Data, Items, no_items, item, number, object, array, Members, no_members, member, put}
+use Rattle.serde_json.specs.Data.{Data, item, number, object, array, Members, no_members, member, put}
 use Rattle.serde_json.specs.Read.{read, of_json, of_items, of_members, number_of, max_depth}
-use Rattle.model.specs.Profile.{is_special, without_specials, is_before, is_ordered, items_ordered, members_ordered}
+use Rattle.model.specs.Profile.{is_before, is_ordered, items_ordered, members_ordered}
 
 -- ---- a member that is put into its place
 
@@ -29,16 +28,16 @@ is_before-put : (l k : List ℕ) (d : Data) (ms : Members) → is_lt (slice_cmp 
 is_before-put l k d no_members new old = new
 is_before-put l k d (member m e ms) new old = is_before-put_at (slice_cmp nat_cmp k m) l k m d e ms new old
 
-first_of : (k : List ℕ) (d : Data) (ms : Members) → members_ordered (member k d ms) ≡ true → is_before k ms ≡ true
+pub first_of : (k : List ℕ) (d : Data) (ms : Members) → members_ordered (member k d ms) ≡ true → is_before k ms ≡ true
 first_of k d ms h = (and_parts (is_before k ms) (is_ordered d) (and_parts (is_before k ms && is_ordered d) (members_ordered ms) h).0).0
 
-value_of : (k : List ℕ) (d : Data) (ms : Members) → members_ordered (member k d ms) ≡ true → is_ordered d ≡ true
+pub value_of : (k : List ℕ) (d : Data) (ms : Members) → members_ordered (member k d ms) ≡ true → is_ordered d ≡ true
 value_of k d ms h = (and_parts (is_before k ms) (is_ordered d) (and_parts (is_before k ms && is_ordered d) (members_ordered ms) h).0).1
 
-rest_of : (k : List ℕ) (d : Data) (ms : Members) → members_ordered (member k d ms) ≡ true → members_ordered ms ≡ true
+pub rest_of : (k : List ℕ) (d : Data) (ms : Members) → members_ordered (member k d ms) ≡ true → members_ordered ms ≡ true
 rest_of k d ms h = (and_parts (is_before k ms && is_ordered d) (members_ordered ms) h).1
 
-ordered_from : (k : List ℕ) (d : Data) (ms : Members) → is_before k ms ≡ true → is_ordered d ≡ true → members_ordered ms ≡ true → members_ordered (member k d ms) ≡ true
+pub ordered_from : (k : List ℕ) (d : Data) (ms : Members) → is_before k ms ≡ true → is_ordered d ≡ true → members_ordered ms ≡ true → members_ordered (member k d ms) ≡ true
 ordered_from k d ms p q r = and_from (is_before k ms && is_ordered d) (members_ordered ms) (and_from (is_before k ms) (is_ordered d) p q) r
 
 members_ordered-put_at : (o : Ordering) (k l : List ℕ) (d e : Data) (ms : Members) → slice_cmp nat_cmp k l ≡ o → is_ordered d ≡ true → members_ordered (member l e ms) ≡ true
@@ -53,6 +52,10 @@ members_ordered-put_at Greater k l d e ms is new old later =
 pub members_ordered-put : (k : List ℕ) (d : Data) (ms : Members) → is_ordered d ≡ true → members_ordered ms ≡ true → members_ordered (put k d ms) ≡ true
 members_ordered-put k d no_members new old = ordered_from k d no_members refl new refl
 members_ordered-put k d (member l e ms) new old = members_ordered-put_at _ k l d e ms refl new old (members_ordered-put k d ms new (rest_of l e ms old))
+
+pub is_before-trans : (k l : List ℕ) (ms : Members) → is_lt (slice_cmp nat_cmp k l) ≡ true → is_before l ms ≡ true → is_before k ms ≡ true
+is_before-trans k l no_members low h = refl
+is_before-trans k l (member m e ms) low h = ap is_lt (nat_list_cmp_total.trans k l m (lt _ low) (lt _ h))
 
 -- ---- a text is read in order
 
@@ -93,29 +96,3 @@ mutual
 
 pub read_in_order : (text : List ℕ) (d : Data) → read text ≡ Some d → is_ordered d ≡ true
 read_in_order text d is = subst (Keeps is_ordered) is (Keeps-and_then (λ _. true) is_ordered of_json (λ j x. ordered-of_json j) (option_and_then (λ p. json.if_last p.0 p.1) (json.value max_depth (tokens text))) (any _))
-
--- ---- without the special members
-
-is_before-trans : (k l : List ℕ) (ms : Members) → is_lt (slice_cmp nat_cmp k l) ≡ true → is_before l ms ≡ true → is_before k ms ≡ true
-is_before-trans k l no_members low h = refl
-is_before-trans k l (member m e ms) low h = ap is_lt (nat_list_cmp_total.trans k l m (lt _ low) (lt _ h))
-
-is_before-if : (b : Bool) (k l : List ℕ) (d : Data) (ms : Members) → is_lt (slice_cmp nat_cmp k l) ≡ true → is_before k ms ≡ true → is_before k (cond b ms (member l d ms)) ≡ true
-is_before-if true k l d ms new old = old
-is_before-if false k l d ms new old = new
-
-is_before-without : (k : List ℕ) (ms : Members) → is_before k ms ≡ true → members_ordered ms ≡ true → is_before k (without_specials ms) ≡ true
-is_before-without k no_members low h = refl
-is_before-without k (member l d ms) low h =
-    is_before-if (is_special l) k l d (without_specials ms) low (is_before-without k ms (is_before-trans k l ms low (first_of l d ms h)) (rest_of l d ms h))
-
-ordered_if : (b : Bool) (k : List ℕ) (d : Data) (ms : Members) → members_ordered ms ≡ true → members_ordered (member k d ms) ≡ true → members_ordered (cond b ms (member k d ms)) ≡ true
-ordered_if true k d ms rest all = rest
-ordered_if false k d ms rest all = all
-
-pub without_specials-ordered : (ms : Members) → members_ordered ms ≡ true → members_ordered (without_specials ms) ≡ true
-without_specials-ordered no_members h = refl
-without_specials-ordered (member k d ms) h =
-    let later = without_specials-ordered ms (rest_of k d ms h) in
-    ordered_if (is_special k) k d (without_specials ms) later
-      (ordered_from k d (without_specials ms) (is_before-without k ms (first_of k d ms h) (rest_of k d ms h)) (value_of k d ms h) later)

@@ -1,13 +1,18 @@
-//! The JSON of the database: values whose numbers are whole numbers of `i64`, and document bodies.
+//! The JSON of the database: values whose numbers are whole numbers of `i64`, objects taken apart
+//! member by member, and the bodies of documents.
 #![tactic(auto)]
 
 mod body;
 mod fault;
-mod value;
 mod measure;
+mod members;
+mod object;
+mod same;
 #[cfg(test)]
 mod tests;
+mod value;
 
 pub use body::Body;
 pub use fault::JsonFault;
+pub use object::{Member, Object};
 pub use value::{Json, read};

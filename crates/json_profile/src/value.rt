@@ -1,16 +1,19 @@
 //! A JSON value of the profile.
-ghost use Rattle.std.specs.Prelude.{◌≡◌, ◌≤◌, ◌<◌, ◌≢◌, ◌↔◌, option_map, true, false, Some, None, IfOk, string_bytes};
-ghost use Rattle.serde_json.specs.Data.{Data, Members, object, depth as nesting};
-ghost use Rattle.serde_json.specs.Find.{as_object};
+ghost use Rattle.std.specs.Prelude.{◌≡◌, ◌≤◌, ◌<◌, ◌≢◌, ◌↔◌, option_map, option_and_then, true, false, Some, None, IfOk, string_bytes};
+ghost use Rattle.serde_json.specs.Data.{Data, Members, array, object, depth as nesting};
+ghost use Rattle.serde_json.specs.Find.{as_object, as_array, as_str as str_of, as_bool as bool_of, as_number, as_i64 as i64_of};
 ghost use Rattle.serde_json.specs.Read.{read as read_text};
-ghost use Rattle.serde_json.specs.View.{view};
+ghost use Rattle.serde_json.specs.View.{view, items_of, items_view};
 ghost use Rattle.serde_json.specs.Written.{compact_text};
 ghost use Rattle.model.specs.Profile.{IsTextOf, is_whole as every_number_whole, is_ordered, without_specials, max_nesting, max_body_nesting};
+ghost use Rattle.json_profile.specs.Profiled.{IsProfiled};
 ghost use Rattle.json_profile.specs.declared.fault.JsonFault.TheVariants.{Malformed, Number, Depth, NotAnObject};
 
 use crate::body::Body;
 use crate::fault::JsonFault;
 use crate::measure::{is_whole, nests_within};
+use crate::members::copy_plain;
+use crate::object::Object;
 use serde_json::{Category, Value};
 use std::alloc::{AllocError, Global};
 use std::marker::Model;
@@ -22,11 +25,10 @@ pub struct Json {
 }
 
 impl Model for Json {
-    ghost use Rattle.std.specs.Prelude.{◌≡◌, ◌≤◌, true};
-    ghost use Rattle.serde_json.specs.Data.{Data, depth};
+    ghost use Rattle.serde_json.specs.Data.{Data};
     ghost use Rattle.serde_json.specs.View.{view as data_of};
     ghost use Rattle.model.specs.JsonCode.{coded_data};
-    ghost use Rattle.model.specs.Profile.{is_whole, is_ordered, max_nesting};
+    ghost use Rattle.json_profile.specs.Profiled.{IsProfiled};
 
     ghost Value = { Data };
 
@@ -34,10 +36,11 @@ impl Model for Json {
 
     ghost view = { λ j. data_of j.value };
 
-    ghost invariant = { λ j. (is_whole (data_of j.value) ≡ true) × (is_ordered (data_of j.value) ≡ true) × (depth (data_of j.value) ≤ max_nesting) };
+    ghost invariant = { λ j. IsProfiled (data_of j.value) };
 }
 
-/// Reads a JSON text.
+/// Reads a JSON text that nests at most `deepest` deep. A text that is not JSON is `Malformed`, then
+/// a number that is not whole `Number`, then one level too many `Depth`.
 #[tactic(auto, using(crate::proofs::Order::read_in_order))]
 pub fn read(alloc: Global, bytes: &[u8], deepest: u8) -> Result<Json, JsonFault>
     requires { deepest ≤ max_nesting }
@@ -68,17 +71,64 @@ pub fn read(alloc: Global, bytes: &[u8], deepest: u8) -> Result<Json, JsonFault>
 }
 
 impl Json {
+    pub(crate) fn of_value(value: Value) -> Json
+        requires { IsProfiled (view value) }
+        ensures { result ≡ view value }
+    {
+        Json { value }
+    }
+
     /// The value, for a look inside.
     pub fn value(&self) -> &Value
         ensures value { view result.now ≡ self.now }
-        ensures whole { every_number_whole self.now ≡ true }
-        ensures ordered { is_ordered self.now ≡ true }
-        ensures nesting { nesting self.now ≤ max_nesting }
+        ensures profiled { IsProfiled self.now }
     {
         &self.value
     }
 
-    /// The document body that this object is without its special members.
+    /// The text, of a string.
+    pub fn as_str(&self) -> Option<&str>
+        ensures { option_map (λ text. text.now) result ≡ str_of self.now }
+    {
+        self.value.as_str()
+    }
+
+    pub fn as_bool(&self) -> Option<bool>
+        ensures { result ≡ bool_of self.now }
+    {
+        self.value.as_bool()
+    }
+
+    /// The number, which is always there of a number.
+    pub fn as_i64(&self) -> Option<i64>
+        ensures { result ≡ option_and_then i64_of (as_number self.now) }
+    {
+        self.value.as_i64()
+    }
+
+    /// The members, of an object.
+    pub fn into_object(self) -> Option<Object>
+        ensures { result ≡ as_object self }
+    {
+        let Json { value } = self;
+        match value {
+            Value::Object(members) => Some(Object::of_members(members)),
+            _ => None,
+        }
+    }
+
+    /// The items in order, of an array.
+    pub fn into_list(self, alloc: Global) -> Result<Option<Vec<Json>>, AllocError>
+        ensures { IfOk result (λ list. option_map (λ items. items_of items.items) list ≡ as_array self) }
+    {
+        let Json { value } = self;
+        match value {
+            Value::Array(items) => Ok(Some(profiled_items(alloc, items)?)),
+            _ => Ok(None),
+        }
+    }
+
+    /// A copy of the members without those whose names begin with `_`, as a body.
     pub fn object_without_specials(&self, alloc: Global) -> Result<Body, JsonFault>
         ensures body { IfOk result (λ body. option_map without_specials (as_object self.now) ≡ Some body) }
         ensures nests { IfOk result (λ body. nesting (object body) ≤ max_body_nesting) }
@@ -90,7 +140,8 @@ impl Json {
         let Some(members) = self.value.as_object() else {
             return Err(JsonFault::NotAnObject);
         };
-        Body::of_members(alloc, members)
+        let kept = copy_plain(alloc, members)?;
+        Body::of_plain(kept)
     }
 
     /// The compact text.
@@ -99,4 +150,15 @@ impl Json {
     {
         self.value.to_string(alloc)
     }
+}
+
+fn profiled_items(alloc: Global, items: Vec<Value>) -> Result<Vec<Json>, AllocError>
+    requires { IsProfiled (array (items_view items.items)) }
+    ensures { IfOk result (λ list. items_of list.items ≡ items_view items.items) }
+{
+    let mut list = Vec::with_capacity(alloc, items.len())?;
+    for value in items {
+        list.push(Json::of_value(value))?;
+    }
+    Ok(list)
 }
