@@ -54,89 +54,92 @@ fn first_answer(version: &Version, place: u64) -> Option<Result<RevId, RefusalKi
     }
 }
 
-#[test]
-fn a_second_edit_names_no_revision(rt: HostRuntime) -> Result<(), Fail> {
-    let alloc = rt.alloc();
-    let id = DocId::new(alloc, "a")?;
-    let none = Version::empty(alloc);
-    let first = after(&rt, &none, 0, &edit_of_a(alloc, None)?)?;
-    let rev = first_answer(&first, 1)
-        .ok_or("no answer")?
-        .ok()
-        .ok_or("refused")?;
-    assert!(&rt; rev.text(alloc)?.as_str() == "1-b7a5841aeb59f1be5d0e27b640827094");
-    assert_eq!(&rt; first.update_seq(), 1);
-    assert_eq!(&rt; first.place(), 1);
-    assert_eq!(&rt; first.next_call(0), 2);
-    assert_eq!(&rt; first.next_call(1), 1);
-    assert_eq!(&rt; first.record(&id).ok_or("no document")?.seq(), 1);
+/// The answer that a text of a revision is.
+fn revision(text: &str) -> Option<Result<RevId, RefusalKind>> {
+    RevId::parse(text).ok().map(Ok)
+}
 
-    let second = after(&rt, &first, 0, &edit_of_a(alloc, None)?)?;
+#[test]
+fn an_edit_is_the_first_entry(rt: HostRuntime) -> Result<(), Fail> {
+    let command = edit_of_a(rt.alloc(), None)?;
+    let version = after(&rt, &Version::empty(rt.alloc()), 0, &command)?;
+    assert!(&rt; first_answer(&version, 1) == revision("1-b7a5841aeb59f1be5d0e27b640827094"));
+    assert_eq!(&rt; version.update_seq(), 1);
+    assert_eq!(&rt; version.place(), 1);
+    assert_eq!(&rt; version.next_call(0), 2);
+    Ok(())
+}
+
+#[test]
+fn a_second_edit_names_the_revision(rt: HostRuntime) -> Result<(), Fail> {
+    let command = edit_of_a(rt.alloc(), None)?;
+    let first = after(&rt, &Version::empty(rt.alloc()), 0, &command)?;
+    let second = after(&rt, &first, 0, &command)?;
     assert!(&rt; first_answer(&second, 2) == Some(Err(RefusalKind::Conflict)));
     assert_eq!(&rt; second.update_seq(), 1);
-    assert_eq!(&rt; second.place(), 2);
-    assert_eq!(&rt; second.next_call(0), 3);
+    assert_eq!(&rt; second.share()?.place(), 2);
 
-    // The older versions are as they were.
-    assert_eq!(&rt; none.share()?.place(), 0);
-    assert!(&rt; none.record(&id).is_none());
-    assert!(&rt; first.entry(2).is_none());
+    // The older version is as it was.
+    assert_eq!(&rt; first.place(), 1);
     Ok(())
 }
 
 #[test]
 fn a_merge_that_changes_nothing_takes_no_number(rt: HostRuntime) -> Result<(), Fail> {
-    let alloc = rt.alloc();
-    let merge = merge_into_a(alloc, "1-b7a5841aeb59f1be5d0e27b640827094", false)?;
-    let first = after(&rt, &Version::empty(alloc), 3, &merge)?;
-    assert_eq!(&rt; first.update_seq(), 1);
-    assert_eq!(&rt; first.counts().doc_count, 1);
+    let merge = merge_into_a(rt.alloc(), "1-b7a5841aeb59f1be5d0e27b640827094", false)?;
+    let first = after(&rt, &Version::empty(rt.alloc()), 3, &merge)?;
     let second = after(&rt, &first, 3, &merge)?;
-    assert_eq!(&rt; second.update_seq(), 1);
     assert_eq!(&rt; second.place(), 2);
+    assert_eq!(&rt; second.update_seq(), 1);
+    assert_eq!(&rt; second.counts().doc_count, 1);
     assert_eq!(&rt; second.records().count(), 1);
-
-    // A greater revision, deleted, is no winner beside one that is not.
-    let deletion = merge_into_a(alloc, "1-c7a5841aeb59f1be5d0e27b640827094", true)?;
-    let third = after(&rt, &second, 3, &deletion)?;
-    assert_eq!(&rt; third.update_seq(), 2);
-    assert_eq!(&rt; third.counts().doc_count, 1);
-    assert_eq!(&rt; third.counts().doc_del_count, 0);
-    assert_eq!(&rt; third.changed_since(1).count(), 1);
-    assert_eq!(&rt; third.count_changed_since(0), 1);
-    assert_eq!(&rt; third.count_changed_since(2), 0);
     Ok(())
 }
 
 #[test]
-fn a_limit_of_1_keeps_the_leaf(rt: HostRuntime) -> Result<(), Fail> {
-    let alloc = rt.alloc();
-    let limit = Command::set_limit(1).ok_or("no limit")?;
-    let mut version = after(&rt, &Version::empty(alloc), 0, &limit)?;
-    assert_eq!(&rt; version.revs_limit(), 1);
+fn a_deletion_beside_a_live_leaf_is_a_change(rt: HostRuntime) -> Result<(), Fail> {
+    let merge = merge_into_a(rt.alloc(), "1-b7a5841aeb59f1be5d0e27b640827094", false)?;
+    let first = after(&rt, &Version::empty(rt.alloc()), 3, &merge)?;
+    let deletion = merge_into_a(rt.alloc(), "1-c7a5841aeb59f1be5d0e27b640827094", true)?;
+    let second = after(&rt, &first, 3, &deletion)?;
+    assert_eq!(&rt; second.counts().doc_del_count, 0);
+    assert_eq!(&rt; second.changed_since(1).count(), 1);
+    assert_eq!(&rt; second.count_changed_since(0), 1);
+    Ok(())
+}
+
+/// The version after an edit over each revision that the one before made.
+fn edited_thrice(rt: &impl Abort, alloc: Global, start: Version) -> Result<Version, Fail> {
+    let mut version = start;
     let mut named = None;
     for place in 2..5 {
-        version = after(&rt, &version, 0, &edit_of_a(alloc, named)?)?;
-        named = first_answer(&version, place).ok_or("no answer")?.ok();
+        version = after(rt, &version, 0, &edit_of_a(alloc, named)?)?;
+        named = first_answer(&version, place).and_then(Result::ok);
     }
-    let record = version
-        .record(&DocId::new(alloc, "a")?)
-        .ok_or("no document")?;
+    Ok(version)
+}
+
+#[test]
+fn a_limit_of_1_keeps_the_leaf(rt: HostRuntime) -> Result<(), Fail> {
+    let limit = Command::set_limit(1).ok_or("no limit")?;
+    let limited = after(&rt, &Version::empty(rt.alloc()), 0, &limit)?;
+    assert_eq!(&rt; limited.revs_limit(), 1);
+    let version = edited_thrice(&rt, rt.alloc(), limited)?;
+    let id = DocId::new(rt.alloc(), "a")?;
+    let record = version.record(&id).ok_or("no document")?;
     assert_eq!(&rt; record.tree().nodes().len(), 1);
-    assert_eq!(&rt; record.tree().winner().rev.generation(), 3);
     assert_eq!(&rt; record.seq(), 3);
     assert!(&rt; record.is_live());
     Ok(())
 }
 
 #[test]
-fn local_documents_take_no_update_number(rt: HostRuntime) -> Result<(), Fail> {
-    let alloc = rt.alloc();
-    let id = DocId::new(alloc, "checkpoint")?;
-    let body = Arc::new(alloc, Body::empty(alloc))?;
+fn a_local_document_takes_no_update_number(rt: HostRuntime) -> Result<(), Fail> {
+    let id = DocId::new(rt.alloc(), "checkpoint")?;
+    let body = Arc::new(rt.alloc(), Body::empty(rt.alloc()))?;
     let put = Command::put_local(id.share()?, None, Some(body)).ok_or("no counter")?;
-    let version = after(&rt, &Version::empty(alloc), 0, &put)?;
-    assert_eq!(&rt; version.local(&id).ok_or("no document")?.counter, 1);
+    let version = after(&rt, &Version::empty(rt.alloc()), 0, &put)?;
+    assert_eq!(&rt; version.local(&id).map_or(0, |local| local.counter), 1);
     assert_eq!(&rt; version.update_seq(), 0);
     Ok(())
 }
