@@ -1,5 +1,5 @@
 -- What is lacking of documents that are not known, and of several documents.
-use Rattle.std.specs.Prelude.{◌≡◌, Bool, true, List, [], ◌∷◌, ◌++◌, filter, nat_lt, Option, Some, None, refl}
+use Rattle.std.specs.Prelude.{◌≡◌, true, List, [], ◌∷◌, ◌++◌, filter, nat_lt, Option, Some, None, refl}
 use Rattle.std.proofs.Common.{sym, ap, ◌∙◌}
 use Rattle.model.specs.Lists.{each_once}
 use Rattle.model.specs.Map.{empty, kept, refine_list}
@@ -8,7 +8,7 @@ use Rattle.model.specs.Tree.{leaves, revs_of}
 use Rattle.model.specs.Command.{Id, names}
 use Rattle.model.specs.Query.{Difference}
 use Rattle.model.specs.Documents.{difference_of, in_order, largest_generation, missing_from}
-use Rattle.changes_feed.specs.Lacking.{ancestors_of, one_lacking, with_ancestors}
+use Rattle.changes_feed.specs.Lacking.{one_lacking, with_ancestors}
 
 passing_all : (xs : List Rev) → filter (λ r. true) xs ≡ xs
 passing_all [] = refl

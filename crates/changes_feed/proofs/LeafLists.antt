@@ -1,7 +1,7 @@
 -- Lists of leaves, chosen by their revisions.
 use Rattle.std.specs.Prelude.{◌≡◌, ℕ, Bool, true, false, cond, List, [], ◌∷◌, drop, filter, map, All, Contains, refl}
 use Rattle.std.specs.List.{drop-map}
-use Rattle.std.proofs.Common.{sym, ap, ◌∙◌}
+use Rattle.std.proofs.Common.{ap, ◌∙◌}
 use Rattle.std.proofs.lemmas.List.Elements.{All-head, All-tail, All-weaker, All-drop, All-contains_itself}
 use Rattle.model.specs.Revision.{Rev}
 use Rattle.model.specs.Tree.{Tree, Leaf, leaves, revs_of, among, path_of, is_deleted}

@@ -1,9 +1,8 @@
 -- The members of a list in rising order.
-use Rattle.std.specs.Prelude.{◌≡◌, ◌↔◌, ◌<◌, true, List, [], ◌∷◌, map, filter, nat_lt, All, AllPairs, Contains, refl}
+use Rattle.std.specs.Prelude.{◌≡◌, ◌↔◌, List, [], ◌∷◌, map, All, Contains, refl}
 use Rattle.std.specs.List.{AllByRecursion}
 use Rattle.std.specs.List.Sorted.{IsStrictlySortedBy}
-use Rattle.std.specs.BTreeSet.{BTreeSet, contains, IsFromIterResult}
-use Rattle.std.specs.declared.cmp.Ordering.{Ordering}
+use Rattle.std.specs.BTreeSet.{BTreeSet, IsFromIterResult}
 use Rattle.std.specs.declared.cmp.Ordering.TheVariants.{Less}
 use Rattle.std.proofs.Common.{sym, ap, subst, ◌∙◌, arith}
 use Rattle.std.proofs.lemmas.List.Elements.{All-nil, All-cons}
@@ -11,7 +10,6 @@ use Rattle.std.proofs.lemmas.List.Kept.{AllPairs-cons}
 use Rattle.std.proofs.lemmas.Map.Views.{btree_set_contains_iff}
 use Rattle.model.specs.Map.{IsRising, from_list}
 use Rattle.model.specs.Revision.{Rev, revs, rev_cmp, rev_total, rev_exact}
-use Rattle.model.specs.Tree.{among}
 use Rattle.model.specs.Documents.{in_order}
 use Rattle.model.proofs.MapLaws.{Contains-keys-from_list, IsRising-keys, same_rising}
 use Rattle.model.proofs.AncestorLaws.{Contains-among}

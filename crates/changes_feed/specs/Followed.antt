@@ -1,9 +1,9 @@
 -- Pages of the changes feed, and what a follower makes of them.
-use Rattle.std.specs.Prelude.{◌≤◌, ℕ, max, List, take, Option, Some, None}
+use Rattle.std.specs.Prelude.{◌≤◌, ℕ, max, List, Option, Some, None}
 use Rattle.model.specs.Map.{Map}
 use Rattle.model.specs.Command.{names, Entry}
 use Rattle.model.specs.Query.{Style, Row}
-use Rattle.model.specs.Database.{Database, IsNumbered, empty_database}
+use Rattle.model.specs.Database.{IsNumbered, empty_database}
 use Rattle.model.specs.History.{Chronicle, Follows, now}
 use Rattle.model.specs.Changes.{every_id, fed, IsRightFeed}
 

@@ -1,5 +1,4 @@
 -- A tree of no revisions lacks all, and has no leaf.
-use Rattle.std.specs.Prelude.{[]}
 use Rattle.std.proofs.Common.{sym, ap, ◌∙◌}
 use Rattle.model.specs.Map.{empty}
 use Rattle.model.specs.Documents.{difference_of}

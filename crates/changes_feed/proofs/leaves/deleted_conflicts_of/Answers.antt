@@ -1,5 +1,5 @@
 -- The flag of a leaf is that of its revision.
-use Rattle.std.specs.Prelude.{IfOk, drop, filter, not, ◌≡◌}
+use Rattle.std.specs.Prelude.{IfOk, drop, filter, ◌≡◌}
 use Rattle.std.proofs.Common.{ap, subst, ◌∙◌}
 use Rattle.model.specs.Tree.{is_deleted}
 use Rattle.changes_feed.proofs.LeafLists.{losers_by}

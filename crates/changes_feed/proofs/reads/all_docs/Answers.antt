@@ -1,5 +1,5 @@
 -- A live document goes last, and another one is passed over.
-use Rattle.std.specs.Prelude.{◌∷◌, ◌++◌, [], ◌≡◌, Some, None}
+use Rattle.std.specs.Prelude.{◌∷◌, ◌++◌, []}
 use Rattle.std.specs.Map.Iter.{deref_pair}
 use Rattle.std.proofs.Common.{sym, ap, ◌∙◌}
 use Rattle.model.specs.Answers.{live_document}
