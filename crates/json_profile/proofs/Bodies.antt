@@ -1,5 +1,5 @@
 -- A body of plain members.
-use Rattle.std.proofs.Common.{◌≡◌, ◌≤◌, BTreeMap, String, Global, refl, sym, ap, ◌∙◌, subst, arith}
+use Rattle.std.proofs.Common.{◌≡◌, ◌≤◌, BTreeMap, String, Global, refl, sym, subst, arith}
 use Rattle.serde_json.specs.Data.{Data, object, members_depth}
 use Rattle.serde_json.specs.View.{view, members_view}
 use Rattle.serde_json.specs.declared.value.Value.{Value, Object}

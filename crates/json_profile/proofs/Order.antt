@@ -1,20 +1,19 @@
 -- What is read stands in order, and stays so without the special members.
-use Rattle.std.proofs.Common.{◌≡◌, ℕ, List, [], ◌∷◌, Bool, true, false, ◌&&◌, cond, Option, Some, None, option_map, option_and_then, Ordering, Less, Equal, Greater, nat_cmp, true≢false, refl, sym, ap, ◌∙◌, subst}
+use Rattle.std.proofs.Common.{◌≡◌, ℕ, List, Bool, true, ◌&&◌, Option, Some, None, option_map, option_and_then, Ordering, Less, Equal, Greater, nat_cmp, true≢false, refl, sym, ap, ◌∙◌, subst}
 use Rattle.std.specs.Prelude.{⊤}
 use Rattle.std.proofs.lemmas.Bool.{and_parts, and_from}
 use Rattle.std.proofs.lemmas.Cmp.{nat_list_cmp_total}
 use Rattle.std.specs.Ordering.{is_lt, match_ordering, ordering_reverse}
 use Rattle.std.specs.Cmp.Lexicographic.{slice_cmp}
-use Rattle.json.specs.Token.{Token}
 use Rattle.json.specs.Lex.{tokens}
 use Rattle.json.specs.Json as json
-use Rattle.serde_json.specs.Data.{Data, Items, no_items, item, number, object, array, Members, no_members, member, put}
+use Rattle.serde_json.specs.Data.{Data, item, number, object, array, Members, no_members, member, put}
 use Rattle.serde_json.specs.Read.{read, of_json, of_items, of_members, number_of, max_depth}
-use Rattle.model.specs.Profile.{is_special, without_specials, is_before, is_ordered, items_ordered, members_ordered}
+use Rattle.model.specs.Profile.{is_before, is_ordered, items_ordered, members_ordered}
 
 -- ---- a member that is put into its place
 
-pub lt : (o : Ordering) → is_lt o ≡ true → o ≡ Less
+lt : (o : Ordering) → is_lt o ≡ true → o ≡ Less
 lt Less h = refl
 lt Equal h = absurd (true≢false (sym h))
 lt Greater h = absurd (true≢false (sym h))
@@ -53,6 +52,10 @@ members_ordered-put_at Greater k l d e ms is new old later =
 pub members_ordered-put : (k : List ℕ) (d : Data) (ms : Members) → is_ordered d ≡ true → members_ordered ms ≡ true → members_ordered (put k d ms) ≡ true
 members_ordered-put k d no_members new old = ordered_from k d no_members refl new refl
 members_ordered-put k d (member l e ms) new old = members_ordered-put_at _ k l d e ms refl new old (members_ordered-put k d ms new (rest_of l e ms old))
+
+pub is_before-trans : (k l : List ℕ) (ms : Members) → is_lt (slice_cmp nat_cmp k l) ≡ true → is_before l ms ≡ true → is_before k ms ≡ true
+is_before-trans k l no_members low h = refl
+is_before-trans k l (member m e ms) low h = ap is_lt (nat_list_cmp_total.trans k l m (lt _ low) (lt _ h))
 
 -- ---- a text is read in order
 

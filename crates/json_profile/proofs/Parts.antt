@@ -1,9 +1,9 @@
 -- What is known of a value is known of its parts.
-use Rattle.std.proofs.Common.{◌≡◌, ◌≤◌, ℕ, List, Bool, true, ◌&&◌, Some, unwrap_or, sym, ap, subst, arith}
+use Rattle.std.proofs.Common.{◌≡◌, ◌≤◌, ℕ, List, Some, unwrap_or, sym, ap, subst, arith}
 use Rattle.std.proofs.lemmas.Bool.{and_parts}
-use Rattle.serde_json.specs.Data.{Data, null, boolean, number, string, array, object, Items, item, Members, member, depth, items_depth, members_depth}
+use Rattle.serde_json.specs.Data.{Data, null, boolean, number, string, array, object, Items, item, Members, member, depth}
 use Rattle.serde_json.specs.Find.{as_object}
-use Rattle.model.specs.Profile.{max_nesting, is_whole, items_whole, members_whole, is_ordered, items_ordered, members_ordered}
+use Rattle.model.specs.Profile.{max_nesting, is_whole, items_whole, members_whole, is_ordered, items_ordered}
 use Rattle.json_profile.specs.Profiled.{IsProfiled}
 use Rattle.json_profile.proofs.Order.{value_of, rest_of}
 

@@ -1,6 +1,5 @@
 -- Values of whole numbers are compared rightly.
-use Rattle.std.proofs.Common.{◌≡◌, ◌↔◌, ℕ, ℤ, List, Bool, true, false, ◌&&◌, nat_eq, Option, Some, None, is_some, true≢false, refl, sym, ap, ◌∙◌, subst}
-use Rattle.std.specs.Bool.{beq}
+use Rattle.std.proofs.Common.{◌≡◌, ◌↔◌, ℤ, Bool, true, ◌&&◌, nat_eq, Option, Some, None, is_some, true≢false, refl, sym, ap, ◌∙◌, subst}
 use Rattle.std.specs.Option.{option_eq}
 use Rattle.std.specs.Ordering.{int_eq}
 use Rattle.std.specs.Cmp.Lexicographic.{pointwise}

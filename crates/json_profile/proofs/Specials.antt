@@ -1,5 +1,5 @@
 -- The members without the special ones.
-use Rattle.std.proofs.Common.{◌≡◌, ℕ, List, [], ◌∷◌, ◌++◌, Bool, true, false, not, ◌&&◌, ◌||◌, cond, true≢false, Ordering, Less, Greater, string_bytes, string_cmp, nat_cmp, refl, ap, ◌∙◌}
+use Rattle.std.proofs.Common.{◌≡◌, ℕ, List, [], ◌∷◌, ◌++◌, Bool, true, false, not, ◌&&◌, ◌||◌, cond, true≢false, Less, Greater, string_bytes, string_cmp, nat_cmp, refl, ap, ◌∙◌}
 use Rattle.std.proofs.lemmas.Bool.{and_parts}
 use Rattle.std.proofs.lemmas.Cmp.{nat_list_cmp_total}
 use Rattle.std.specs.Cmp.Lexicographic.{slice_cmp}
@@ -13,7 +13,7 @@ use Rattle.serde_json.proofs.Views.{Entry}
 use Rattle.model.specs.Profile.{is_special, without_specials, is_whole, members_whole, is_before, members_ordered}
 use Rattle.json_profile.specs.Objects.{has_special}
 use Rattle.json_profile.specs.Profiled.{IsProfiled, ArePlain}
-use Rattle.json_profile.proofs.Order.{lt, first_of, value_of, rest_of, ordered_from}
+use Rattle.json_profile.proofs.Order.{is_before-trans, first_of, value_of, rest_of, ordered_from}
 
 -- ---- the walk over an object's members
 
@@ -65,10 +65,6 @@ pub without_specials-twice : (ms : Members) → without_specials (without_specia
 without_specials-twice no_members = refl
 without_specials-twice (member k d ms) = plain_if (is_special k) k d _ refl (without_specials-twice ms)
 
-is_before-trans : (k l : List ℕ) (ms : Members) → is_lt (slice_cmp nat_cmp k l) ≡ true → is_before l ms ≡ true → is_before k ms ≡ true
-is_before-trans k l no_members low h = refl
-is_before-trans k l (member m e ms) low h = ap is_lt (nat_list_cmp_total.trans k l m (lt _ low) (lt _ h))
-
 is_before-if : (b : Bool) (k l : List ℕ) (d : Data) (ms : Members) → is_lt (slice_cmp nat_cmp k l) ≡ true → is_before k ms ≡ true → is_before k (cond b ms (member l d ms)) ≡ true
 is_before-if true k l d ms new old = old
 is_before-if false k l d ms new old = new
@@ -87,7 +83,7 @@ without_specials-ordered no_members h = refl
 without_specials-ordered (member k d ms) h =
     let later = without_specials-ordered ms (rest_of k d ms h) in
     ordered_if (is_special k) k d (without_specials ms) later
-      (ordered_from k d (without_specials ms) (is_before-without k ms (first_of k d ms h) (rest_of k d ms h)) (value_of k d ms h) later)
+    (ordered_from k d (without_specials ms) (is_before-without k ms (first_of k d ms h) (rest_of k d ms h)) (value_of k d ms h) later)
 
 pub plain_rest : (ms : Members) → IsProfiled (object ms) → ArePlain (without_specials ms)
 plain_rest ms h = record { whole = without_specials-whole ms h.whole; ordered = without_specials-ordered ms h.ordered; plain = without_specials-twice ms }

@@ -1,7 +1,6 @@
 -- A member that is taken out of an object.
-use Rattle.std.proofs.Common.{◌≡◌, ◌≤◌, ℕ, suc, List, [], ◌∷◌, Bool, true, false, ◌&&◌, cond, max, Option, Some, None, unwrap_or, Ordering, Less, Equal, Greater, String, Global, true≢false, string_bytes, nat_cmp, refl, sym, ap, ◌∙◌, subst, arith}
+use Rattle.std.proofs.Common.{◌≡◌, ◌≤◌, ℕ, List, [], ◌∷◌, Bool, true, false, cond, Option, Some, unwrap_or, Ordering, Less, Equal, Greater, true≢false, string_bytes, nat_cmp, refl, sym, ap, ◌∙◌, subst, arith}
 use Rattle.std.proofs.lemmas.Bool.{and_parts, and_from}
-use Rattle.std.proofs.lemmas.Cmp.{nat_list_cmp_total}
 use Rattle.std.proofs.lemmas.Map.Text.{is_eq-slice_cmp}
 use Rattle.std.proofs.lemmas.Slice.Eq.{bytes_eq-Decides}
 use Rattle.std.specs.Cmp.Lexicographic.{slice_cmp}
@@ -12,10 +11,10 @@ use Rattle.serde_json.specs.Data.{Data, object, Members, no_members, member, dep
 use Rattle.serde_json.specs.Find.{get_member}
 use Rattle.serde_json.specs.View.{view, members_view}
 use Rattle.serde_json.proofs.Views.{Entry}
-use Rattle.model.specs.Profile.{is_special, without_specials, max_nesting, is_whole, members_whole, is_before, is_ordered, members_ordered}
+use Rattle.model.specs.Profile.{is_special, without_specials, max_nesting, is_whole, members_whole, is_before, members_ordered}
 use Rattle.json_profile.specs.Objects.{without}
 use Rattle.json_profile.specs.Profiled.{IsProfiled}
-use Rattle.json_profile.proofs.Order.{lt, first_of, value_of, rest_of, ordered_from}
+use Rattle.json_profile.proofs.Order.{is_before-trans, first_of, value_of, rest_of, ordered_from}
 use Rattle.json_profile.proofs.Parts.{first_member, later_members}
 
 -- ---- the one that goes out
@@ -35,13 +34,9 @@ before_if : (b : Bool) (k l : List ℕ) (d : Data) (ms rest : Members) → is_lt
 before_if true k l d ms rest low later = later
 before_if false k l d ms rest low later = low
 
-above : (k l : List ℕ) (ms : Members) → is_lt (slice_cmp nat_cmp k l) ≡ true → is_before l ms ≡ true → is_before k ms ≡ true
-above k l no_members low h = refl
-above k l (member m e ms) low h = ap is_lt (nat_list_cmp_total.trans k l m (lt _ low) (lt _ h))
-
 is_before-without : (name k : List ℕ) (ms : Members) → is_before k ms ≡ true → members_ordered ms ≡ true → is_before k (without name ms) ≡ true
 is_before-without name k no_members low h = refl
-is_before-without name k (member l d ms) low h = before_if (is_eq (slice_cmp nat_cmp name l)) k l d ms (without name ms) low (above k l ms low (first_of l d ms h))
+is_before-without name k (member l d ms) low h = before_if (is_eq (slice_cmp nat_cmp name l)) k l d ms (without name ms) low (is_before-trans k l ms low (first_of l d ms h))
 
 either : (P : Members → Type 0) (b : Bool) (ms ns : Members) → P ms → P ns → P (cond b ms ns)
 either P true ms ns p q = p
@@ -51,14 +46,14 @@ without-ordered : (name : List ℕ) (ms : Members) → members_ordered ms ≡ tr
 without-ordered name no_members h = refl
 without-ordered name (member k d ms) h =
     either (λ ns. members_ordered ns ≡ true) (is_eq (slice_cmp nat_cmp name k)) ms (member k d (without name ms)) (rest_of k d ms h)
-      (ordered_from k d (without name ms) (is_before-without name k ms (first_of k d ms h) (rest_of k d ms h)) (value_of k d ms h) (without-ordered name ms (rest_of k d ms h)))
+    (ordered_from k d (without name ms) (is_before-without name k ms (first_of k d ms h) (rest_of k d ms h)) (value_of k d ms h) (without-ordered name ms (rest_of k d ms h)))
 
 without-whole : (name : List ℕ) (ms : Members) → members_whole ms ≡ true → members_whole (without name ms) ≡ true
 without-whole name no_members h = refl
 without-whole name (member k d ms) h =
     let parts = and_parts (is_whole d) (members_whole ms) h in
     either (λ ns. members_whole ns ≡ true) (is_eq (slice_cmp nat_cmp name k)) ms (member k d (without name ms)) parts.1
-      (and_from (is_whole d) (members_whole (without name ms)) parts.0 (without-whole name ms parts.1))
+    (and_from (is_whole d) (members_whole (without name ms)) parts.0 (without-whole name ms parts.1))
 
 without-nests : (name : List ℕ) (ms : Members) (n : ℕ) → members_depth ms ≤ n → members_depth (without name ms) ≤ n
 without-nests name no_members n h = h
@@ -99,3 +94,23 @@ without_special_at false s name k d ms rest is special later = ap (λ ns. cond (
 pub without_specials-without : (name : List ℕ) (ms : Members) → is_special name ≡ true → without_specials (without name ms) ≡ without_specials ms
 without_specials-without name no_members h = refl
 without_specials-without name (member k d ms) h = without_special_at _ true name k d ms (without name ms) refl h (without_specials-without name ms h)
+
+differs : (b : Bool) (name k : List ℕ) → is_eq (slice_cmp nat_cmp name k) ≡ b → (name ≡ k → ⊥) → b ≡ false
+differs true name k is other = absurd (other (same_name true name k is refl))
+differs false name k is other = refl
+
+passed_over : (o : Ordering) (found later : Option Data) → is_eq o ≡ false → later ≡ match_ordering o later found later
+passed_over Less found later h = refl
+passed_over Equal found later h = absurd (true≢false h)
+passed_over Greater found later h = refl
+
+other_at : (b : Bool) (other name k : List ℕ) (d : Data) (ms rest : Members) → is_eq (slice_cmp nat_cmp name k) ≡ b → (other ≡ name → ⊥) → get_member other rest ≡ get_member other ms
+    → get_member other (cond b ms (member k d rest)) ≡ get_member other (member k d ms)
+other_at true other name k d ms rest is apart later =
+    passed_over (slice_cmp nat_cmp other k) (Some d) (get_member other ms) (differs _ other k refl (λ e. apart (e ∙ sym (same_name true name k is refl))))
+other_at false other name k d ms rest is apart later = ap (λ r. match_ordering (slice_cmp nat_cmp other k) r (Some d) r) later
+
+-- the others stay
+pub get_member-without_other : (other name : List ℕ) (ms : Members) → (other ≡ name → ⊥) → get_member other (without name ms) ≡ get_member other ms
+get_member-without_other other name no_members apart = refl
+get_member-without_other other name (member k d ms) apart = other_at _ other name k d ms (without name ms) refl apart (get_member-without_other other name ms apart)

@@ -1,5 +1,5 @@
--- Whether two values are equal, as the code compares them; of whole numbers.
-use Rattle.std.specs.Prelude.{ℕ, List, Bool, true, false, ◌&&◌, nat_eq, is_some, Option, Some, None}
+-- Whether two values of whole numbers are equal.
+use Rattle.std.specs.Prelude.{Bool, true, false, ◌&&◌, nat_eq, is_some, Option, Some, None}
 use Rattle.std.specs.Cmp.Lexicographic.{pointwise}
 use Rattle.std.specs.Option.{option_eq}
 use Rattle.std.specs.Ordering.{int_eq}
@@ -11,6 +11,7 @@ abbrev pub is_found : {A : Type 0} → (A → Bool) → Option A → Bool
 is_found test None = false
 is_found test (Some a) = test a
 
+-- two whole numbers; a float is found to be every other
 abbrev pub same_num : Num → Num → Bool
 same_num m n = option_eq nat_eq (as_u64 m) (as_u64 n) && option_eq int_eq (as_i64 m) (as_i64 n)
 

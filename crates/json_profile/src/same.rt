@@ -6,7 +6,7 @@ ghost use Rattle.json_profile.specs.Same.{is_found, same_data, same_num, same_it
 
 use serde_json::{Map, Number, Value};
 
-/// Whether the two are equal. Two floats never are.
+/// Whether two values of whole numbers are equal.
 #[cycle(same)]
 pub(crate) fn is_same(value: &Value, other: &Value) -> bool
     ensures { result ≡ same_data (view value.now) (view other.now) }

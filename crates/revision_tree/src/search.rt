@@ -1,7 +1,7 @@
 //! Look-ups among the nodes, which ascend.
 ghost use Rattle.std.specs.Prelude.{◌≡◌, ◌<◌, true, IsTrue, IfOk, IfSome, length, slice_index_or, is_some, option_map, option_and_then};
 ghost use Rattle.model.specs.Map.{get};
-ghost use Rattle.model.specs.Tree.{knows, ancestors, has_child, parent_of as parent_in};
+ghost use Rattle.model.specs.Tree.{knows, ancestors, has_child, parent_of};
 ghost use Rattle.revision_tree.specs.Nodes.{IsNodes, IsSorted, IsPlaceOf, entry_of, tree_of};
 
 use crate::node::Node;
@@ -9,7 +9,7 @@ use revision_id::RevId;
 use std::alloc::{AllocError, Global};
 
 /// The place of a revision.
-pub(crate) fn place_of(nodes: &[Node], rev: RevId) -> Option<usize>
+pub(crate) fn place_among(nodes: &[Node], rev: RevId) -> Option<usize>
     requires { IsSorted nodes.now }
     ensures known { is_some result ≡ knows (tree_of nodes.now) rev }
     ensures place { IfSome result (λ i. IsPlaceOf nodes.now rev i) }
@@ -22,12 +22,12 @@ pub(crate) fn node_of(nodes: &[Node], rev: RevId) -> Option<&Node>
     ensures found { option_map (λ n. (entry_of n.now).1) result ≡ get (tree_of nodes.now) rev }
     ensures inner { IfSome result (λ n. n.now.inner ≡ has_child (tree_of nodes.now) rev) }
 {
-    Some(&nodes[place_of(nodes, rev)?])
+    Some(&nodes[place_among(nodes, rev)?])
 }
 
-fn parent_of(nodes: &[Node], rev: RevId) -> Option<RevId>
+pub(crate) fn parent_in(nodes: &[Node], rev: RevId) -> Option<RevId>
     requires { IsNodes nodes.now }
-    ensures { result ≡ parent_in (tree_of nodes.now) rev }
+    ensures { result ≡ parent_of (tree_of nodes.now) rev }
 {
     node_of(nodes, rev)?.parent
 }
@@ -42,7 +42,7 @@ pub(crate) fn path_from(alloc: Global, nodes: &[Node], rev: RevId) -> Result<Vec
     let mut next = Some(rev);
     while let Some(rev) = next {
         path.push(rev)?;
-        next = parent_of(nodes, rev);
+        next = parent_in(nodes, rev);
     }
     Ok(path)
 }

@@ -5,7 +5,7 @@ use Rattle.serde_json.specs.Data.{Data, object}
 use Rattle.serde_json.specs.View.{view}
 use Rattle.serde_json.specs.Written.{compact_text}
 use Rattle.json_profile.specs.Objects.{members_in}
-use Rattle.json_profile.proofs.Walks.{has_float-whole}
+use Rattle.json_profile.proofs.Floats.{has_float-whole}
 use Rattle.json_profile.proofs.body.Body.text.Goals as goal
 
 pub returns-clause-text : goal.returns-clause-text

@@ -1,6 +1,6 @@
 use Rattle.std.proofs.lemmas.Result.{IfOk-weaker}
 use Rattle.serde_json.specs.View.{view}
-use Rattle.json_profile.proofs.Walks.{has_float-whole}
+use Rattle.json_profile.proofs.Floats.{has_float-whole}
 use Rattle.json_profile.proofs.value.Json.text.Goals as goal
 
 pub returns : goal.returns

@@ -1,0 +1,10 @@
+pub mod Puts
+pub mod Merged
+pub mod Agreement
+pub mod Parts
+pub mod Grafted
+pub mod Reached
+pub mod Restricted
+pub mod Raised
+pub mod Writes
+pub mod Compared

@@ -1,0 +1,24 @@
+//! Why a path is not grafted.
+use std::alloc::AllocError;
+use thiserror::Error;
+
+#[derive(Debug, Clone, Copy, PartialEq, Eq, Drop, Error)]
+pub enum MergeFault {
+    /// A member of the path has a known parent other than the next member.
+    #[error("the path contradicts a known parent")]
+    Contradiction,
+    /// Memory was refused.
+    #[error("memory was refused")]
+    Memory,
+}
+
+impl From<AllocError> for MergeFault {
+    ghost use Rattle.std.specs.Prelude.{◌≡◌};
+    ghost use Rattle.tree_merge.specs.declared.fault.MergeFault.TheVariants.{Memory};
+
+    ghost from_gives = { λ _ fault. fault ≡ Memory };
+
+    fn from(_refused: AllocError) -> MergeFault {
+        MergeFault::Memory
+    }
+}
