@@ -14,7 +14,9 @@ use crate::documents::Documents;
 use crate::record::Record;
 use crate::stub_merge::is_same;
 use crate::written::{edited, merged};
-use commands::{Command, CommandKind, Counts, Edit, Merge, Refusal, RefusalKind, Reply, ReplyKind, Seat};
+use commands::{
+    Command, CommandKind, Counts, Edit, Merge, Refusal, RefusalKind, Reply, ReplyKind, Seat,
+};
 use cow_index::{CowMap, Range, Shared};
 use document_id::DocId;
 use json_profile::Body;

@@ -61,7 +61,15 @@ pub(crate) fn merged(
     ensures { IfOk result (λ w. w ≡ merged_in limit (option_copied tree.entry) merge.now) }
 {
     let path = merge.path();
-    path_written(alloc, limit, tree, path[0], path, merge.body(), merge.deleted())
+    path_written(
+        alloc,
+        limit,
+        tree,
+        path[0],
+        path,
+        merge.body(),
+        merge.deleted(),
+    )
 }
 
 /// The revision that an edit is over, or why it is refused.
@@ -149,7 +157,15 @@ fn child_placed(
         None => path_written(alloc, limit, tree, rev, &[rev], &edit.body, edit.deleted),
         Some(parent) => {
             let _generation = parent.generation();
-            path_written(alloc, limit, tree, rev, &[rev, parent], &edit.body, edit.deleted)
+            path_written(
+                alloc,
+                limit,
+                tree,
+                rev,
+                &[rev, parent],
+                &edit.body,
+                edit.deleted,
+            )
         }
     }
 }
