@@ -1,0 +1,21 @@
+//! The answers of queries over a version of the database.
+#![tactic(auto)]
+
+mod answered;
+mod difference;
+mod document;
+mod follower;
+mod found;
+mod leaves;
+mod once;
+mod opened;
+mod page;
+mod reads;
+
+pub use answered::answer;
+pub use difference::revs_diff;
+pub use follower::Follower;
+pub use found::get;
+pub use opened::open_revs;
+pub use page::changes;
+pub use reads::{all_docs, info, local_get, revs_limit};
