@@ -4,7 +4,6 @@
 mod content;
 mod documents;
 mod record;
-mod stub_merge;
 #[cfg(test)]
 mod tests;
 mod version;
