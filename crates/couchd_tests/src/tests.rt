@@ -54,15 +54,20 @@ impl Row<'_> {
         Ok(())
     }
 
-    /// Serves the input whole, a byte at a time, and in two pieces.
+    /// Serves the input whole, a byte at a time, and cut within its first request.
     fn assert_pieces<R: Abort>(&self, rt: &R, alloc: Global) -> Result<(), Fail> {
         self.assert_served(rt, alloc, &[])?;
         self.assert_served(rt, alloc, &[Step::AtMost(1)])?;
-        for first in 1..self.input.len() {
-            let script = [Step::AtMost(first), Step::AtMost(self.input.len())];
-            self.assert_served(rt, alloc, &script)?;
+        for first in [18, 39, 42] {
+            self.assert_cut(rt, alloc, first)?;
         }
         Ok(())
+    }
+
+    /// Serves the input in two pieces.
+    fn assert_cut<R: Abort>(&self, rt: &R, alloc: Global, first: usize) -> Result<(), Fail> {
+        let script = [Step::AtMost(first), Step::AtMost(self.input.len())];
+        self.assert_served(rt, alloc, &script)
     }
 }
 
@@ -122,6 +127,23 @@ fn requests_are_answered_however_they_are_cut(rt: HostRuntime) -> Result<(), Fai
 }
 
 #[test]
+fn a_request_is_answered_wherever_it_is_cut(rt: HostRuntime) -> Result<(), Fail> {
+    let row = Row {
+        input: PUT_A,
+        output: CREATED_A,
+        ended: Ended {
+            answered: 1,
+            cause: Cause::AtEnd,
+        },
+        place: 1,
+    };
+    for first in 1..PUT_A.len() {
+        row.assert_cut(&rt, rt.alloc(), first)?;
+    }
+    Ok(())
+}
+
+#[test]
 fn a_request_that_is_cut_does_nothing(rt: HostRuntime) -> Result<(), Fail> {
     for len in 0..PUT_A.len() {
         let cause = if len == 0 {
@@ -136,7 +158,6 @@ fn a_request_that_is_cut_does_nothing(rt: HostRuntime) -> Result<(), Fail> {
             place: 0,
         };
         row.assert_served(&rt, rt.alloc(), &[])?;
-        row.assert_served(&rt, rt.alloc(), &[Step::AtMost(1)])?;
     }
     Ok(())
 }
