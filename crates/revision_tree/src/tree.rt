@@ -63,6 +63,7 @@ impl RevTree {
         place_among(&self.nodes, rev)
     }
 
+    /// Whether it is a revision of the tree.
     pub fn knows(&self, rev: RevId) -> bool
         ensures { result ≡ is_known self.now rev }
     {
@@ -76,12 +77,14 @@ impl RevTree {
         node_of(&self.nodes, rev).is_some_and(|node| !node.inner)
     }
 
+    /// The parent of a revision, where both are known.
     pub fn parent_of(&self, rev: RevId) -> Option<RevId>
         ensures { result ≡ known_parent self.now rev }
     {
         parent_in(&self.nodes, rev)
     }
 
+    /// Whether it is known, and a deletion.
     pub fn is_deleted(&self, rev: RevId) -> bool
         ensures { result ≡ is_known_deleted self.now rev }
     {
@@ -112,6 +115,7 @@ impl RevTree {
         path_from(alloc, &self.nodes, rev)
     }
 
+    /// The body of a revision, where it is kept.
     pub fn body_of(&self, rev: RevId) -> Option<&Arc<Body>>
         ensures { option_map (λ b. arc_value b.now) result ≡ kept_body self.now rev }
     {

@@ -2,6 +2,7 @@
 use std::alloc::AllocError;
 use thiserror::Error;
 
+/// Why no tree was made.
 #[derive(Debug, Clone, Copy, PartialEq, Eq, Drop, Error)]
 pub enum MergeFault {
     /// A member of the path has a known parent other than the next member.

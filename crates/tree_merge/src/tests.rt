@@ -106,7 +106,10 @@ fn longer_paths_link_what_is_known(rt: HostRuntime) -> Result<(), Fail> {
     let third = RevId::from_parts(3, CS)?;
     let tree = with_one(alloc, None, second, false)?;
     let tree = with_three(alloc, Some(&tree), third, second, first)?;
-    assert_eq!(rt; tree.path_of(alloc, third)?.as_slice(), [third, second, first].as_slice());
+    assert_eq!(rt;
+        tree.path_of(alloc, third)?.as_slice(),
+        [third, second, first].as_slice()
+    );
     assert!(rt; tree.body_of(first).is_none() && tree.body_of(second).is_some());
     let stripped = strip(alloc, &tree)?;
     assert!(rt; stripped.body_of(second).is_none() && stripped.body_of(third).is_some());
@@ -122,7 +125,10 @@ fn stems_keep_the_newest(rt: HostRuntime) -> Result<(), Fail> {
     let third = RevId::from_parts(3, AS)?;
     let tree = with_three(alloc, None, third, second, first)?;
     let stemmed = stem(alloc, &tree, 1)?;
-    assert_eq!(rt; stemmed.path_of(alloc, third)?.as_slice(), [third].as_slice());
+    assert_eq!(rt;
+        stemmed.path_of(alloc, third)?.as_slice(),
+        [third].as_slice()
+    );
     assert!(rt; !stemmed.knows(second) && !stemmed.knows(first));
     let _generation = third.generation();
     let body = Arc::new(alloc, Body::empty(alloc))?;
@@ -142,7 +148,9 @@ fn cuts_keep_what_another_leaf_holds(rt: HostRuntime) -> Result<(), Fail> {
     let removed = removed_leaves(alloc, &tree, &[gone, first])?;
     assert_eq!(rt; removed.as_slice(), [gone].as_slice());
     let left = cut_leaves(alloc, &tree, &[gone, first])?;
-    assert!(rt; left.is_some_and(|tree| tree.knows(first) && tree.is_leaf(kept) && !tree.knows(gone)));
+    assert!(rt;
+        left.is_some_and(|tree| tree.knows(first) && tree.is_leaf(kept) && !tree.knows(gone))
+    );
     assert!(rt; cut_leaves(alloc, &tree, &[gone, kept])?.is_none());
     Ok(())
 }
