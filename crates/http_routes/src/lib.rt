@@ -20,6 +20,8 @@ use std::marker::Model;
 pub enum Route {
     /// `/`
     Root,
+    /// `/db/_revs_limit`
+    RevsLimit,
     /// `/db/ID`
     Document,
 }
@@ -29,10 +31,11 @@ pub enum Route {
 pub enum Method {
     Get,
     Put,
+    Delete,
 }
 
 /// The methods of all routes.
-const METHODS: [Method; 2] = [Method::Get, Method::Put];
+const METHODS: [Method; 3] = [Method::Get, Method::Put, Method::Delete];
 
 impl Method {
     /// The method of this name, which is told apart by case.
@@ -52,6 +55,7 @@ impl Method {
         match self {
             Method::Get => "GET",
             Method::Put => "PUT",
+            Method::Delete => "DELETE",
         }
     }
 }
@@ -63,13 +67,18 @@ impl Route {
     {
         match self {
             Route::Root => &[Method::Get],
-            Route::Document => &[Method::Get, Method::Put],
+            Route::RevsLimit => &[Method::Get, Method::Put],
+            Route::Document => &[Method::Get, Method::Put, Method::Delete],
         }
     }
 }
 
 /// The paths of the routes, as `matchit` writes them.
-const TABLE: [(&str, Route); 2] = [("/", Route::Root), ("/db/{id}", Route::Document)];
+const TABLE: [(&str, Route); 3] = [
+    ("/", Route::Root),
+    ("/db/_revs_limit", Route::RevsLimit),
+    ("/db/{id}", Route::Document),
+];
 
 /// The routes, ready to be looked up.
 #[derive(Drop)]
@@ -136,6 +145,7 @@ mod tests {
         let routes = Routes::new(rt.alloc())?;
         assert_eq!(rt; routes.at("/"), Some(Route::Root));
         assert_eq!(rt; routes.at("/db/a%2Fb"), Some(Route::Document));
+        assert_eq!(rt; routes.at("/db/_revs_limit"), Some(Route::RevsLimit));
         assert_eq!(rt; routes.at("/db/_changes"), Some(Route::Document));
         for path in [
             "", "//", "/db//", "/db//a", "/db/a/", "/db/a/b", "/dba", "db/a",
