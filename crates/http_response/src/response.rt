@@ -53,7 +53,8 @@ impl fmt::Display for Allow {
         f.write_str(match self {
             Allow::Unsaid => "",
             Allow::Methods(Route::Root) => "Allow: GET\r\n",
-            Allow::Methods(Route::Document) => "Allow: GET, PUT\r\n",
+            Allow::Methods(Route::RevsLimit) => "Allow: GET, PUT\r\n",
+            Allow::Methods(Route::Document) => "Allow: GET, PUT, DELETE\r\n",
         })
     }
 }
