@@ -12,7 +12,7 @@ use Rattle.http_routes.specs.declared.Method.{Method}
 use Rattle.http_routes.specs.declared.Method.TheVariants as method
 use Rattle.serde_json.specs.Data.{no_members}
 use Rattle.model.specs.Command.{Edits, SetLimit}
-use Rattle.model.specs.Query.{Get, RevsLimit}
+use Rattle.model.specs.Query.{Get, Info, RevsLimit}
 use Rattle.http_request.specs.Steps.{Checked, and_then, check}
 use Rattle.http_request.specs.Identity.{path_id}
 use Rattle.http_request.specs.Parameters.{options_of, rev_parameter, no_replication}
@@ -75,6 +75,8 @@ put_revs_limit body = and_then (limit_of body) (λ limit. Ok (asked.Command form
 -- what is asked of a route
 abbrev pub asked_of : Route → Method → List ℕ → List ℕ → List ℕ → Checked Asked
 asked_of route.Root method.Get path query body = Ok asked.Welcome
+asked_of route.Database method.Get path query body = Ok (asked.Query Info)
+asked_of route.DatabaseSlash method.Get path query body = Ok (asked.Query Info)
 asked_of route.RevsLimit method.Get path query body = Ok (asked.Query RevsLimit)
 asked_of route.RevsLimit method.Put path query body = put_revs_limit body
 asked_of route.Document method.Get path query body = get_document path query

@@ -58,6 +58,9 @@ fn read_route(
 {
     match (route, method) {
         (Route::Root, Method::Get) => Ok(Asked::Welcome),
+        (Route::Database | Route::DatabaseSlash, Method::Get) => {
+            Ok(Asked::Query(Query::new(QueryKind::Info)))
+        }
         (Route::RevsLimit, Method::Get) => Ok(Asked::Query(Query::new(QueryKind::RevsLimit))),
         (Route::RevsLimit, Method::Put) => read_revs_limit(alloc, body),
         (Route::Document, Method::Get) => read_document_query(alloc, path, query),

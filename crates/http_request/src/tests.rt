@@ -66,6 +66,10 @@ fn a_get(rt: HostRuntime) -> Result<(), Fail> {
     assert_eq!(rt; id.as_str(), "a");
     assert!(rt; rev.is_none() && options.conflicts && !options.revs);
     assert!(rt; matches!(ask(&rt, "GET", "/", "")?, Ok(Asked::Welcome)));
+    let Ok(Asked::Query(query)) = ask(&rt, "GET", "/db/?q=1", "")? else {
+        return Err("no query".into());
+    };
+    assert!(rt; matches!(query.kind(), QueryKind::Info));
     Ok(())
 }
 

@@ -20,6 +20,10 @@ use std::marker::Model;
 pub enum Route {
     /// `/`
     Root,
+    /// `/db`
+    Database,
+    /// `/db/`
+    DatabaseSlash,
     /// `/db/_revs_limit`
     RevsLimit,
     /// `/db/ID`
@@ -66,7 +70,7 @@ impl Route {
         ensures { result.now ≡ methods_of self }
     {
         match self {
-            Route::Root => &[Method::Get],
+            Route::Root | Route::Database | Route::DatabaseSlash => &[Method::Get],
             Route::RevsLimit => &[Method::Get, Method::Put],
             Route::Document => &[Method::Get, Method::Put, Method::Delete],
         }
@@ -74,8 +78,10 @@ impl Route {
 }
 
 /// The paths of the routes, as `matchit` writes them.
-const TABLE: [(&str, Route); 3] = [
+const TABLE: [(&str, Route); 5] = [
     ("/", Route::Root),
+    ("/db", Route::Database),
+    ("/db/", Route::DatabaseSlash),
     ("/db/_revs_limit", Route::RevsLimit),
     ("/db/{id}", Route::Document),
 ];
@@ -129,7 +135,7 @@ impl Routes {
     }
 }
 
-/// A path with an empty segment has no route, but for `/`.
+/// A path with an empty segment has no route, but for `/` and `/db/`.
 pub fn empty_segments()
     ensures { (path : List ℕ) → has_empty_segment path ≡ true → list_any (bytes_eq path) ended_paths ≡ false
         → route_of path ≡ None }
@@ -145,6 +151,8 @@ mod tests {
         let routes = Routes::new(rt.alloc())?;
         assert_eq!(rt; routes.at("/"), Some(Route::Root));
         assert_eq!(rt; routes.at("/db/a%2Fb"), Some(Route::Document));
+        assert_eq!(rt; routes.at("/db"), Some(Route::Database));
+        assert_eq!(rt; routes.at("/db/"), Some(Route::DatabaseSlash));
         assert_eq!(rt; routes.at("/db/_revs_limit"), Some(Route::RevsLimit));
         assert_eq!(rt; routes.at("/db/_changes"), Some(Route::Document));
         for path in [
