@@ -1,5 +1,5 @@
 -- What a request asks, or why it is refused.
-use Rattle.std.specs.Prelude.{ℕ, List, [], ◌∷◌, Option, Ok, Err, Some, None, codes, is_none}
+use Rattle.std.specs.Prelude.{ℕ, true, List, [], ◌∷◌, Option, Ok, Err, Some, None, codes, is_none}
 use Rattle.std.specs.List.{find}
 use Rattle.std.specs.Str.{bytes_eq}
 use Rattle.http_framing.specs.Request.{Request}
@@ -10,12 +10,14 @@ use Rattle.http_routes.specs.declared.Route.{Route}
 use Rattle.http_routes.specs.declared.Route.TheVariants as route
 use Rattle.http_routes.specs.declared.Method.{Method}
 use Rattle.http_routes.specs.declared.Method.TheVariants as method
-use Rattle.model.specs.Command.{Edits}
-use Rattle.model.specs.Query.{Get}
+use Rattle.serde_json.specs.Data.{no_members}
+use Rattle.model.specs.Command.{Edits, SetLimit}
+use Rattle.model.specs.Query.{Get, Info, RevsLimit}
 use Rattle.http_request.specs.Steps.{Checked, and_then, check}
 use Rattle.http_request.specs.Identity.{path_id}
 use Rattle.http_request.specs.Parameters.{options_of, rev_parameter, no_replication}
 use Rattle.http_request.specs.Document.{edit_of}
+use Rattle.http_request.specs.Limit.{limit_of}
 use Rattle.http_request.specs.declared.asked.Asked.{Asked}
 use Rattle.http_request.specs.declared.asked.Asked.TheVariants as asked
 use Rattle.http_request.specs.declared.asked.Form.TheVariants as form
@@ -59,11 +61,28 @@ put_document path query body =
     and_then (edit_of id rev body) (λ edit.
     Ok (asked.Command form.Put (Edits (edit ∷ [])))))))
 
+-- DELETE of a document, which leaves an empty body
+abbrev pub delete_document : List ℕ → List ℕ → Checked Asked
+delete_document path query =
+    and_then (path_id path) (λ id.
+    and_then (rev_parameter query) (λ rev.
+    Ok (asked.Command form.Delete (Edits (record { id = id; named = rev; deleted = true; body = no_members } ∷ [])))))
+
+-- PUT of the limit of revisions
+abbrev pub put_revs_limit : List ℕ → Checked Asked
+put_revs_limit body = and_then (limit_of body) (λ limit. Ok (asked.Command form.Whole (SetLimit limit)))
+
 -- what is asked of a route
 abbrev pub asked_of : Route → Method → List ℕ → List ℕ → List ℕ → Checked Asked
-asked_of route.Root method path query body = Ok asked.Welcome
+asked_of route.Root method.Get path query body = Ok asked.Welcome
+asked_of route.Database method.Get path query body = Ok (asked.Query Info)
+asked_of route.DatabaseSlash method.Get path query body = Ok (asked.Query Info)
+asked_of route.RevsLimit method.Get path query body = Ok (asked.Query RevsLimit)
+asked_of route.RevsLimit method.Put path query body = put_revs_limit body
 asked_of route.Document method.Get path query body = get_document path query
 asked_of route.Document method.Put path query body = put_document path query body
+asked_of route.Document method.Delete path query body = delete_document path query
+asked_of route method path query body = Err (refusal.MethodNotAllowed route)
 
 -- what a request asks, or why it is refused; each check is made before the next
 unfoldable pub decide : Request → Checked Asked

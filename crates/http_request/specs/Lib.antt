@@ -4,4 +4,5 @@ pub mod Revisions
 pub mod Parameters
 pub mod Text
 pub mod Document
+pub mod Limit
 pub mod Decide

@@ -8,6 +8,7 @@
 mod asked;
 mod document;
 mod identity;
+mod limit;
 mod parameter;
 mod read;
 mod refusal;

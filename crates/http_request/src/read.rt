@@ -1,20 +1,24 @@
 //! What a request asks: its route, its method, and then what the route says.
 
-ghost use Rattle.std.specs.Prelude.{◌≡◌, IfOk};
-ghost use Rattle.http_request.specs.Decide.{asked_of, decide, get_document, method_in, method_of, put_document, route_in};
+ghost use Rattle.std.specs.Prelude.{◌≡◌, [], ◌∷◌, Ok, IfOk};
+ghost use Rattle.model.specs.Command.{Edits};
+ghost use Rattle.http_request.specs.Decide.{asked_of, decide, delete_document, get_document, method_in, method_of, put_document, put_revs_limit, route_in};
 ghost use Rattle.http_request.specs.Steps.{Decides};
 
 use crate::asked::{Asked, Form};
 use crate::document::read_edit;
 use crate::identity::read_path_id;
+use crate::limit::read_limit;
 use crate::parameter::{read_named_revision, read_options, refuse_replication};
 use crate::refusal::{Fault, Reason, Refusal, refuse};
-use commands::{Command, Query, QueryKind};
+use commands::{Command, Edit, Query, QueryKind};
 use http_framing::request::Request;
 use http_routes::{Method, Route, Routes};
 use http_target::query::find_parameter;
 use http_target::split_target;
+use json_profile::Body;
 use std::alloc::{AllocError, Global};
+use std::sync::Arc;
 
 /// What a request asks, or why it is refused.
 pub fn read_request(
@@ -38,12 +42,31 @@ fn read_asked(alloc: Global, routes: &Routes, request: &Request<'_>) -> Result<A
     let (path, query) = split_target(request.target());
     let route = find_route(routes, path)?;
     let method = find_method(route, request.method())?;
-    match route {
-        Route::Root => Ok(Asked::Welcome),
-        Route::Document => match method {
-            Method::Get => read_document_query(alloc, path, query),
-            Method::Put => read_document_edit(alloc, path, query, request.body()),
-        },
+    read_route(alloc, route, method, path, query, request.body())
+}
+
+/// What is asked of a route.
+fn read_route(
+    alloc: Global,
+    route: Route,
+    method: Method,
+    path: &str,
+    query: &str,
+    body: &[u8],
+) -> Result<Asked, Fault>
+    ensures { Decides result (asked_of route method path.now query.now body.now) }
+{
+    match (route, method) {
+        (Route::Root, Method::Get) => Ok(Asked::Welcome),
+        (Route::Database | Route::DatabaseSlash, Method::Get) => {
+            Ok(Asked::Query(Query::new(QueryKind::Info)))
+        }
+        (Route::RevsLimit, Method::Get) => Ok(Asked::Query(Query::new(QueryKind::RevsLimit))),
+        (Route::RevsLimit, Method::Put) => read_revs_limit(alloc, body),
+        (Route::Document, Method::Get) => read_document_query(alloc, path, query),
+        (Route::Document, Method::Put) => read_document_edit(alloc, path, query, body),
+        (Route::Document, Method::Delete) => read_deletion(alloc, path, query),
+        _ => Err(Fault::Refused(Refusal::MethodNotAllowed(route))),
     }
 }
 
@@ -97,11 +120,47 @@ fn read_document_edit(alloc: Global, path: &str, query: &str, body: &[u8]) -> Re
     refuse_replication(alloc, query)?;
     let rev = read_named_revision(alloc, query)?;
     let edit = read_edit(alloc, id, rev, body)?;
+    one_edit(alloc, Form::Put, edit)
+}
+
+/// DELETE of a document.
+fn read_deletion(alloc: Global, path: &str, query: &str) -> Result<Asked, Fault>
+    ensures { Decides result (delete_document path.now query.now) }
+{
+    let id = read_path_id(alloc, path)?;
+    let named = read_named_revision(alloc, query)?;
+    let Ok(body) = Arc::new(alloc, Body::empty(alloc)) else {
+        return Err(Fault::Memory);
+    };
+    let edit = Edit {
+        id,
+        named,
+        deleted: true,
+        body,
+    };
+    one_edit(alloc, Form::Delete, edit)
+}
+
+/// A command of one edit.
+fn one_edit(alloc: Global, form: Form, edit: Edit) -> Result<Asked, Fault>
+    ensures { Decides result (Ok (Asked.Command form (Edits (edit ∷ [])))) }
+{
     let Ok(edits) = vec![in alloc; edit] else {
         return Err(Fault::Memory);
     };
     let Some(command) = Command::edits(edits) else {
         unreachable!()
     };
-    Ok(Asked::Command(Form::Put, command))
+    Ok(Asked::Command(form, command))
+}
+
+/// PUT of the limit of revisions.
+fn read_revs_limit(alloc: Global, body: &[u8]) -> Result<Asked, Fault>
+    ensures { Decides result (put_revs_limit body.now) }
+{
+    let limit = read_limit(alloc, body)?;
+    let Some(command) = Command::set_limit(limit) else {
+        unreachable!()
+    };
+    Ok(Asked::Command(Form::Whole, command))
 }

@@ -66,6 +66,10 @@ fn a_get(rt: HostRuntime) -> Result<(), Fail> {
     assert_eq!(rt; id.as_str(), "a");
     assert!(rt; rev.is_none() && options.conflicts && !options.revs);
     assert!(rt; matches!(ask(&rt, "GET", "/", "")?, Ok(Asked::Welcome)));
+    let Ok(Asked::Query(query)) = ask(&rt, "GET", "/db/?q=1", "")? else {
+        return Err("no query".into());
+    };
+    assert!(rt; matches!(query.kind(), QueryKind::Info));
     Ok(())
 }
 
@@ -74,6 +78,8 @@ fn routes_and_methods(rt: HostRuntime) -> Result<(), Fail> {
     let missing = Some(Refusal::Missing);
     assert_eq!(rt; refusal(&rt, "GET", "/db//a", "")?, missing);
     assert_eq!(rt; refusal(&rt, "X", "/other", "")?, missing);
+    let not_allowed = Some(Refusal::MethodNotAllowed(Route::RevsLimit));
+    assert_eq!(rt; refusal(&rt, "DELETE", "/db/_revs_limit", "")?, not_allowed);
     let not_allowed = Some(Refusal::MethodNotAllowed(Route::Document));
     assert_eq!(rt; refusal(&rt, "HEAD", "/db/_x", "")?, not_allowed);
     Ok(())
@@ -130,5 +136,37 @@ fn depths(rt: HostRuntime) -> Result<(), Fail> {
     }
     body.push('}')?;
     assert_eq!(rt; bad(&rt, "/db/a", body.as_str())?, Some(Reason::Depth));
+    Ok(())
+}
+
+#[test]
+fn a_delete(rt: HostRuntime) -> Result<(), Fail> {
+    let target = "/db/a?rev=1-0123456789abcdef0123456789abcdef";
+    let asked = ask(&rt, "DELETE", target, "{")?.ok().ok_or("refused")?;
+    let Asked::Command(form, command) = asked else {
+        return Err("no command".into());
+    };
+    assert_eq!(rt; form, Form::Delete);
+    let CommandKind::Edits(edits) = command.kind() else {
+        return Err("no edits".into());
+    };
+    let edit = edits.first().ok_or("no edit")?;
+    assert!(rt; edit.deleted && edit.named.is_some());
+    assert_eq!(rt; edit.body.text(rt.alloc())?.as_str(), "{}");
+    Ok(())
+}
+
+#[test]
+fn limits(rt: HostRuntime) -> Result<(), Fail> {
+    let target = "/db/_revs_limit";
+    let asked = ask(&rt, "PUT", target, "4294967295")?;
+    let Ok(Asked::Command(Form::Whole, command)) = asked else {
+        return Err("no command".into());
+    };
+    assert!(rt; matches!(command.kind(), CommandKind::SetLimit(4294967295)));
+    for body in ["0", "4294967296", "-1", "{}"] {
+        assert_eq!(rt; bad(&rt, target, body)?, Some(Reason::Shape));
+    }
+    assert_eq!(rt; bad(&rt, target, "1.5")?, Some(Reason::Number));
     Ok(())
 }

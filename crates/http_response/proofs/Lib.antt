@@ -1,2 +1,2 @@
+pub mod Floats
 pub mod LostTexts
-pub mod Whole

@@ -4,7 +4,7 @@ use Rattle.hex.specs.Hex.{encode_lower}
 use Rattle.serde_json.specs.Data.{Data, unsigned, number, string, boolean, array, object, Members, no_members, member, put}
 use Rattle.serde_json.specs.View.{items_of}
 use Rattle.model.specs.Command.{Id}
-use Rattle.model.specs.Query.{Document, Status, Available, IsDeleted, NoBody}
+use Rattle.model.specs.Query.{Counts, Document, Status, Available, IsDeleted, NoBody}
 use Rattle.model.specs.Revision.{Rev, rev_text}
 
 abbrev pub rev_data : Rev → Data
@@ -23,12 +23,33 @@ write_data id rev =
 abbrev pub written_data : Id → Rev → Data
 written_data id rev = write_data id (rev_text rev)
 
--- ---- a document
+-- ---- the revisions of a document
 
--- the member, where there is a value for it
-abbrev pub with_some : List ℕ → Option Data → Members → Members
-with_some name None members = members
-with_some name (Some value) members = put name value members
+abbrev pub hash_data : Rev → Data
+hash_data rev = string (encode_lower rev.hash)
+
+abbrev pub start_of : List Rev → ℕ
+start_of [] = 0
+start_of (newest ∷ older) = newest.generation
+
+-- `{"ids":[..],"start":n}`, newest first
+abbrev pub revisions_data : List Rev → Data
+revisions_data revs =
+    object (member (codes "ids") (array (items_of (map hash_data revs))) (member (codes "start") (number (unsigned (start_of revs))) no_members))
+
+abbrev pub status_name : Status → List ℕ
+status_name Available = codes "available"
+status_name IsDeleted = codes "deleted"
+status_name NoBody = codes "missing"
+
+-- `{"rev":r,"status":t}`
+abbrev pub info_data : Rev × Status → Data
+info_data info = object (member (codes "rev") (rev_data info.0) (member (codes "status") (string (status_name info.1)) no_members))
+
+abbrev pub infos_data : List (Rev × Status) → Data
+infos_data infos = array (items_of (map info_data infos))
+
+-- ---- a document
 
 abbrev pub with_flag : List ℕ → Bool → Members → Members
 with_flag name flag members = if flag then put name (boolean true) members else members
@@ -38,9 +59,32 @@ abbrev pub with_revs : List ℕ → List Rev → Members → Members
 with_revs name [] members = members
 with_revs name (rev ∷ revs) members = put name (revs_data (rev ∷ revs)) members
 
--- the body's members, with what names the revision
+abbrev pub with_revisions : Option (List Rev) → Members → Members
+with_revisions None members = members
+with_revisions (Some revs) members = put (codes "_revisions") (revisions_data revs) members
+
+abbrev pub with_infos : Option (List (Rev × Status)) → Members → Members
+with_infos None members = members
+with_infos (Some infos) members = put (codes "_revs_info") (infos_data infos) members
+
+-- a body's members, with what names the revision
 abbrev pub named_members : Id → Rev → Bool → Members → Members
 named_members id rev deleted body = with_flag (codes "_deleted") deleted (put (codes "_rev") (rev_data rev) (put (codes "_id") (string id) body))
 
+-- what was asked beside the body
+abbrev pub told_members : Document → Members → Members
+told_members d members =
+    with_revs (codes "_deleted_conflicts") d.deleted_conflicts (with_revs (codes "_conflicts") d.conflicts
+    (with_infos d.revs_info (with_revisions d.revisions members)))
+
 abbrev pub document_data : Document → Data
-document_data d = object (named_members d.id d.rev d.deleted d.body)
+document_data d = object (told_members d (named_members d.id d.rev d.deleted d.body))
+
+-- ---- the database
+
+-- `{"db_name":"db","doc_count":n,"doc_del_count":n,"purge_seq":n,"update_seq":n}`
+abbrev pub counts_data : Counts → Data
+counts_data c =
+    object (member (codes "db_name") (string (codes "db")) (member (codes "doc_count") (number (unsigned c.doc_count))
+    (member (codes "doc_del_count") (number (unsigned c.doc_del_count)) (member (codes "purge_seq") (number (unsigned c.purge_seq))
+    (member (codes "update_seq") (number (unsigned c.update_seq)) no_members)))))

@@ -1,12 +1,13 @@
 -- The status and the body that tell what became of a command, or what a query is answered.
 use Rattle.std.specs.Prelude.{ℕ, List, [], ◌∷◌, Result, Ok, Err, codes}
+use Rattle.serde_json.specs.Data.{number, unsigned}
 use Rattle.serde_json.specs.Written.{compact_text}
 use Rattle.model.specs.Command.{Id, Edit, Command, Edits, Merges, PutLocal, Purge, SetLimit, Compact, Refusal, Reply, Wrote, WroteLocal, Purged, Done}
-use Rattle.model.specs.Query.{Query, Answer, Document, Absent, Found}
+use Rattle.model.specs.Query.{Query, Answer, Document, Absent, Counted, Found, Limit}
 use Rattle.model.specs.Revision.{Rev}
 use Rattle.http_request.specs.declared.asked.Form.{Form}
 use Rattle.http_request.specs.declared.asked.Form.TheVariants as form
-use Rattle.http_response.specs.Document.{written_data, document_data}
+use Rattle.http_response.specs.Document.{counts_data, written_data, document_data}
 use Rattle.http_response.specs.Problem.{write_status, write_problem, absent_problem}
 use Rattle.http_response.specs.declared.response.Status.{Status}
 use Rattle.http_response.specs.declared.response.Status.TheVariants as status
@@ -47,4 +48,6 @@ found_told (Err absent) = (status.NotFound, absent_problem absent)
 
 abbrev pub answer_told : Query → Answer → Told
 answer_told query (Found found) = found_told found
+answer_told query (Counted counts) = (status.Ok, compact_text (counts_data counts))
+answer_told query (Limit limit) = (status.Ok, compact_text (number (unsigned limit)))
 answer_told query answer = done

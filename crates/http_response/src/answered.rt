@@ -10,6 +10,7 @@ use crate::document::document_text;
 use crate::problem::body_of_absent;
 use crate::replied::tell_done;
 use crate::response::{Allow, Status, response};
+use crate::written::{counts_text, number_text};
 use commands::{Absent, Answer, AnswerKind, Document, Query};
 use std::alloc::{AllocError, Global};
 
@@ -42,6 +43,8 @@ fn tell(alloc: Global, query: &Query, answer: &AnswerKind) -> Result<(Status, St
 {
     match answer {
         AnswerKind::Found(found) => tell_found(alloc, found),
+        AnswerKind::Counted(counts) => Ok((Status::Ok, counts_text(alloc, counts)?)),
+        AnswerKind::Limit(limit) => Ok((Status::Ok, number_text(alloc, *limit)?)),
         _ => tell_done(alloc),
     }
 }

@@ -1,13 +1,14 @@
 //! Documents and revisions, as answers write them.
 
-ghost use Rattle.std.specs.Prelude.{◌≡◌, true, false, codes, IfOk, OnOk, string_bytes};
+ghost use Rattle.std.specs.Prelude.{◌≡◌, true, false, codes, option_map, IfOk, OnOk, string_bytes};
 ghost use Rattle.serde_json.specs.Data.{object, string, put as with_member};
 ghost use Rattle.serde_json.specs.View.{members_view, view};
-ghost use Rattle.serde_json.specs.Written.{compact_text, has_float};
+ghost use Rattle.serde_json.specs.Written.{compact_text, members_have_float};
 ghost use Rattle.model.specs.Profile.{members_whole};
-ghost use Rattle.http_response.specs.Document.{document_data, named_members, rev_data, with_flag, write_data, written_data};
+ghost use Rattle.http_response.specs.Document.{document_data, named_members, rev_data, told_members, with_flag, with_infos, with_revisions, with_revs, write_data, written_data};
 
-use commands::Document;
+use crate::written::{infos_value, revisions_value, revs_value, value_text};
+use commands::{Document, Status};
 use document_id::DocId;
 use json_profile::Body;
 use revision_id::RevId;
@@ -27,14 +28,6 @@ fn write_value(alloc: Global, id: &str, rev: &str) -> Result<Value, AllocError>
     ensures { IfOk result (λ value. view value ≡ write_data id.now rev.now) }
 {
     json!(in alloc; {"id": id, "ok": true, "rev": rev})
-}
-
-/// The text of a value with no float.
-fn value_text(alloc: Global, value: &Value) -> Result<String, AllocError>
-    requires { has_float (view value.now) ≡ false }
-    ensures { IfOk result (λ text. string_bytes text ≡ compact_text (view value.now)) }
-{
-    value.to_string(alloc)
 }
 
 /// A copy of a body's members, to add to.
@@ -93,9 +86,76 @@ fn name_members(alloc: Global, document: &Document) -> Result<Map<String, Value>
     Ok(members)
 }
 
-/// The text of an object of whole numbers.
+/// Puts revisions under a name, unless there are none.
+fn put_revs(
+    members: &mut Map<String, Value>,
+    alloc: Global,
+    name: &str,
+    revs: &[RevId],
+) -> Result<(), AllocError>
+    ensures { OnOk result (members_view members.new.entries
+        ≡ with_revs name.now revs.now (members_view members.old.entries)) }
+{
+    if revs.is_empty() {
+        return Ok(());
+    }
+    let value = revs_value(alloc, revs)?;
+    put(members, alloc, name, value)
+}
+
+fn put_revisions(
+    members: &mut Map<String, Value>,
+    alloc: Global,
+    revisions: &Option<Vec<RevId>>,
+) -> Result<(), AllocError>
+    ensures { OnOk result (members_view members.new.entries
+        ≡ with_revisions (option_map (λ revs. revs.items) revisions.now) (members_view members.old.entries)) }
+{
+    let Some(revs) = revisions else {
+        return Ok(());
+    };
+    let value = revisions_value(alloc, revs)?;
+    put(members, alloc, "_revisions", value)
+}
+
+fn put_infos(
+    members: &mut Map<String, Value>,
+    alloc: Global,
+    infos: &Option<Vec<(RevId, Status)>>,
+) -> Result<(), AllocError>
+    ensures { OnOk result (members_view members.new.entries
+        ≡ with_infos (option_map (λ infos. infos.items) infos.now) (members_view members.old.entries)) }
+{
+    let Some(infos) = infos else {
+        return Ok(());
+    };
+    let value = infos_value(alloc, infos)?;
+    put(members, alloc, "_revs_info", value)
+}
+
+/// Puts what was asked beside the body.
+fn put_told(
+    members: &mut Map<String, Value>,
+    alloc: Global,
+    document: &Document,
+) -> Result<(), AllocError>
+    ensures { OnOk result (members_view members.new.entries
+        ≡ told_members document.now (members_view members.old.entries)) }
+{
+    put_revisions(members, alloc, &document.revisions)?;
+    put_infos(members, alloc, &document.revs_info)?;
+    put_revs(members, alloc, "_conflicts", &document.conflicts)?;
+    put_revs(
+        members,
+        alloc,
+        "_deleted_conflicts",
+        &document.deleted_conflicts,
+    )
+}
+
+/// The text of an object with no float.
 fn object_text(alloc: Global, members: Map<String, Value>) -> Result<String, AllocError>
-    requires { members_whole (members_view members.entries) ≡ true }
+    requires { members_have_float (members_view members.entries) ≡ false }
     ensures { IfOk result (λ text. string_bytes text ≡ compact_text (object (members_view members.entries))) }
 {
     Value::Object(members).to_string(alloc)
@@ -105,6 +165,7 @@ fn object_text(alloc: Global, members: Map<String, Value>) -> Result<String, All
 pub(crate) fn document_text(alloc: Global, document: &Document) -> Result<String, AllocError>
     ensures { IfOk result (λ text. string_bytes text ≡ compact_text (document_data document.now)) }
 {
-    let members = name_members(alloc, document)?;
+    let mut members = name_members(alloc, document)?;
+    put_told(&mut members, alloc, document)?;
     object_text(alloc, members)
 }

@@ -12,6 +12,7 @@ mod lost;
 mod problem;
 mod replied;
 mod response;
+mod written;
 
 pub use answered::answer;
 pub use connection::Connection;

@@ -52,8 +52,11 @@ impl fmt::Display for Allow {
     fn fmt<W: fmt::Write>(&self, f: &mut fmt::Formatter<W>) -> fmt::Result {
         f.write_str(match self {
             Allow::Unsaid => "",
-            Allow::Methods(Route::Root) => "Allow: GET\r\n",
-            Allow::Methods(Route::Document) => "Allow: GET, PUT\r\n",
+            Allow::Methods(Route::Root | Route::Database | Route::DatabaseSlash) => {
+                "Allow: GET\r\n"
+            }
+            Allow::Methods(Route::RevsLimit) => "Allow: GET, PUT\r\n",
+            Allow::Methods(Route::Document) => "Allow: GET, PUT, DELETE\r\n",
         })
     }
 }

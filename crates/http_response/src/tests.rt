@@ -108,7 +108,7 @@ fn refusals(rt: HostRuntime) -> Result<(), Fail> {
     let refusal = Refusal::MethodNotAllowed(Route::Document);
     assert_eq!(rt;
         refused(alloc, 0, Connection::Close, refusal)?.as_str(),
-        "HTTP/1.1 405 Method Not Allowed\r\nContent-Type: application/json\r\nContent-Length: 61\r\nCouch-Place: 0\r\nAllow: GET, PUT\r\nConnection: close\r\n\r\n{\"error\":\"method_not_allowed\",\"reason\":\"Method not allowed.\"}"
+        "HTTP/1.1 405 Method Not Allowed\r\nContent-Type: application/json\r\nContent-Length: 61\r\nCouch-Place: 0\r\nAllow: GET, PUT, DELETE\r\nConnection: close\r\n\r\n{\"error\":\"method_not_allowed\",\"reason\":\"Method not allowed.\"}"
     );
     assert_eq!(rt;
         closing(alloc, 0, FramingFault::LargeBody)?.as_str(),

@@ -15,22 +15,29 @@ pub data Pattern : Type 0 where
 -- the routes with their paths; where a path fits several, the first counts
 abbrev pub routes : List (Pattern × Route)
 routes =
-    (WithId (codes "/db/"), route.Document)
+    (Plain (codes "/db/_revs_limit"), route.RevsLimit)
+    ∷ (WithId (codes "/db/"), route.Document)
+    ∷ (Plain (codes "/db/"), route.DatabaseSlash)
+    ∷ (Plain (codes "/db"), route.Database)
     ∷ (Plain (codes "/"), route.Root) ∷ []
 
 -- the methods of a route, in the order in which a response lists them
 abbrev pub methods_of : Route → List Method
 methods_of route.Root = method.Get ∷ []
-methods_of route.Document = method.Get ∷ method.Put ∷ []
+methods_of route.Database = method.Get ∷ []
+methods_of route.DatabaseSlash = method.Get ∷ []
+methods_of route.RevsLimit = method.Get ∷ method.Put ∷ []
+methods_of route.Document = method.Get ∷ method.Put ∷ method.Delete ∷ []
 
 -- the name of a method
 abbrev pub name_of : Method → List ℕ
 name_of method.Get = codes "GET"
 name_of method.Put = codes "PUT"
+name_of method.Delete = codes "DELETE"
 
 -- the methods of all routes
 abbrev pub methods : List Method
-methods = method.Get ∷ method.Put ∷ []
+methods = method.Get ∷ method.Put ∷ method.Delete ∷ []
 
 -- the method of this name
 abbrev pub method_named : List ℕ → Option Method
@@ -61,4 +68,4 @@ has_empty_segment (byte ∷ next ∷ path) = (byte == slash && next == slash) ||
 
 -- the paths of routes that have an empty segment
 abbrev pub ended_paths : List (List ℕ)
-ended_paths = codes "/" ∷ []
+ended_paths = codes "/" ∷ codes "/db/" ∷ []

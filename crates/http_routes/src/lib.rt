@@ -20,6 +20,12 @@ use std::marker::Model;
 pub enum Route {
     /// `/`
     Root,
+    /// `/db`
+    Database,
+    /// `/db/`
+    DatabaseSlash,
+    /// `/db/_revs_limit`
+    RevsLimit,
     /// `/db/ID`
     Document,
 }
@@ -29,10 +35,11 @@ pub enum Route {
 pub enum Method {
     Get,
     Put,
+    Delete,
 }
 
 /// The methods of all routes.
-const METHODS: [Method; 2] = [Method::Get, Method::Put];
+const METHODS: [Method; 3] = [Method::Get, Method::Put, Method::Delete];
 
 impl Method {
     /// The method of this name, which is told apart by case.
@@ -52,6 +59,7 @@ impl Method {
         match self {
             Method::Get => "GET",
             Method::Put => "PUT",
+            Method::Delete => "DELETE",
         }
     }
 }
@@ -62,14 +70,21 @@ impl Route {
         ensures { result.now ≡ methods_of self }
     {
         match self {
-            Route::Root => &[Method::Get],
-            Route::Document => &[Method::Get, Method::Put],
+            Route::Root | Route::Database | Route::DatabaseSlash => &[Method::Get],
+            Route::RevsLimit => &[Method::Get, Method::Put],
+            Route::Document => &[Method::Get, Method::Put, Method::Delete],
         }
     }
 }
 
 /// The paths of the routes, as `matchit` writes them.
-const TABLE: [(&str, Route); 2] = [("/", Route::Root), ("/db/{id}", Route::Document)];
+const TABLE: [(&str, Route); 5] = [
+    ("/", Route::Root),
+    ("/db", Route::Database),
+    ("/db/", Route::DatabaseSlash),
+    ("/db/_revs_limit", Route::RevsLimit),
+    ("/db/{id}", Route::Document),
+];
 
 /// The routes, ready to be looked up.
 #[derive(Drop)]
@@ -120,7 +135,7 @@ impl Routes {
     }
 }
 
-/// A path with an empty segment has no route, but for `/`.
+/// A path with an empty segment has no route, but for `/` and `/db/`.
 pub fn empty_segments()
     ensures { (path : List ℕ) → has_empty_segment path ≡ true → list_any (bytes_eq path) ended_paths ≡ false
         → route_of path ≡ None }
@@ -136,6 +151,9 @@ mod tests {
         let routes = Routes::new(rt.alloc())?;
         assert_eq!(rt; routes.at("/"), Some(Route::Root));
         assert_eq!(rt; routes.at("/db/a%2Fb"), Some(Route::Document));
+        assert_eq!(rt; routes.at("/db"), Some(Route::Database));
+        assert_eq!(rt; routes.at("/db/"), Some(Route::DatabaseSlash));
+        assert_eq!(rt; routes.at("/db/_revs_limit"), Some(Route::RevsLimit));
         assert_eq!(rt; routes.at("/db/_changes"), Some(Route::Document));
         for path in [
             "", "//", "/db//", "/db//a", "/db/a/", "/db/a/b", "/dba", "db/a",
