@@ -21,10 +21,12 @@ mod reply;
 mod seat;
 mod status;
 mod style;
+#[cfg(test)]
+mod tests;
 
 pub use absent::{Absent, AbsentKind};
 pub use answer::{Answer, AnswerKind};
-pub use command::{Command, CommandKind};
+pub use command::{Command, CommandKind, MAX_EDITS};
 pub use config::{Config, Limits};
 pub use copied::{Copied, copy_all};
 pub use difference::{Difference, Differences};

@@ -3,10 +3,12 @@ use Rattle.std.proofs.Common.{◌≡◌, ℕ, ◌+◌, ◌<◌, ◌≤◌, zero,
 use Rattle.std.proofs.lemmas.Bool.{cases_lt}
 use Rattle.std.specs.Prelude.{IfSome, Contains, AllPairs, slice_index_or}
 use Rattle.std.specs.Result.{result_ok}
+use Rattle.std.proofs.Math.ListN.{length-map}
+use Rattle.std.proofs.lemmas.List.{get_or-map}
 use Rattle.std.specs.Cmp.{tied_itself}
 use Rattle.std.specs.Ordering.{ordering_index}
 use Rattle.std.specs.List.Sorted.{IsSearchInRange, IsBinarySearchResult, IsNonDecreasingBy}
-use Rattle.model.specs.Map.{Map, get}
+use Rattle.model.specs.Map.{Map, entries, get}
 use Rattle.model.specs.Revision.{Rev, rev_cmp, rev_total, rev_exact, revs}
 use Rattle.model.specs.Tree.{Tree, Revision, IsTree, knows, parent_of}
 use Rattle.model.proofs.ListLaws.{by_cases, Contains-map, source_of}
@@ -117,3 +119,15 @@ climbs t r (Some p) h k e = omega (arith, (h.forest.parents r p e).1)
 pub knows_parent : (t : Tree) (r : Rev) (o : Option Rev) → IsTree t → parent_of t r ≡ o → IfSome o (λ p. knows t p ≡ true)
 knows_parent t r None h e = tt
 knows_parent t r (Some p) h e = (h.forest.parents r p e).0
+
+-- ---- the place of an entry
+
+pub entry_places : (nodes : List Node) (r : Rev) (o : Option ℕ) → IsSorted nodes → IfSome o (λ i. IsPlaceOf nodes r i)
+    → IfSome o (λ i. (i < length (entries (tree_of nodes))) × ((e : Rev × Revision) → (get_or (entries (tree_of nodes)) i e).0 ≡ r))
+entry_places nodes r None h at = tt
+entry_places nodes r (Some i) h at =
+    let n = some_node nodes i at.within in
+    let es = entries_of nodes in
+    let short : i < length es = omega (arith, at.within, length-map nodes entry_of) in
+    let place : (e : Rev × Revision) → (get_or es i e).0 ≡ r = λ e. ap (λ (x : Rev × Revision). x.0) (get_or-map entry_of nodes i n e at.within) ∙ at.rev n in
+    subst (λ xs. (i < length xs) × ((e : Rev × Revision) → (get_or xs i e).0 ≡ r)) (sym (entries-tree_of nodes h)) (short, place)

@@ -3,7 +3,7 @@ ghost use Rattle.std.specs.Prelude.{◌≡◌, map};
 ghost use Rattle.revision_tree.specs.Nodes.{IsSorted, entries_of, marked_by, with_mark, without_mark};
 
 use crate::node::Node;
-use crate::search::place_of;
+use crate::search::place_among;
 use revision_id::RevId;
 
 /// Marks the nodes that are parents of others, and no others.
@@ -33,7 +33,7 @@ fn mark_one(nodes: &mut [Node], parent: Option<RevId>)
     let Some(parent) = parent else {
         return;
     };
-    if let Some(place) = place_of(nodes, parent) {
+    if let Some(place) = place_among(nodes, parent) {
         nodes[place].inner = true;
     }
 }

@@ -9,7 +9,7 @@ use revision_id::RevId;
 use std::alloc::{AllocError, Global};
 
 /// The place of a revision.
-pub(crate) fn place_of(nodes: &[Node], rev: RevId) -> Option<usize>
+pub(crate) fn place_among(nodes: &[Node], rev: RevId) -> Option<usize>
     requires { IsSorted nodes.now }
     ensures known { is_some result ≡ knows (tree_of nodes.now) rev }
     ensures place { IfSome result (λ i. IsPlaceOf nodes.now rev i) }
@@ -22,7 +22,7 @@ pub(crate) fn node_of(nodes: &[Node], rev: RevId) -> Option<&Node>
     ensures found { option_map (λ n. (entry_of n.now).1) result ≡ get (tree_of nodes.now) rev }
     ensures inner { IfSome result (λ n. n.now.inner ≡ has_child (tree_of nodes.now) rev) }
 {
-    Some(&nodes[place_of(nodes, rev)?])
+    Some(&nodes[place_among(nodes, rev)?])
 }
 
 pub(crate) fn parent_in(nodes: &[Node], rev: RevId) -> Option<RevId>

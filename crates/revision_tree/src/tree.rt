@@ -1,14 +1,15 @@
 //! The tree.
-ghost use Rattle.std.specs.Prelude.{◌≡◌, Some, IfOk, option_map};
+ghost use Rattle.std.specs.Prelude.{◌≡◌, ◌<◌, Some, IfOk, IfSome, length, is_some, slice_index_or, option_map};
 ghost use Rattle.std.specs.Arc.{arc_value};
 ghost use Rattle.model.specs.Map.{entries};
-ghost use Rattle.model.specs.Tree.{Tree, knows as is_known, parent_of as known_parent, is_leaf as is_known_leaf, body_of as kept_body, is_deleted as is_known_deleted, path_of as path_to, leaves as ranked, winner as winning, revs_of};
+ghost use Rattle.model.specs.Revision.{Rev};
+ghost use Rattle.model.specs.Tree.{Tree, Revision, knows as is_known, parent_of as known_parent, is_leaf as is_known_leaf, body_of as kept_body, is_deleted as is_known_deleted, path_of as path_to, leaves as ranked, winner as winning, revs_of};
 ghost use Rattle.revision_tree.specs.Nodes.{IsListOf, entries_of};
 
 use crate::leaf::{Leaf, leaves_of, winner_of};
 use crate::marks::mark;
 use crate::node::Node;
-use crate::search::{node_of, parent_in, path_from};
+use crate::search::{node_of, parent_in, path_from, place_among};
 use json_profile::Body;
 use revision_id::RevId;
 use std::alloc::{AllocError, Global};
@@ -52,6 +53,14 @@ impl RevTree {
         ensures { IsListOf result.now self.now }
     {
         &self.nodes
+    }
+
+    /// The place of a revision among them.
+    pub fn place_of(&self, rev: RevId) -> Option<usize>
+        ensures known { is_some result ≡ is_known self.now rev }
+        ensures place { IfSome result (λ i. (i < length (entries self.now)) × ((e : Rev × Revision) → (slice_index_or (entries self.now) i e).0 ≡ rev)) }
+    {
+        place_among(&self.nodes, rev)
     }
 
     pub fn knows(&self, rev: RevId) -> bool

@@ -26,9 +26,9 @@ live_count-cons e es = elim (is_live e.1) as (λ b. length (cond b (e ∷ filter
 pub live_in-le : (k : Id) (es : Records) → live_in (find names.cmp k es) ≤ live_count es
 live_in-le k [] = omega arith
 live_in-le k (e ∷ es) = elim (same_key names k e.0) as (λ b. live_in (cond b (Some e.1) (find names.cmp k es)) ≤ live_count (e ∷ es)) [
-    | true ↦ omega (arith, live_count-cons e es)
-    | false ↦ omega (arith, live_count-cons e es, live_in-le k es)
-  ]
+  | true ↦ omega (arith, live_count-cons e es)
+  | false ↦ omega (arith, live_count-cons e es, live_in-le k es)
+]
 
 -- a key below the first of a list in order is not found there
 absent : (k : Id) (x : Record) (e : Id × Record) (es : Records) → names.cmp k e.0 ≡ Less → T (is_sorted names.cmp (e ∷ es)) → find names.cmp k (e ∷ es) ≡ None

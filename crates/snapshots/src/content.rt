@@ -12,9 +12,10 @@ ghost use Rattle.model.specs.Database.{Record as Stored, empty_database, same_tr
 
 use crate::documents::Documents;
 use crate::record::Record;
-use crate::stub_merge::is_same;
 use crate::written::{edited, merged};
-use commands::{Command, CommandKind, Counts, Edit, Merge, Refusal, RefusalKind, Reply, ReplyKind, Seat};
+use commands::{
+    Command, CommandKind, Counts, Edit, Merge, Refusal, RefusalKind, Reply, ReplyKind, Seat,
+};
 use cow_index::{CowMap, Range, Shared};
 use document_id::DocId;
 use json_profile::Body;
@@ -24,6 +25,7 @@ use revision_tree::RevTree;
 use std::alloc::{AllocError, Global};
 use std::marker::Model;
 use std::sync::Arc;
+use tree_merge::is_same;
 
 #[derive(Drop)]
 pub(crate) struct Content {

@@ -4,7 +4,8 @@
 mod content;
 mod documents;
 mod record;
-mod stub_merge;
+#[cfg(test)]
+mod tests;
 mod version;
 mod written;
 

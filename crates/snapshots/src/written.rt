@@ -5,7 +5,6 @@ ghost use Rattle.model.specs.Revision.{generation_after};
 ghost use Rattle.model.specs.TreeChange.{IsPath};
 ghost use Rattle.model.specs.Edit.{parent_path, parent_for as parent_in, over_winner as over_leaf, with_path as tree_with, written as written_at, child_written as child_in, edited as edited_in, merged as merged_in};
 
-use crate::stub_merge::{MergeFault, with_path};
 use commands::{Edit, Merge, Refusal, RefusalKind};
 use json_profile::Body;
 use revision_id::{RevFault, RevId};
@@ -13,6 +12,7 @@ use revision_tree::{Leaf, RevTree};
 use std::alloc::{AllocError, Global};
 use std::marker::Model;
 use std::sync::Arc;
+use tree_merge::{MergeFault, with_path};
 
 /// The revision that was made, and the tree with it.
 #[derive(Drop)]
@@ -61,7 +61,15 @@ pub(crate) fn merged(
     ensures { IfOk result (λ w. w ≡ merged_in limit (option_copied tree.entry) merge.now) }
 {
     let path = merge.path();
-    path_written(alloc, limit, tree, path[0], path, merge.body(), merge.deleted())
+    path_written(
+        alloc,
+        limit,
+        tree,
+        path[0],
+        path,
+        merge.body(),
+        merge.deleted(),
+    )
 }
 
 /// The revision that an edit is over, or why it is refused.
@@ -149,7 +157,15 @@ fn child_placed(
         None => path_written(alloc, limit, tree, rev, &[rev], &edit.body, edit.deleted),
         Some(parent) => {
             let _generation = parent.generation();
-            path_written(alloc, limit, tree, rev, &[rev, parent], &edit.body, edit.deleted)
+            path_written(
+                alloc,
+                limit,
+                tree,
+                rev,
+                &[rev, parent],
+                &edit.body,
+                edit.deleted,
+            )
         }
     }
 }

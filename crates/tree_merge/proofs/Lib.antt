@@ -3,3 +3,8 @@ pub mod Merged
 pub mod Agreement
 pub mod Parts
 pub mod Grafted
+pub mod Reached
+pub mod Restricted
+pub mod Raised
+pub mod Writes
+pub mod Compared

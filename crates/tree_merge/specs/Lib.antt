@@ -1,1 +1,3 @@
 pub mod Merging
+pub mod Reach
+pub mod Strip

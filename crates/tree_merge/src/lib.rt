@@ -3,7 +3,19 @@
 
 mod fault;
 mod grafts;
+mod matches;
 mod merge;
+mod reach;
+mod removed;
+mod restrict;
+mod stems;
+mod strips;
+mod written;
 
 pub use fault::MergeFault;
 pub use grafts::graft;
+pub use matches::is_same;
+pub use removed::removed_leaves;
+pub use stems::{cut_leaves, stem};
+pub use strips::strip;
+pub use written::with_path;

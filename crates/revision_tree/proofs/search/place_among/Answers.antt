@@ -4,7 +4,7 @@ use Rattle.std.proofs.lemmas.Fn.{always_returns_same}
 use Rattle.model.specs.Revision.{rev_cmp}
 use Rattle.revision_tree.specs.Nodes.{IsPlaceOf}
 use Rattle.revision_tree.proofs.Places.{search_knows, search_place}
-use Rattle.revision_tree.proofs.search.place_of.Goals as goal
+use Rattle.revision_tree.proofs.search.place_among.Goals as goal
 
 pub returns-clause-known : goal.returns-clause-known
 returns-clause-known c =

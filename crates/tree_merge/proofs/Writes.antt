@@ -1,0 +1,84 @@
+-- A write of a path, a strip and the leaves that a cut takes.
+use Rattle.std.specs.Prelude.{◌≡◌, ◌↔◌, ℕ, ◌+◌, ◌<◌, ◌≤◌, Bool, true, false, not, ◌&&◌, cond, List, [], ◌∷◌, ◌++◌, length, get_or, take, Option, Some, None, unwrap_or, Result, Ok, Err, IsErrAnd, if◌then◌else◌, refl}
+use Rattle.std.proofs.Common.{sym, ap, ◌∙◌}
+use Rattle.std.specs.Cmp.{both_ways}
+use Rattle.std.proofs.lemmas.Bool.{and_left, and_right, and_from, cond-true, cond-false}
+use Rattle.std.proofs.lemmas.List.{take_all, take_more, map-append}
+use Rattle.model.specs.Map.{entries, empty, refine_list}
+use Rattle.model.specs.Body.{Body}
+use Rattle.model.specs.Revision.{Rev, revs}
+use Rattle.model.specs.Tree.{Tree, Revision, is_leaf, among}
+use Rattle.model.specs.TreeChange.{graft, stem, strip, removed_leaves}
+use Rattle.model.specs.Command.{BadHistory}
+use Rattle.model.specs.Edit.{stemmed, with_path}
+use Rattle.model.proofs.StripLaws.{IsTree-strip, IsInRange-strip}
+use Rattle.model.proofs.OnceLaws.{Contains-removed_leaves, removed_leaves-push}
+use Rattle.model.proofs.AncestorLaws.{Contains-among}
+use Rattle.revision_tree.specs.declared.node.Node.{Node}
+use Rattle.revision_tree.specs.Nodes.{IsListOf, entry_of, entries_of}
+use Rattle.tree_merge.specs.Strip.{bared_in}
+use Rattle.tree_merge.specs.declared.fault.MergeFault.{MergeFault}
+
+-- ---- writes
+
+module _ (limit : ℕ) (o : Option Tree) (path : List Rev) (body : Body) (deleted : Bool) where
+  pub written_ok : (g : Tree) → graft path body deleted (unwrap_or o empty) ≡ Some g → with_path limit o path body deleted ≡ Ok (stem limit g)
+  unfolding with_path
+  written_ok g e = ap (stemmed limit) e
+
+  refused_of : (x : Option Tree) → stemmed limit x ≡ Err BadHistory → x ≡ None
+  refused_of None e = refl
+  refused_of (Some t) e = cc
+
+  pub written_refused : (graft path body deleted (unwrap_or o empty) ≡ None) ↔ (with_path limit o path body deleted ≡ Err BadHistory)
+  unfolding with_path
+  written_refused = (λ e. ap (stemmed limit) e, λ e. refused_of (graft path body deleted (unwrap_or o empty)) e)
+
+pub same_fault : {X : Type 0} (r : Result X MergeFault) (e : MergeFault) → IsErrAnd r (λ f. f ≡ e) → r ≡ Err e
+same_fault (Ok x) e h = absurd h
+same_fault (Err f) e h = ap Err h
+
+-- ---- strips
+
+pub strip_entries : (t : Tree) → entries (strip t) ≡ refine_list revs (bared_in t) (entries t)
+unfolding strip
+strip_entries t = refl
+
+pub stripped_list : (t : Tree) (nodes made : List Node) (i : ℕ) → IsListOf nodes t → length nodes ≤ i → entries_of made ≡ refine_list revs (bared_in t) (entries_of (take i nodes)) → IsListOf made (strip t)
+stripped_list t nodes made i h le e = record {
+  entries = strip_entries t ∙ ap (refine_list revs (bared_in t)) h.entries ∙ ap (λ ns. refine_list revs (bared_in t) (entries_of ns)) (sym (take_all i nodes le)) ∙ sym e;
+  tree = IsTree-strip t h.tree;
+  range = IsInRange-strip t h.range;
+}
+
+pub pushed_entries : (old new : List Node) (n : Node) (xs : List (Rev × Revision)) → new ≡ old ++ n ∷ [] → xs ≡ entry_of n ∷ [] → entries_of new ≡ entries_of old ++ xs
+pushed_entries old new n xs e is = ap entries_of e ∙ map-append entry_of old (n ∷ []) ∙ ap (λ ys. entries_of old ++ ys) (sym is)
+
+-- ---- the leaves that a cut takes
+
+abbrev pub added : Tree → List Rev → Rev → List Rev
+added t rs r = if is_leaf t r && not (among rs r) then rs ++ r ∷ [] else rs
+
+seen : (named : List Rev) (t : Tree) (r : Rev) → is_leaf t r ≡ true → among (removed_leaves named t) r ≡ among named r
+seen named t r l = both_ways _ _
+    (λ h. (Contains-among named r).1 ((Contains-removed_leaves named t r).0 ((Contains-among (removed_leaves named t) r).0 h)).0)
+    (λ h. (Contains-among (removed_leaves named t) r).1 ((Contains-removed_leaves named t r).1 ((Contains-among named r).0 h, l)))
+
+pub added_next : (named : List Rev) (t : Tree) (i : ℕ) (r : Rev) (old new : List Rev) → i < length named → r ≡ get_or named i r → old ≡ removed_leaves (take i named) t → new ≡ added t old r → new ≡ removed_leaves (take (i + 1) named) t
+added_next named t i r old new lt is before e =
+    e ∙ ap (λ rs. added t rs r) before ∙ at (is_leaf t r) refl ∙ sym (removed_leaves-push (take i named) t r)
+    ∙ ap (λ q. removed_leaves (take i named ++ q ∷ []) t) is ∙ ap (λ rs. removed_leaves rs t) (sym (take_more named i r lt))
+  where
+    at : (b : Bool) → is_leaf t r ≡ b → added t (removed_leaves (take i named) t) r ≡ cond (is_leaf t r && not (among (take i named) r)) (removed_leaves (take i named) t ++ r ∷ []) (removed_leaves (take i named) t)
+    at true l = ap (λ b. cond (is_leaf t r && not b) (removed_leaves (take i named) t ++ r ∷ []) (removed_leaves (take i named) t)) (seen (take i named) t r l)
+    at false l = cond-false (is_leaf t r && not (among (removed_leaves (take i named) t) r)) (removed_leaves (take i named) t ++ r ∷ []) (removed_leaves (take i named) t) (and_left (is_leaf t r) (not (among (removed_leaves (take i named) t) r)) l)
+        ∙ sym (cond-false (is_leaf t r && not (among (take i named) r)) (removed_leaves (take i named) t ++ r ∷ []) (removed_leaves (take i named) t) (and_left (is_leaf t r) (not (among (take i named) r)) l))
+
+pub not_added : (t : Tree) (rs : List Rev) (r : Rev) → is_leaf t r ≡ false → rs ≡ added t rs r
+not_added t rs r l = sym (cond-false (is_leaf t r && not (among rs r)) (rs ++ r ∷ []) rs (and_left (is_leaf t r) (not (among rs r)) l))
+
+pub there_already : (t : Tree) (rs : List Rev) (r : Rev) → among rs r ≡ true → rs ≡ added t rs r
+there_already t rs r e = sym (cond-false (is_leaf t r && not (among rs r)) (rs ++ r ∷ []) rs (and_right (is_leaf t r) (not (among rs r)) (ap not e)))
+
+pub is_added : (t : Tree) (rs : List Rev) (r : Rev) → is_leaf t r ≡ true → among rs r ≡ false → rs ++ r ∷ [] ≡ added t rs r
+is_added t rs r l e = sym (cond-true (is_leaf t r && not (among rs r)) (rs ++ r ∷ []) rs (and_from (is_leaf t r) (not (among rs r)) l (ap not e)))

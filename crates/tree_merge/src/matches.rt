@@ -1,0 +1,49 @@
+//! Whether two trees are one.
+ghost use Rattle.std.specs.Prelude.{◌≡◌, option_map};
+ghost use Rattle.std.specs.Arc.{arc_value};
+ghost use Rattle.std.specs.Option.{option_eq};
+ghost use Rattle.model.specs.Body.{same_body};
+ghost use Rattle.model.specs.Database.{same_tree, same_entry};
+ghost use Rattle.revision_tree.specs.Nodes.{entry_of};
+
+use json_profile::Body;
+use revision_tree::{Node, RevTree};
+use std::sync::Arc;
+
+/// Whether the two have the same revisions, parents, flags and bodies. Takes no memory.
+pub fn is_same(one: &RevTree, other: &RevTree) -> bool
+    ensures { result ≡ same_tree one.now other.now }
+{
+    let mine = one.nodes();
+    let theirs = other.nodes();
+    if mine.len() != theirs.len() {
+        return false;
+    }
+    for place in 0..mine.len() {
+        if !is_same_node(&mine[place], &theirs[place]) {
+            return false;
+        }
+    }
+    true
+}
+
+fn is_same_node(one: &Node, other: &Node) -> bool
+    ensures { result ≡ same_entry (entry_of one.now) (entry_of other.now) }
+{
+    one.rev == other.rev
+        && (one.parent == other.parent
+            && one.deleted == other.deleted
+            && is_same_body(&one.body, &other.body))
+}
+
+fn is_same_body(one: &Option<Arc<Body>>, other: &Option<Arc<Body>>) -> bool
+    ensures { result ≡ option_eq same_body (option_map arc_value one.now) (option_map arc_value other.now) }
+{
+    let Some(one) = one else {
+        return other.is_none();
+    };
+    let Some(other) = other else {
+        return false;
+    };
+    one.is_same(other)
+}

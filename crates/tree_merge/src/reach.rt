@@ -1,0 +1,77 @@
+//! How many steps above each revision are kept.
+ghost use Rattle.std.specs.Prelude.{◌≡◌, ℕ, IfOk, length, map};
+ghost use Rattle.model.specs.Map.{entries};
+ghost use Rattle.model.specs.Revision.{Rev};
+ghost use Rattle.tree_merge.specs.Reach.{first_mark, reach, raised};
+
+use revision_id::RevId;
+use revision_tree::RevTree;
+use std::alloc::{AllocError, Global};
+
+/// Of each revision how many are kept from it up, itself among them: `limit` from a leaf that isn't named, one fewer with
+/// each step up, and the most of what several leaves give.
+pub(crate) fn marks(
+    alloc: Global,
+    tree: &RevTree,
+    named: &[RevId],
+    limit: u32,
+) -> Result<Vec<u32>, AllocError>
+    ensures { IfOk result (λ marks. marks.items ≡ map (λ e. reach (first_mark limit named.now tree.now) (entries tree.now) e.0) (entries tree.now)) }
+{
+    let mut marks = first_marks(alloc, tree, named, limit)?;
+    carry(tree, &mut marks);
+    Ok(marks)
+}
+
+fn first_marks(
+    alloc: Global,
+    tree: &RevTree,
+    named: &[RevId],
+    limit: u32,
+) -> Result<Vec<u32>, AllocError>
+    ensures { IfOk result (λ marks. marks.items ≡ map (λ e. first_mark limit named.now tree.now e.0) (entries tree.now)) }
+{
+    let nodes = tree.nodes();
+    let mut marks = Vec::new(alloc);
+    for node in nodes {
+        marks.push(mark_of(tree, named, limit, node.rev))?;
+    }
+    Ok(marks)
+}
+
+fn mark_of(tree: &RevTree, named: &[RevId], limit: u32, rev: RevId) -> u32
+    ensures { result ≡ first_mark limit named.now tree.now rev }
+{
+    if !tree.is_leaf(rev) {
+        return 0;
+    }
+    if named.contains(&rev) {
+        return 0;
+    }
+    limit
+}
+
+/// Carries the marks up, from the youngest on.
+fn carry(tree: &RevTree, marks: &mut [u32])
+    requires { length marks.old ≡ length (entries tree.now) }
+    ensures { (g : Rev → ℕ) → marks.old ≡ map (λ e. g e.0) (entries tree.now) → marks.new ≡ map (λ e. reach g (entries tree.now) e.0) (entries tree.now) }
+{
+    let nodes = tree.nodes();
+    for place in (0..nodes.len()).rev() {
+        let mark = marks[place].saturating_sub(1);
+        raise(tree, marks, nodes[place].parent, mark);
+    }
+}
+
+/// Raises the mark of a parent.
+fn raise(tree: &RevTree, marks: &mut [u32], parent: Option<RevId>, mark: u32)
+    requires { length marks.old ≡ length (entries tree.now) }
+    ensures { (g : Rev → ℕ) → marks.old ≡ map (λ e. g e.0) (entries tree.now) → marks.new ≡ map (λ e. raised parent mark g e.0) (entries tree.now) }
+{
+    let Some(parent) = parent else {
+        return;
+    };
+    if let Some(place) = tree.place_of(parent) {
+        marks[place] = marks[place].max(mark);
+    }
+}
