@@ -8,22 +8,28 @@ use streams::scripted::{ScriptedReader, ScriptedWriter, Step};
 
 const PUT_A: &[u8] = b"PUT /db/a HTTP/1.1\r\nContent-Length: 2\r\n\r\n{}";
 
-const PUT_A_TWICE: &[u8] = b"PUT /db/a HTTP/1.1\r\nContent-Length: 2\r\n\r\n{}PUT /db/a HTTP/1.1\r\nContent-Length: 2\r\n\r\n{}";
+const PUT_A_TWICE: &[u8] =
+    b"PUT /db/a HTTP/1.1\r\nContent-Length: 2\r\n\r\n{}PUT /db/a HTTP/1.1\r\nContent-Length: 2\r\n\r\n{}";
 
 const PUT_AND_GET_A: &[u8] =
     b"PUT /db/a HTTP/1.1\r\nContent-Length: 2\r\n\r\n{}GET /db/a HTTP/1.1\r\n\r\n";
 
-const PUT_NUMBERS: &[u8] = b"PUT /db/n HTTP/1.1\r\nContent-Length: 25\r\n\r\n{\"n\":9223372036854775807}PUT /db/m HTTP/1.1\r\nContent-Length: 25\r\n\r\n{\"n\":9223372036854775808}";
+const PUT_NUMBERS: &[u8] =
+    b"PUT /db/n HTTP/1.1\r\nContent-Length: 25\r\n\r\n{\"n\":9223372036854775807}PUT /db/m HTTP/1.1\r\nContent-Length: 25\r\n\r\n{\"n\":9223372036854775808}";
 
 const A_LONGER_BODY: &[u8] = b"PUT /db/a HTTP/1.1\r\nContent-Length: 3\r\n\r\n{}";
 
-const CREATED_A: &[u8] = b"HTTP/1.1 201 Created\r\nContent-Type: application/json\r\nContent-Length: 63\r\nCouch-Place: 1\r\n\r\n{\"id\":\"a\",\"ok\":true,\"rev\":\"1-b7a5841aeb59f1be5d0e27b640827094\"}";
+const CREATED_A: &[u8] =
+    b"HTTP/1.1 201 Created\r\nContent-Type: application/json\r\nContent-Length: 63\r\nCouch-Place: 1\r\n\r\n{\"id\":\"a\",\"ok\":true,\"rev\":\"1-b7a5841aeb59f1be5d0e27b640827094\"}";
 
-const CONFLICT: &[u8] = b"HTTP/1.1 201 Created\r\nContent-Type: application/json\r\nContent-Length: 63\r\nCouch-Place: 1\r\n\r\n{\"id\":\"a\",\"ok\":true,\"rev\":\"1-b7a5841aeb59f1be5d0e27b640827094\"}HTTP/1.1 409 Conflict\r\nContent-Type: application/json\r\nContent-Length: 57\r\nCouch-Place: 2\r\n\r\n{\"error\":\"conflict\",\"reason\":\"Document update conflict.\"}";
+const CONFLICT: &[u8] =
+    b"HTTP/1.1 201 Created\r\nContent-Type: application/json\r\nContent-Length: 63\r\nCouch-Place: 1\r\n\r\n{\"id\":\"a\",\"ok\":true,\"rev\":\"1-b7a5841aeb59f1be5d0e27b640827094\"}HTTP/1.1 409 Conflict\r\nContent-Type: application/json\r\nContent-Length: 57\r\nCouch-Place: 2\r\n\r\n{\"error\":\"conflict\",\"reason\":\"Document update conflict.\"}";
 
-const CREATED_AND_FOUND_A: &[u8] = b"HTTP/1.1 201 Created\r\nContent-Type: application/json\r\nContent-Length: 63\r\nCouch-Place: 1\r\n\r\n{\"id\":\"a\",\"ok\":true,\"rev\":\"1-b7a5841aeb59f1be5d0e27b640827094\"}HTTP/1.1 200 OK\r\nContent-Type: application/json\r\nContent-Length: 55\r\nCouch-Place: 1\r\n\r\n{\"_id\":\"a\",\"_rev\":\"1-b7a5841aeb59f1be5d0e27b640827094\"}";
+const CREATED_AND_FOUND_A: &[u8] =
+    b"HTTP/1.1 201 Created\r\nContent-Type: application/json\r\nContent-Length: 63\r\nCouch-Place: 1\r\n\r\n{\"id\":\"a\",\"ok\":true,\"rev\":\"1-b7a5841aeb59f1be5d0e27b640827094\"}HTTP/1.1 200 OK\r\nContent-Type: application/json\r\nContent-Length: 55\r\nCouch-Place: 1\r\n\r\n{\"_id\":\"a\",\"_rev\":\"1-b7a5841aeb59f1be5d0e27b640827094\"}";
 
-const A_NUMBER_TOO_LARGE: &[u8] = b"HTTP/1.1 201 Created\r\nContent-Type: application/json\r\nContent-Length: 63\r\nCouch-Place: 1\r\n\r\n{\"id\":\"n\",\"ok\":true,\"rev\":\"1-2bd4f50ce7065c614af5a47da249f585\"}HTTP/1.1 400 Bad Request\r\nContent-Type: application/json\r\nContent-Length: 41\r\nCouch-Place: 1\r\n\r\n{\"error\":\"bad_request\",\"reason\":\"number\"}";
+const A_NUMBER_TOO_LARGE: &[u8] =
+    b"HTTP/1.1 201 Created\r\nContent-Type: application/json\r\nContent-Length: 63\r\nCouch-Place: 1\r\n\r\n{\"id\":\"n\",\"ok\":true,\"rev\":\"1-2bd4f50ce7065c614af5a47da249f585\"}HTTP/1.1 400 Bad Request\r\nContent-Type: application/json\r\nContent-Length: 41\r\nCouch-Place: 1\r\n\r\n{\"error\":\"bad_request\",\"reason\":\"number\"}";
 
 /// An input, and what has to come of it.
 #[derive(Drop)]
