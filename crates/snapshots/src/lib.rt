@@ -4,8 +4,6 @@
 mod content;
 mod documents;
 mod record;
-#[cfg(test)]
-mod tests;
 mod version;
 mod written;
 
