@@ -15,7 +15,12 @@ pub data Pattern : Type 0 where
 -- the routes with their paths; where a path fits several, the first counts
 abbrev pub routes : List (Pattern × Route)
 routes =
-    (Plain (codes "/db/_revs_limit"), route.RevsLimit)
+    (Plain (codes "/db/_all_docs"), route.AllDocs)
+    ∷ (Plain (codes "/db/_bulk_docs"), route.BulkDocs)
+    ∷ (Plain (codes "/db/_changes"), route.Changes)
+    ∷ (WithId (codes "/db/_local/"), route.Local)
+    ∷ (Plain (codes "/db/_revs_diff"), route.RevsDiff)
+    ∷ (Plain (codes "/db/_revs_limit"), route.RevsLimit)
     ∷ (WithId (codes "/db/"), route.Document)
     ∷ (Plain (codes "/db/"), route.DatabaseSlash)
     ∷ (Plain (codes "/db"), route.Database)
@@ -26,6 +31,11 @@ abbrev pub methods_of : Route → List Method
 methods_of route.Root = method.Get ∷ []
 methods_of route.Database = method.Get ∷ []
 methods_of route.DatabaseSlash = method.Get ∷ []
+methods_of route.AllDocs = method.Get ∷ []
+methods_of route.BulkDocs = method.Post ∷ []
+methods_of route.Changes = method.Get ∷ []
+methods_of route.Local = method.Get ∷ method.Put ∷ method.Delete ∷ []
+methods_of route.RevsDiff = method.Post ∷ []
 methods_of route.RevsLimit = method.Get ∷ method.Put ∷ []
 methods_of route.Document = method.Get ∷ method.Put ∷ method.Delete ∷ []
 
@@ -33,11 +43,12 @@ methods_of route.Document = method.Get ∷ method.Put ∷ method.Delete ∷ []
 abbrev pub name_of : Method → List ℕ
 name_of method.Get = codes "GET"
 name_of method.Put = codes "PUT"
+name_of method.Post = codes "POST"
 name_of method.Delete = codes "DELETE"
 
 -- the methods of all routes
 abbrev pub methods : List Method
-methods = method.Get ∷ method.Put ∷ method.Delete ∷ []
+methods = method.Get ∷ method.Put ∷ method.Post ∷ method.Delete ∷ []
 
 -- the method of this name
 abbrev pub method_named : List ℕ → Option Method

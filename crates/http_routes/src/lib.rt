@@ -24,6 +24,16 @@ pub enum Route {
     Database,
     /// `/db/`
     DatabaseSlash,
+    /// `/db/_all_docs`
+    AllDocs,
+    /// `/db/_bulk_docs`
+    BulkDocs,
+    /// `/db/_changes`
+    Changes,
+    /// `/db/_local/ID`
+    Local,
+    /// `/db/_revs_diff`
+    RevsDiff,
     /// `/db/_revs_limit`
     RevsLimit,
     /// `/db/ID`
@@ -35,11 +45,12 @@ pub enum Route {
 pub enum Method {
     Get,
     Put,
+    Post,
     Delete,
 }
 
 /// The methods of all routes.
-const METHODS: [Method; 3] = [Method::Get, Method::Put, Method::Delete];
+const METHODS: [Method; 4] = [Method::Get, Method::Put, Method::Post, Method::Delete];
 
 impl Method {
     /// The method of this name, which is told apart by case.
@@ -59,6 +70,7 @@ impl Method {
         match self {
             Method::Get => "GET",
             Method::Put => "PUT",
+            Method::Post => "POST",
             Method::Delete => "DELETE",
         }
     }
@@ -71,17 +83,24 @@ impl Route {
     {
         match self {
             Route::Root | Route::Database | Route::DatabaseSlash => &[Method::Get],
+            Route::AllDocs | Route::Changes => &[Method::Get],
+            Route::BulkDocs | Route::RevsDiff => &[Method::Post],
             Route::RevsLimit => &[Method::Get, Method::Put],
-            Route::Document => &[Method::Get, Method::Put, Method::Delete],
+            Route::Local | Route::Document => &[Method::Get, Method::Put, Method::Delete],
         }
     }
 }
 
 /// The paths of the routes, as `matchit` writes them.
-const TABLE: [(&str, Route); 5] = [
+const TABLE: [(&str, Route); 10] = [
     ("/", Route::Root),
     ("/db", Route::Database),
     ("/db/", Route::DatabaseSlash),
+    ("/db/_all_docs", Route::AllDocs),
+    ("/db/_bulk_docs", Route::BulkDocs),
+    ("/db/_changes", Route::Changes),
+    ("/db/_local/{id}", Route::Local),
+    ("/db/_revs_diff", Route::RevsDiff),
     ("/db/_revs_limit", Route::RevsLimit),
     ("/db/{id}", Route::Document),
 ];
@@ -154,9 +173,25 @@ mod tests {
         assert_eq!(rt; routes.at("/db"), Some(Route::Database));
         assert_eq!(rt; routes.at("/db/"), Some(Route::DatabaseSlash));
         assert_eq!(rt; routes.at("/db/_revs_limit"), Some(Route::RevsLimit));
-        assert_eq!(rt; routes.at("/db/_changes"), Some(Route::Document));
+        assert_eq!(rt; routes.at("/db/_all_docs"), Some(Route::AllDocs));
+        assert_eq!(rt; routes.at("/db/_bulk_docs"), Some(Route::BulkDocs));
+        assert_eq!(rt; routes.at("/db/_changes"), Some(Route::Changes));
+        assert_eq!(rt; routes.at("/db/_local/a"), Some(Route::Local));
+        assert_eq!(rt; routes.at("/db/_revs_diff"), Some(Route::RevsDiff));
+        assert_eq!(rt; routes.at("/db/_local"), Some(Route::Document));
+        assert_eq!(rt; routes.at("/db/_changes2"), Some(Route::Document));
         for path in [
-            "", "//", "/db//", "/db//a", "/db/a/", "/db/a/b", "/dba", "db/a",
+            "",
+            "//",
+            "/db//",
+            "/db//a",
+            "/db/a/",
+            "/db/a/b",
+            "/db/_local/",
+            "/db/_local/a/b",
+            "/db/_changes/a",
+            "/dba",
+            "db/a",
         ] {
             assert_eq!(rt; routes.at(path), None);
         }
