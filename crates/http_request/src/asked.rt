@@ -1,6 +1,6 @@
 //! What can be asked.
 
-use commands::{Command, Query};
+use commands::{Command, Query, Style};
 
 /// What a request asks.
 #[derive(Drop)]
@@ -11,6 +11,9 @@ pub enum Asked {
     Command(Form, Command),
     /// To read the database.
     Query(Query),
+    /// To read the changes after the update number that the database has, at most `limit` rows
+    /// where there is a limit.
+    ChangesFromNow { limit: Option<u64>, style: Style },
 }
 
 /// How the reply to a command is told.
