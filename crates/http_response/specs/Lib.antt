@@ -2,5 +2,6 @@ pub mod Response
 pub mod Problem
 pub mod Document
 pub mod List
+pub mod Bulk
 pub mod Told
 pub mod Texts

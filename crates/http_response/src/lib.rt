@@ -5,6 +5,7 @@
 //! and a JSON text as its body. `specs/Texts.antt` says each text byte by byte.
 
 mod answered;
+mod bulk;
 mod connection;
 mod document;
 mod fixed;
