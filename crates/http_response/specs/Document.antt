@@ -1,5 +1,5 @@
 -- Documents and revisions, as answers write them.
-use Rattle.std.specs.Prelude.{ℕ, Bool, true, List, [], ◌∷◌, map, Option, Some, None, codes, if◌then◌else◌}
+use Rattle.std.specs.Prelude.{ℕ, Bool, true, List, [], ◌∷◌, ◌++◌, map, Option, Some, None, codes, decimal, if◌then◌else◌}
 use Rattle.hex.specs.Hex.{encode_lower}
 use Rattle.serde_json.specs.Data.{Data, unsigned, number, string, boolean, array, object, Members, no_members, member, put}
 use Rattle.serde_json.specs.View.{items_of}
@@ -22,6 +22,19 @@ write_data id rev =
 
 abbrev pub written_data : Id → Rev → Data
 written_data id rev = write_data id (rev_text rev)
+
+-- ---- what is told of a local document
+
+-- `_local/ID`
+abbrev pub local_id : Id → List ℕ
+local_id id = codes "_local/" ++ id
+
+-- `0-k`
+abbrev pub counter_text : ℕ → List ℕ
+counter_text counter = codes "0-" ++ decimal counter
+
+abbrev pub local_written_data : Id → ℕ → Data
+local_written_data id counter = write_data (local_id id) (counter_text counter)
 
 -- ---- the revisions of a document
 

@@ -1,5 +1,7 @@
 pub mod Response
 pub mod Problem
 pub mod Document
+pub mod List
+pub mod Bulk
 pub mod Told
 pub mod Texts

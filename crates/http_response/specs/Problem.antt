@@ -14,7 +14,7 @@ use Rattle.http_response.specs.declared.response.Allow.TheVariants as allow
 
 -- the name of an error, and its reason
 abbrev pub problem_text : List ℕ → List ℕ → List ℕ
-problem_text error why = codes "{\"error\":\"" ++ error ++ codes "\",\"reason\":\"" ++ why ++ codes "\"}"
+problem_text error why = codes "{\"error\":\"" ++ (error ++ (codes "\",\"reason\":\"" ++ (why ++ codes "\"}")))
 
 abbrev pub reason_name : Reason → List ℕ
 reason_name reason.Id = codes "id"

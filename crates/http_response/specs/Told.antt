@@ -1,13 +1,15 @@
 -- The status and the body that tell what became of a command, or what a query is answered.
 use Rattle.std.specs.Prelude.{ℕ, List, [], ◌∷◌, Result, Ok, Err, codes}
-use Rattle.serde_json.specs.Data.{number, unsigned}
+use Rattle.serde_json.specs.Data.{Data, number, unsigned, array}
+use Rattle.serde_json.specs.View.{items_of}
 use Rattle.serde_json.specs.Written.{compact_text}
-use Rattle.model.specs.Command.{Id, Edit, Command, Edits, Merges, PutLocal, Purge, SetLimit, Compact, Refusal, Reply, Wrote, WroteLocal, Purged, Done}
+use Rattle.model.specs.Command.{Id, Edit, Merge, Command, Edits, Merges, PutLocal, Refusal, Reply, Wrote, WroteLocal}
 use Rattle.model.specs.Query.{Query, Answer, Document, Absent, Counted, Found, Limit}
 use Rattle.model.specs.Revision.{Rev}
 use Rattle.http_request.specs.declared.asked.Form.{Form}
 use Rattle.http_request.specs.declared.asked.Form.TheVariants as form
-use Rattle.http_response.specs.Document.{counts_data, written_data, document_data}
+use Rattle.http_response.specs.Bulk.{edits_data, merges_data}
+use Rattle.http_response.specs.Document.{counts_data, written_data, local_written_data, document_data}
 use Rattle.http_response.specs.Problem.{write_status, write_problem, absent_problem}
 use Rattle.http_response.specs.declared.response.Status.{Status}
 use Rattle.http_response.specs.declared.response.Status.TheVariants as status
@@ -19,10 +21,18 @@ Told = Status × List ℕ
 abbrev pub done : Told
 done = (status.Ok, codes "{\"ok\":true}")
 
+-- a list
+abbrev pub told_list : Status → List Data → Told
+told_list status items = (status, compact_text (array (items_of items)))
+
+-- a write that was refused
+abbrev pub told_refused : Refusal → Told
+told_refused refusal = (write_status refusal, write_problem refusal)
+
 -- one write
 abbrev pub told_one : Status → Id → Result Rev Refusal → Told
 told_one status id (Ok rev) = (status, compact_text (written_data id rev))
-told_one status id (Err refusal) = (write_status refusal, write_problem refusal)
+told_one status id (Err refusal) = told_refused refusal
 
 -- the first write, where there is one
 abbrev pub told_first : Status → List Edit → List (Result Rev Refusal) → Told
@@ -34,10 +44,28 @@ told_first status (edit ∷ edits) (outcome ∷ outcomes) = told_one status edit
 abbrev pub told_edits : Form → List Edit → List (Result Rev Refusal) → Told
 told_edits form.Put edits outcomes = told_first status.Created edits outcomes
 told_edits form.Delete edits outcomes = told_first status.Ok edits outcomes
-told_edits form.Whole edits outcomes = done
+told_edits form.Whole edits outcomes = told_list status.Created (edits_data edits outcomes)
 
+-- merges: the refusals alone
+abbrev pub told_merges : List Merge → List (Result Rev Refusal) → Told
+told_merges merges outcomes = told_list status.Created (merges_data merges outcomes)
+
+-- a write of a local document
+abbrev pub told_local_one : Status → Id → Result ℕ Refusal → Told
+told_local_one status id (Ok counter) = (status, compact_text (local_written_data id counter))
+told_local_one status id (Err refusal) = told_refused refusal
+
+-- a write of a local document, in a form, which is never the last
+abbrev pub told_local : Form → Id → Result ℕ Refusal → Told
+told_local form.Put id outcome = told_local_one status.Created id outcome
+told_local form.Delete id outcome = told_local_one status.Ok id outcome
+told_local form.Whole id outcome = done
+
+-- the last row has the limit alone: no command is answered a reply of another form than its own
 abbrev pub reply_told : Form → Command → Reply → Told
 reply_told form (Edits edits) (Wrote outcomes) = told_edits form edits outcomes
+reply_told form (Merges merges) (Wrote outcomes) = told_merges merges outcomes
+reply_told form (PutLocal id named body) (WroteLocal outcome) = told_local form id outcome
 reply_told form command reply = done
 
 -- ---- answers

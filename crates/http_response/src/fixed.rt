@@ -5,7 +5,9 @@ ghost use Rattle.http_response.specs.Problem.{refusal_allow, refusal_body, refus
 ghost use Rattle.http_response.specs.Texts.{closing_text, full_text, refusal_text, welcome_text};
 
 use crate::connection::Connection;
+use crate::problem::body_of_absent;
 use crate::response::{Allow, Status, response};
+use commands::AbsentKind;
 use http_framing::FramingFault;
 use http_request::{Reason, Refusal};
 use std::alloc::{AllocError, Global};
@@ -48,7 +50,7 @@ fn body_of(refusal: Refusal) -> &'static str
     ensures { result.now ≡ refusal_body refusal }
 {
     match refusal {
-        Refusal::Missing => r#"{"error":"not_found","reason":"missing"}"#,
+        Refusal::Missing => body_of_absent(AbsentKind::IsMissing),
         Refusal::MethodNotAllowed(_) => {
             r#"{"error":"method_not_allowed","reason":"Method not allowed."}"#
         }

@@ -5,9 +5,11 @@
 //! and a JSON text as its body. `specs/Texts.antt` says each text byte by byte.
 
 mod answered;
+mod bulk;
 mod connection;
 mod document;
 mod fixed;
+mod list;
 mod lost;
 mod problem;
 mod replied;

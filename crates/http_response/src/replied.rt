@@ -2,15 +2,17 @@
 
 ghost use Rattle.std.specs.Prelude.{◌≡◌, IfOk, string_bytes};
 ghost use Rattle.commands.specs.Command.{command_of};
+ghost use Rattle.commands.specs.Refusal.{refusal_of};
 ghost use Rattle.commands.specs.Reply.{reply_of};
 ghost use Rattle.http_response.specs.Texts.{reply_text};
-ghost use Rattle.http_response.specs.Told.{done, reply_told, told_edits, told_first, told_one};
+ghost use Rattle.http_response.specs.Told.{done, reply_told, told_edits, told_first, told_local, told_local_one, told_one, told_refused};
 
+use crate::bulk::{edits_text, merges_text};
 use crate::connection::Connection;
-use crate::document::written_text;
-use crate::problem::{body_of, status_of};
+use crate::document::{local_written_text, written_text};
+use crate::problem::{refusal_text, status_of};
 use crate::response::{Allow, Status, response};
-use commands::{Command, CommandKind, Edit, Refusal, Reply, ReplyKind};
+use commands::{Command, CommandKind, Edit, Refusal, RefusalKind, Reply, ReplyKind};
 use document_id::DocId;
 use http_request::Form;
 use revision_id::RevId;
@@ -53,6 +55,12 @@ fn tell(
         (CommandKind::Edits(edits), ReplyKind::Wrote(outcomes)) => {
             tell_edits(alloc, form, edits, outcomes)
         }
+        (CommandKind::Merges(merges), ReplyKind::Wrote(outcomes)) => {
+            Ok((Status::Created, merges_text(alloc, merges, outcomes)?))
+        }
+        (CommandKind::PutLocal { id, .. }, ReplyKind::WroteLocal(outcome)) => {
+            tell_local(alloc, form, id, outcome)
+        }
         _ => tell_done(alloc),
     }
 }
@@ -75,7 +83,7 @@ fn tell_edits(
     match form {
         Form::Put => tell_first(alloc, Status::Created, edits, outcomes),
         Form::Delete => tell_first(alloc, Status::Ok, edits, outcomes),
-        Form::Whole => tell_done(alloc),
+        Form::Whole => Ok((Status::Created, edits_text(alloc, edits, outcomes)?)),
     }
 }
 
@@ -109,9 +117,45 @@ fn tell_one(
 {
     match outcome {
         Ok(rev) => Ok((status, written_text(alloc, id, rev)?)),
-        Err(refusal) => {
-            let kind = refusal.kind();
-            Ok((status_of(kind), String::from_str(alloc, body_of(kind))?))
-        }
+        Err(refusal) => tell_refused(alloc, refusal.kind()),
+    }
+}
+
+fn tell_refused(alloc: Global, refusal: RefusalKind) -> Result<(Status, String), AllocError>
+    ensures { IfOk result (λ told. (told.0, string_bytes told.1)
+        ≡ told_refused (refusal_of refusal)) }
+{
+    Ok((status_of(refusal), refusal_text(alloc, refusal)?))
+}
+
+/// Tells of the write of a local document.
+fn tell_local(
+    alloc: Global,
+    form: Form,
+    id: &DocId,
+    outcome: &Result<u32, Refusal>,
+) -> Result<(Status, String), AllocError>
+    ensures { IfOk result (λ told. (told.0, string_bytes told.1)
+        ≡ told_local form id.now outcome.now) }
+{
+    match form {
+        Form::Put => tell_local_one(alloc, Status::Created, id, outcome),
+        Form::Delete => tell_local_one(alloc, Status::Ok, id, outcome),
+        Form::Whole => tell_done(alloc),
+    }
+}
+
+fn tell_local_one(
+    alloc: Global,
+    status: Status,
+    id: &DocId,
+    outcome: &Result<u32, Refusal>,
+) -> Result<(Status, String), AllocError>
+    ensures { IfOk result (λ told. (told.0, string_bytes told.1)
+        ≡ told_local_one status id.now outcome.now) }
+{
+    match outcome {
+        Ok(counter) => Ok((status, local_written_text(alloc, id, *counter)?)),
+        Err(refusal) => tell_refused(alloc, refusal.kind()),
     }
 }
