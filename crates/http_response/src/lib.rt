@@ -8,6 +8,7 @@ mod answered;
 mod connection;
 mod document;
 mod fixed;
+mod list;
 mod lost;
 mod problem;
 mod replied;
