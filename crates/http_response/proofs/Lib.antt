@@ -1,3 +1,6 @@
+pub mod AnswerTexts
 pub mod Floats
 pub mod ListTexts
 pub mod LostTexts
+pub mod ObjectTexts
+pub mod PlainRows
