@@ -3,15 +3,15 @@ use Rattle.std.proofs.Common.{◌≡◌, ℕ, List, [], ◌∷◌, map, Option, 
 use Rattle.std.specs.Prelude.{codes}
 use Rattle.std.specs.Cmp.Lexicographic.{slice_cmp}
 use Rattle.std.specs.Ordering.{match_ordering}
-use Rattle.serde_json.specs.Data.{Data, boolean, string, array, Members, no_members, member, put}
+use Rattle.serde_json.specs.Data.{Data, boolean, string, Members, no_members, member, put}
 use Rattle.serde_json.specs.View.{items_of}
 use Rattle.serde_json.specs.Written.{has_float, items_have_float, members_have_float}
 use Rattle.model.specs.Query.{Document, Status}
 use Rattle.hex.specs.Hex.{encode_lower}
 use Rattle.model.specs.Revision.{Rev, rev_text}
-use Rattle.http_response.specs.Document.{named_members, rev_data, revs_data, hash_data, info_data, infos_data, revisions_data, with_flag, with_revs, with_revisions, with_infos, told_members}
+use Rattle.http_response.specs.Document.{named_members, rev_data, revs_data, info_data, infos_data, revisions_data, with_flag, with_revs, with_revisions, with_infos, told_members}
 
-neither : (a b : Bool) → a ≡ false → b ≡ false → (a || b) ≡ false
+pub neither : (a b : Bool) → a ≡ false → b ≡ false → (a || b) ≡ false
 neither false b p q = q
 neither true b p q = absurd (true≢false p)
 
@@ -37,7 +37,7 @@ no_float-put k d (member l e ms) p q =
 
 -- ---- lists
 
-no_float-texts : (f : Rev → List ℕ) (revs : List Rev) → items_have_float (items_of (map (λ r. string (f r)) revs)) ≡ false
+pub no_float-texts : (f : Rev → List ℕ) (revs : List Rev) → items_have_float (items_of (map (λ r. string (f r)) revs)) ≡ false
 no_float-texts f [] = refl
 no_float-texts f (rev ∷ revs) = no_float-texts f revs
 

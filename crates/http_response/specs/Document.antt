@@ -1,8 +1,9 @@
 -- Documents and revisions, as answers write them.
-use Rattle.std.specs.Prelude.{ℕ, Bool, true, List, [], ◌∷◌, ◌++◌, map, Option, Some, None, codes, decimal, if◌then◌else◌}
+use Rattle.std.specs.Prelude.{ℕ, Bool, true, List, [], ◌∷◌, ◌++◌, map, Option, Some, None, codes, decimal, if◌then◌else◌, Result, Ok, Err}
 use Rattle.hex.specs.Hex.{encode_lower}
 use Rattle.serde_json.specs.Data.{Data, unsigned, number, string, boolean, array, object, Members, no_members, member, put}
 use Rattle.serde_json.specs.View.{items_of}
+use Rattle.model.specs.Body.{Body}
 use Rattle.model.specs.Command.{Id}
 use Rattle.model.specs.Query.{Counts, Document, Status, Available, IsDeleted, NoBody}
 use Rattle.model.specs.Revision.{Rev, rev_text}
@@ -92,6 +93,27 @@ told_members d members =
 
 abbrev pub document_data : Document → Data
 document_data d = object (told_members d (named_members d.id d.rev d.deleted d.body))
+
+-- `{"ok":document}`, or `{"missing":r}`
+abbrev pub opened_data : Result Document Rev → Data
+opened_data (Ok document) = object (member (codes "ok") (document_data document) no_members)
+opened_data (Err rev) = object (member (codes "missing") (rev_data rev) no_members)
+
+abbrev pub all_opened_data : List (Result Document Rev) → Data
+all_opened_data opened = array (items_of (map opened_data opened))
+
+-- ---- a local document
+
+-- `_local/ID`
+abbrev pub local_id : Id → List ℕ
+local_id id = codes "_local/" ++ id
+
+-- `0-k`
+abbrev pub counter_text : ℕ → List ℕ
+counter_text counter = codes "0-" ++ decimal counter
+
+abbrev pub local_data : Id → ℕ × Body → Data
+local_data id local = object (put (codes "_rev") (string (counter_text local.0)) (put (codes "_id") (string (local_id id)) local.1))
 
 -- ---- the database
 

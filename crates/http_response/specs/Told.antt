@@ -1,15 +1,19 @@
 -- The status and the body that tell what became of a command, or what a query is answered.
-use Rattle.std.specs.Prelude.{ℕ, List, [], ◌∷◌, Result, Ok, Err, codes}
+use Rattle.std.specs.Prelude.{ℕ, List, [], ◌∷◌, Result, Ok, Err, codes, Option, Some, None}
 use Rattle.serde_json.specs.Data.{Data, number, unsigned, array}
 use Rattle.serde_json.specs.View.{items_of}
 use Rattle.serde_json.specs.Written.{compact_text}
 use Rattle.model.specs.Command.{Id, Edit, Merge, Command, Edits, Merges, PutLocal, Refusal, Reply, Wrote, WroteLocal}
-use Rattle.model.specs.Query.{Query, Answer, Document, Absent, Counted, Found, Limit}
+use Rattle.model.specs.Query.{Query, Answer, Document, Absent, Counted, Found, Limit, GetLocal, IsMissing, Changed, Differences, Documents, FoundLocal, Opened}
 use Rattle.model.specs.Revision.{Rev}
 use Rattle.http_request.specs.declared.asked.Form.{Form}
 use Rattle.http_request.specs.declared.asked.Form.TheVariants as form
 use Rattle.http_response.specs.Bulk.{edits_data, merges_data}
-use Rattle.http_response.specs.Document.{counts_data, written_data, local_written_data, document_data}
+use Rattle.http_response.specs.Document.{counts_data, written_data, local_written_data, document_data, all_opened_data, local_data}
+use Rattle.model.specs.Body.{Body}
+use Rattle.http_response.specs.AllDocs.{all_docs_data}
+use Rattle.http_response.specs.Changes.{page_data}
+use Rattle.http_response.specs.Differences.{differences_data}
 use Rattle.http_response.specs.Problem.{write_status, write_problem, absent_problem}
 use Rattle.http_response.specs.declared.response.Status.{Status}
 use Rattle.http_response.specs.declared.response.Status.TheVariants as status
@@ -74,8 +78,22 @@ abbrev pub found_told : Result Document Absent → Told
 found_told (Ok document) = (status.Ok, compact_text (document_data document))
 found_told (Err absent) = (status.NotFound, absent_problem absent)
 
+-- the text of a value
+abbrev pub told_data : Data → Told
+told_data d = (status.Ok, compact_text d)
+
+abbrev pub local_told : Id → Option (ℕ × Body) → Told
+local_told id (Some local) = told_data (local_data id local)
+local_told id None = (status.NotFound, absent_problem IsMissing)
+
+-- only a query for a local document finds one, so the last line is never told
 abbrev pub answer_told : Query → Answer → Told
 answer_told query (Found found) = found_told found
-answer_told query (Counted counts) = (status.Ok, compact_text (counts_data counts))
-answer_told query (Limit limit) = (status.Ok, compact_text (number (unsigned limit)))
-answer_told query answer = done
+answer_told query (Opened opened) = told_data (all_opened_data opened)
+answer_told query (Differences differences) = told_data (differences_data differences)
+answer_told query (Changed page) = told_data (page_data page)
+answer_told query (Documents documents) = told_data (all_docs_data documents)
+answer_told query (Counted counts) = told_data (counts_data counts)
+answer_told query (Limit limit) = told_data (number (unsigned limit))
+answer_told (GetLocal id) (FoundLocal found) = local_told id found
+answer_told query (FoundLocal found) = done

@@ -1,18 +1,27 @@
 //! What a query is answered.
 
-ghost use Rattle.std.specs.Prelude.{◌≡◌, IfOk, string_bytes};
+ghost use Rattle.std.specs.Prelude.{◌≡◌, option_map, IfOk, string_bytes};
+ghost use Rattle.std.specs.Arc.{arc_value};
 ghost use Rattle.commands.specs.Answer.{answer_of};
+ghost use Rattle.commands.specs.Query.{query_of};
 ghost use Rattle.http_response.specs.Texts.{answer_text};
-ghost use Rattle.http_response.specs.Told.{answer_told, found_told};
+ghost use Rattle.http_response.specs.Told.{answer_told, found_told, local_told};
 
+use crate::all_docs::all_docs_text;
+use crate::changes::page_text;
 use crate::connection::Connection;
-use crate::document::document_text;
+use crate::differences::differences_text;
+use crate::document::{all_opened_text, document_text};
+use crate::local::local_text;
 use crate::problem::body_of_absent;
 use crate::replied::tell_done;
 use crate::response::{Allow, Status, response};
 use crate::written::{counts_text, number_text};
-use commands::{Absent, Answer, AnswerKind, Document, Query};
+use commands::{Absent, AbsentKind, Answer, AnswerKind, Document, Query, QueryKind};
+use document_id::DocId;
+use json_profile::Body;
 use std::alloc::{AllocError, Global};
+use std::sync::Arc;
 
 /// The response to a query.
 #[tactic(auto, unfolding(crate::specs::Texts::answer_text))]
@@ -43,9 +52,47 @@ fn tell(alloc: Global, query: &Query, answer: &AnswerKind) -> Result<(Status, St
 {
     match answer {
         AnswerKind::Found(found) => tell_found(alloc, found),
+        AnswerKind::Opened(opened) => Ok((Status::Ok, all_opened_text(alloc, opened)?)),
+        AnswerKind::Differences(differences) => {
+            Ok((Status::Ok, differences_text(alloc, differences)?))
+        }
+        AnswerKind::Changed(page) => Ok((Status::Ok, page_text(alloc, page)?)),
+        AnswerKind::Documents(documents) => Ok((Status::Ok, all_docs_text(alloc, documents)?)),
         AnswerKind::Counted(counts) => Ok((Status::Ok, counts_text(alloc, counts)?)),
+        AnswerKind::FoundLocal(found) => tell_found_local(alloc, query.kind(), found),
         AnswerKind::Limit(limit) => Ok((Status::Ok, number_text(alloc, *limit)?)),
+    }
+}
+
+/// No query but that for a local document finds one.
+fn tell_found_local(
+    alloc: Global,
+    query: &QueryKind,
+    found: &Option<(u32, Arc<Body>)>,
+) -> Result<(Status, String), AllocError>
+    ensures { IfOk result (λ told. (told.0, string_bytes told.1)
+        ≡ answer_told (query_of query.now) (answer_of (AnswerKind.FoundLocal found.now))) }
+{
+    match query {
+        QueryKind::GetLocal(id) => tell_local(alloc, id, found),
         _ => tell_done(alloc),
+    }
+}
+
+fn tell_local(
+    alloc: Global,
+    id: &DocId,
+    found: &Option<(u32, Arc<Body>)>,
+) -> Result<(Status, String), AllocError>
+    ensures { IfOk result (λ told. (told.0, string_bytes told.1)
+        ≡ local_told id.now (option_map (λ l. (l.0, arc_value l.1)) found.now)) }
+{
+    match found {
+        Some((counter, body)) => Ok((Status::Ok, local_text(alloc, id, *counter, body)?)),
+        None => {
+            let body = body_of_absent(AbsentKind::IsMissing);
+            Ok((Status::NotFound, String::from_str(alloc, body)?))
+        }
     }
 }
 

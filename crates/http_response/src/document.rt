@@ -5,8 +5,9 @@ ghost use Rattle.serde_json.specs.Data.{object, string, put as with_member};
 ghost use Rattle.serde_json.specs.View.{members_view, view};
 ghost use Rattle.serde_json.specs.Written.{compact_text, has_float, members_have_float};
 ghost use Rattle.model.specs.Profile.{members_whole};
-ghost use Rattle.http_response.specs.Document.{document_data, local_written_data, named_members, rev_data, told_members, with_flag, with_infos, with_revisions, with_revs, write_data, written_data};
+ghost use Rattle.http_response.specs.Document.{document_data, local_written_data, named_members, rev_data, told_members, with_flag, with_infos, with_revisions, with_revs, write_data, written_data, all_opened_data, opened_data};
 
+use crate::list::ListText;
 use crate::written::{infos_value, revisions_value, revs_value, value_text};
 use commands::{Document, Status};
 use document_id::DocId;
@@ -56,7 +57,7 @@ pub(crate) fn local_written_text(
 }
 
 /// A copy of a body's members, to add to.
-fn copy_members(body: &Body) -> Result<Map<String, Value>, AllocError>
+pub(crate) fn copy_members(body: &Body) -> Result<Map<String, Value>, AllocError>
     ensures members { IfOk result (λ members. members_view members.entries ≡ body.now) }
     ensures whole { members_whole body.now ≡ true }
 {
@@ -178,8 +179,19 @@ fn put_told(
     )
 }
 
+/// The members of a document, with what was asked of it.
+fn document_members(alloc: Global, document: &Document) -> Result<Map<String, Value>, AllocError>
+    ensures members { IfOk result (λ members. object (members_view members.entries)
+        ≡ document_data document.now) }
+    ensures plain { IfOk result (λ members. members_have_float (members_view members.entries) ≡ false) }
+{
+    let mut members = name_members(alloc, document)?;
+    put_told(&mut members, alloc, document)?;
+    Ok(members)
+}
+
 /// The text of an object with no float.
-fn object_text(alloc: Global, members: Map<String, Value>) -> Result<String, AllocError>
+pub(crate) fn object_text(alloc: Global, members: Map<String, Value>) -> Result<String, AllocError>
     requires { members_have_float (members_view members.entries) ≡ false }
     ensures { IfOk result (λ text. string_bytes text ≡ compact_text (object (members_view members.entries))) }
 {
@@ -190,7 +202,38 @@ fn object_text(alloc: Global, members: Map<String, Value>) -> Result<String, All
 pub(crate) fn document_text(alloc: Global, document: &Document) -> Result<String, AllocError>
     ensures { IfOk result (λ text. string_bytes text ≡ compact_text (document_data document.now)) }
 {
-    let mut members = name_members(alloc, document)?;
-    put_told(&mut members, alloc, document)?;
+    let members = document_members(alloc, document)?;
     object_text(alloc, members)
+}
+
+/// A revision as a document, or its name where it is missing.
+fn opened_value(alloc: Global, opened: &Result<Document, RevId>) -> Result<Value, AllocError>
+    ensures data { IfOk result (λ value. view value ≡ opened_data opened.now) }
+    ensures plain { IfOk result (λ value. has_float (view value) ≡ false) }
+{
+    match opened {
+        Ok(document) => {
+            let document = Value::Object(document_members(alloc, document)?);
+            json!(in alloc; {"ok": document})
+        }
+        Err(rev) => {
+            let rev = rev.text(alloc)?;
+            json!(in alloc; {"missing": rev.as_str()})
+        }
+    }
+}
+
+/// The revisions that were asked for.
+pub(crate) fn all_opened_text(
+    alloc: Global,
+    opened: &[Result<Document, RevId>],
+) -> Result<String, AllocError>
+    ensures { IfOk result (λ text. string_bytes text ≡ compact_text (all_opened_data opened.now)) }
+{
+    let mut list = ListText::after(String::new(alloc))?;
+    for one in opened {
+        let value = opened_value(alloc, one)?;
+        list.push(alloc, &value)?;
+    }
+    list.finish()
 }

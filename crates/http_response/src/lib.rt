@@ -4,13 +4,18 @@
 //! A response has a head, which names its length and the place of the history that it is given at,
 //! and a JSON text as its body. `specs/Texts.antt` says each text byte by byte.
 
+mod all_docs;
 mod answered;
 mod bulk;
+mod changes;
 mod connection;
+mod differences;
 mod document;
 mod fixed;
 mod list;
+mod local;
 mod lost;
+mod object;
 mod problem;
 mod replied;
 mod response;

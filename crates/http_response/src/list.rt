@@ -55,7 +55,8 @@ impl ListText {
     }
 }
 
-fn put_comma(text: &mut String, later: bool) -> Result<(), AllocError>
+/// Writes a comma, where something stands before.
+pub(crate) fn put_comma(text: &mut String, later: bool) -> Result<(), AllocError>
     ensures { OnOk result (string_bytes text.new ≡ string_bytes text.old ++ comma_if later) }
 {
     text.push_str(if later { "," } else { "" })
