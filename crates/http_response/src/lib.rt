@@ -28,4 +28,6 @@ pub use lost::{Lost, NO_MEMORY_ROOM, no_memory};
 pub use replied::reply;
 
 #[cfg(test)]
+mod answer_tests;
+#[cfg(test)]
 mod tests;
