@@ -55,8 +55,10 @@ impl fmt::Display for Allow {
             Allow::Methods(Route::Root | Route::Database | Route::DatabaseSlash) => {
                 "Allow: GET\r\n"
             }
+            Allow::Methods(Route::AllDocs | Route::Changes) => "Allow: GET\r\n",
+            Allow::Methods(Route::BulkDocs | Route::RevsDiff) => "Allow: POST\r\n",
             Allow::Methods(Route::RevsLimit) => "Allow: GET, PUT\r\n",
-            Allow::Methods(Route::Document) => "Allow: GET, PUT, DELETE\r\n",
+            Allow::Methods(Route::Document | Route::Local) => "Allow: GET, PUT, DELETE\r\n",
         })
     }
 }
