@@ -2,10 +2,10 @@
 use Rattle.std.proofs.Common.{◌≡◌, ℕ, ◌≤◌, List, [], ◌∷◌, ◌++◌, length, map, refl, ap, sym, ◌∙◌, subst, arith, append_assoc, length-append, None}
 use Rattle.std.specs.List.{FoldsTo, AllZip}
 use Rattle.std.proofs.KnownBytes.{Consumes-nil, Appends-nil}
-use Rattle.std.proofs.lemmas.List.{append-nil}
+use Rattle.std.proofs.lemmas.List.{append-nil, take-append-le}
 use Rattle.model.specs.Command.{Entry}
 use Rattle.model.specs.Database.{empty_database}
-use Rattle.model.specs.History.{of_session}
+use Rattle.model.specs.History.{of_session, replay}
 use Rattle.model.specs.World.{WroteAt, Asked as AskedAt}
 use Rattle.model.specs.Told.{NoneFalls}
 use Rattle.model.proofs.TellLaws.{Tells-append}
@@ -13,7 +13,7 @@ use Rattle.serving.specs.Turn.{Turn, all_turns}
 use Rattle.serving.specs.Served.{Streams, Served}
 use Rattle.serving.specs.declared.outcome.Ended.{Ended}
 use Rattle.serving.specs.declared.outcome.Cause.TheVariants as cause
-use Rattle.http_front.specs.Outcome.{Outcome, Fixed, Wrote, WroteUntold, Read, OutOfMemory, Full, Placed, IsToldAt, IsWritten, IsRead, TellsAt, written}
+use Rattle.http_front.specs.Outcome.{Outcome, Fixed, Wrote, WroteUntold, Read, OutOfMemory, Full, Placed, AsksQuery, IsToldAt, IsWritten, IsRead, TellsAt, written}
 use Rattle.http_front.specs.Answers.{Answers, AnswersAlone}
 use Rattle.http_front.specs.Connection.{IsConnection, places_named, entries_written}
 use Rattle.http_front.specs.Session.{IsAlone}
@@ -28,8 +28,8 @@ module _ (session : ℕ) (history more : List Entry) where
   }
 
   read-append : {item : _} {place : ℕ} {query : _} {answer : _} → IsRead session history item place query answer → IsRead session (history ++ more) item place query answer
-  read-append {place = place} {query = query} {answer = answer} r = record {
-    asked = r.asked;
+  read-append {item = item} {place = place} {query = query} {answer = answer} r = record {
+    asked = subst (λ (es : List Entry). AsksQuery (replay empty_database es) item query) (sym (take-append-le place history more r.told.0)) r.asked;
     told = Tells-append empty_database history more (AskedAt session query place answer) r.told;
   }
 

@@ -13,7 +13,7 @@ use Rattle.http_request.specs.declared.asked.Asked.TheVariants as asked
 use Rattle.http_request.specs.declared.asked.Form.{Form}
 use Rattle.http_response.specs.Texts.{reply_text, answer_text, full_text}
 use Rattle.http_response.specs.declared.lost.Lost.TheVariants as lost
-use Rattle.http_front.specs.Outcome.{Outcome, Fixed, Wrote, WroteUntold, Read, OutOfMemory, Full, IsFixedText, HasFixedText, TellsAt, written, after_closing, max_places}
+use Rattle.http_front.specs.Outcome.{Outcome, Fixed, Wrote, WroteUntold, Read, OutOfMemory, Full, AsksQuery, IsFixedText, HasFixedText, TellsAt, written, after_closing, max_places}
 use Rattle.http_front.specs.Session.{WritesCall}
 use Rattle.http_front.specs.Answers.{AnswersAlone}
 use Rattle.http_front.specs.Response.{turn_of, Sends, SaysLost, SendsOrLost}
@@ -48,13 +48,13 @@ module _ (history : List Entry) (place : ℕ) (place_is : place ≡ length histo
         (subst (λ (c : Bool). SendsOrLost text c place lost.Call response) (sym closes_is) sends)
 
     -- the answer to a query
-    pub answers_query : (query : Query) (answer : Answer) → decide request ≡ Ok (asked.Query query) → answer ≡ answer_to (replay empty_database history) query
+    pub answers_query : (query : Query) (answer : Answer) → AsksQuery (replay empty_database history) (Asked request) query → answer ≡ answer_to (replay empty_database history) query
         → SendsOrLost (answer_text place (after_closing closes) query answer) closes place lost.Call response
         → AnswersAlone history (turn_of (Asked request) response) history
     answers_query query answer asks answers (inl sends) =
         let all : take place history ≡ history = take_all place history (omega (arith, place_is)) in
         unchanged (Asked request) (Read query answer) refl (
-          record { asked = asks; told = (omega (arith, place_is), answers ∙ ap (λ (es : List Entry). answer_to (replay empty_database es) query) (sym all)) },
+          record { asked = subst (λ (es : List Entry). AsksQuery (replay empty_database es) (Asked request) query) (sym all) asks; told = (omega (arith, place_is), answers ∙ ap (λ (es : List Entry). answer_to (replay empty_database es) query) (sym all)) },
           sends.0 ∙ ap (λ (c : Bool). answer_text place (after_closing c) query answer) (sym sends.1),
           sends.1 ∙ sym closes_is,
         )

@@ -1,8 +1,9 @@
 -- What becomes of a request, and the text that tells it.
-use Rattle.std.specs.Prelude.{◌≡◌, ℕ, Bool, true, List, [], ◌∷◌, Result, Ok, Err, if◌then◌else◌}
+use Rattle.std.specs.Prelude.{◌≡◌, ℕ, ◌⊎◌, Bool, true, List, [], ◌∷◌, take, Option, Result, Ok, Err, if◌then◌else◌}
 use Rattle.model.specs.Command.{Entry, Command}
-use Rattle.model.specs.Query.{Query, Answer}
-use Rattle.model.specs.Database.{empty_database}
+use Rattle.model.specs.Query.{Query, Answer, Changes, Style}
+use Rattle.model.specs.Database.{Database, empty_database}
+use Rattle.model.specs.History.{replay}
 use Rattle.model.specs.World.{WroteAt, Asked as AskedAt}
 use Rattle.model.specs.Told.{Tells}
 use Rattle.http_framing.specs.Input.{Item, Asked, Refused, closes_connection}
@@ -52,6 +53,15 @@ abbrev pub Asks : Item → Asking → Type 0
 Asks (Asked request) asking = decide request ≡ Ok asking
 Asks (Refused fault) asking = ⊥
 
+-- the item is a request that asks for the changes from now on, which for a database are those after its update number
+abbrev pub AsksFromNow : Database → Item → Query → Type 0
+AsksFromNow d item query =
+    (limit : Option ℕ) × (style : Style) × Asks item (asked.ChangesFromNow limit style) × (query ≡ Changes d.update_seq limit style)
+
+-- the item is a request that asks this of a database
+abbrev pub AsksQuery : Database → Item → Query → Type 0
+AsksQuery d item query = Asks item (asked.Query query) ⊎ AsksFromNow d item query
+
 -- what a response says of the connection
 abbrev pub after_closing : Bool → After
 after_closing closes = if closes then after.Close else after.Open
@@ -62,6 +72,7 @@ IsFixedText place closes (Err refusal) text = text ≡ refusal_text place (after
 IsFixedText place closes (Ok asked.Welcome) text = text ≡ welcome_text place (after_closing closes)
 IsFixedText place closes (Ok (asked.Command form command)) text = ⊥
 IsFixedText place closes (Ok (asked.Query query)) text = ⊥
+IsFixedText place closes (Ok (asked.ChangesFromNow limit style)) text = ⊥
 
 -- the text is the one that is fixed for the item at this place
 abbrev pub HasFixedText : ℕ → Item → List ℕ → Type 0
@@ -75,9 +86,9 @@ module _ (session : ℕ) (history : List Entry) where
     pub own : entry.seat.session ≡ session
     pub told : Tells empty_database history (WroteAt entry.seat entry.command place entry.reply)
 
-  -- the item asks for a query, which the first entries, as many as the place says, answer so
+  -- the item asks for a query of the first entries, as many as the place says, which they answer so
   pub record IsRead (item : Item) (place : ℕ) (query : Query) (answer : Answer) : Type 0 where
-    pub asked : Asks item (asked.Query query)
+    pub asked : AsksQuery (replay empty_database (take place history)) item query
     pub told : Tells empty_database history (AskedAt session query place answer)
 
   -- the text of the turn tells what became of its item, by this history

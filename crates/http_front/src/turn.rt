@@ -4,13 +4,17 @@ ghost use Rattle.std.specs.Prelude.{◌≡◌, ◌++◌, length, Ok};
 ghost use Rattle.http_framing.specs.Input.{Asked as AskedItem, Refused};
 ghost use Rattle.http_framing.specs.Request as framing;
 ghost use Rattle.http_request.specs.Decide.{decide};
+ghost use Rattle.model.specs.Query.{Changes};
+ghost use Rattle.model.specs.Database.{empty_database};
+ghost use Rattle.model.specs.History.{replay};
 ghost use Rattle.http_front.specs.Answers.{AnswersAlone};
+ghost use Rattle.http_front.specs.Outcome.{AsksQuery};
 ghost use Rattle.http_front.specs.Response.{turn_of};
 
 use crate::response::{Response, connection_after};
 use crate::session::{Session, WriteFault};
 use changes_feed::answer;
-use commands::{Command, Query};
+use commands::{Command, Query, QueryKind, Style};
 use http_framing::FramingFault;
 use http_framing::request::Request;
 use http_request::{Asked, Form, read_request};
@@ -46,14 +50,30 @@ pub(crate) fn respond(session: &mut Session, setting: &Setting, request: &Reques
         return Response::out_of_memory(place, Lost::Call);
     };
     match asked {
-        Ok(Asked::Command(form, command)) => write(session, alloc, form, &command, closes),
-        Ok(Asked::Query(query)) => read(session, alloc, &query, closes),
-        Ok(Asked::Welcome) => {
-            let text = welcome(alloc, place, connection_after(closes));
-            Response::new(text, closes, place, Lost::Call)
-        }
+        Ok(asked) => carry_out(session, alloc, &asked, closes),
         Err(refusal) => {
             let text = refused(alloc, place, connection_after(closes), refusal);
+            Response::new(text, closes, place, Lost::Call)
+        }
+    }
+}
+
+/// Does what is asked, and answers it.
+fn carry_out(session: &mut Session, alloc: Global, asked: &Asked, closes: bool) -> Response
+    ensures { (request : framing.Request) → decide request ≡ Ok asked.now
+        → request.closes ≡ closes
+        → AnswersAlone session.old (turn_of (AskedItem request) result) session.new }
+{
+    match asked {
+        Asked::Command(form, command) => write(session, alloc, *form, command, closes),
+        Asked::Query(query) => read(session, alloc, query, closes),
+        Asked::ChangesFromNow { limit, style } => {
+            let query = changes_from_now(session, *limit, *style);
+            read(session, alloc, &query, closes)
+        }
+        Asked::Welcome => {
+            let place = session.place();
+            let text = welcome(alloc, place, connection_after(closes));
             Response::new(text, closes, place, Lost::Call)
         }
     }
@@ -86,9 +106,22 @@ fn write(
     }
 }
 
+/// The query for the changes after all that the session has seen.
+fn changes_from_now(session: &Session, limit: Option<u64>, style: Style) -> Query
+    ensures { result ≡ Changes (replay empty_database session.now).update_seq limit style }
+{
+    let since = session.look().update_seq();
+    Query::new(QueryKind::Changes {
+        since,
+        limit,
+        style,
+    })
+}
+
 /// Answers a query by what the session has seen.
 fn read(session: &Session, alloc: Global, query: &Query, closes: bool) -> Response
-    ensures { (request : framing.Request) → decide request ≡ Ok (Asked.Query query.now)
+    ensures { (request : framing.Request)
+        → AsksQuery (replay empty_database session.now) (AskedItem request) query.now
         → request.closes ≡ closes
         → AnswersAlone session.now (turn_of (AskedItem request) result) session.now }
 {

@@ -1,26 +1,16 @@
-use Rattle.std.proofs.Common.{Ok, Err, refl, ap, sym, ◌∙◌, subst}
-use Rattle.http_request.specs.declared.asked.Asked.TheVariants as asked
-use Rattle.http_response.specs.Texts.{welcome_text, refusal_text}
+use Rattle.std.proofs.Common.{Err, refl, sym, ◌∙◌, subst}
+use Rattle.http_response.specs.Texts.{refusal_text}
 use Rattle.http_response.specs.declared.connection.Connection.{Connection}
 use Rattle.http_response.specs.declared.lost.Lost.TheVariants as lost
 use Rattle.http_front.specs.Response.{SendsOrLost}
 use Rattle.http_front.proofs.Turns.{answers_decided}
 use Rattle.http_front.proofs.turn.respond.Goals as goal
 
-pub returns-in-Ok-Welcome : goal.returns-in-Ok-Welcome
-returns-in-Ok-Welcome c =
-    let place = c.place-place.result in
-    let closes = c.closes-closes.result in
-    answers_decided c.args.session.now place c.place-place.ensures c.new.result c.args.request.now closes (sym c.closes-closes.ensures) (Ok asked.Welcome) _
-    (sym (c.in-Ok-Welcome.is ∙ ap Ok c.in-Ok-Welcome.field-0-is) ∙ c.in-Ok.ensures.decides) refl
-    (subst (λ (k : Connection). SendsOrLost (welcome_text place k) closes place lost.Call c.new.result)
-    c.connection_after.ensures (c.new.ensures _ c.welcome-text.ensures.text))
-
 pub returns-in-Err : goal.returns-in-Err
 returns-in-Err c =
     let place = c.place-place.result in
     let closes = c.closes-closes.result in
-    answers_decided c.args.session.now place c.place-place.ensures c.new-in-Err.result c.args.request.now closes (sym c.closes-closes.ensures) (Err c.in-Err.refusal) _
+    answers_decided c.args.session.now place c.place-place.ensures c.new.result c.args.request.now closes (sym c.closes-closes.ensures) (Err c.in-Err.refusal) _
     (sym c.in-Err.is ∙ c.in-Ok.ensures.decides) refl
-    (subst (λ (k : Connection). SendsOrLost (refusal_text place k c.in-Err.refusal) closes place lost.Call c.new-in-Err.result)
-    c.connection_after-in-Err.ensures (c.new-in-Err.ensures _ c.refused-text.ensures.text))
+    (subst (λ (k : Connection). SendsOrLost (refusal_text place k c.in-Err.refusal) closes place lost.Call c.new.result)
+    c.connection_after.ensures (c.new.ensures _ c.refused-text.ensures.text))

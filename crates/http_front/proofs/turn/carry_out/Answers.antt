@@ -1,0 +1,17 @@
+use Rattle.std.proofs.Common.{Ok, refl, ap, sym, ◌∙◌, subst}
+use Rattle.http_request.specs.declared.asked.Asked.TheVariants as asked
+use Rattle.http_response.specs.Texts.{welcome_text}
+use Rattle.http_response.specs.declared.connection.Connection.{Connection}
+use Rattle.http_response.specs.declared.lost.Lost.TheVariants as lost
+use Rattle.http_front.specs.Response.{SendsOrLost}
+use Rattle.http_front.proofs.Turns.{answers_decided}
+use Rattle.http_front.proofs.turn.carry_out.Goals as goal
+
+pub returns-in-Welcome : goal.returns-in-Welcome
+returns-in-Welcome c =
+    λ request asks closes_is.
+    let place = c.place-place.result in
+    answers_decided c.args.session.now place c.place-place.ensures c.new.result request c.args.closes closes_is (Ok asked.Welcome) _
+    (sym (asks ∙ ap Ok c.in-Welcome.is)) refl
+    (subst (λ (k : Connection). SendsOrLost (welcome_text place k) c.args.closes place lost.Call c.new.result)
+    c.connection_after.ensures (c.new.ensures _ c.welcome-text.ensures.text))
