@@ -104,14 +104,6 @@ all_opened_data opened = array (items_of (map opened_data opened))
 
 -- ---- a local document
 
--- `_local/ID`
-abbrev pub local_id : Id → List ℕ
-local_id id = codes "_local/" ++ id
-
--- `0-k`
-abbrev pub counter_text : ℕ → List ℕ
-counter_text counter = codes "0-" ++ decimal counter
-
 abbrev pub local_data : Id → ℕ × Body → Data
 local_data id local = object (put (codes "_rev") (string (counter_text local.0)) (put (codes "_id") (string (local_id id)) local.1))
 

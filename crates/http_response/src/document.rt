@@ -5,7 +5,7 @@ ghost use Rattle.serde_json.specs.Data.{object, string, put as with_member};
 ghost use Rattle.serde_json.specs.View.{members_view, view};
 ghost use Rattle.serde_json.specs.Written.{compact_text, has_float, members_have_float};
 ghost use Rattle.model.specs.Profile.{members_whole};
-ghost use Rattle.http_response.specs.Document.{document_data, local_written_data, named_members, rev_data, told_members, with_flag, with_infos, with_revisions, with_revs, write_data, written_data, all_opened_data, opened_data};
+ghost use Rattle.http_response.specs.Document.{document_data, named_members, rev_data, told_members, with_flag, with_infos, with_revisions, with_revs, write_data, written_data, all_opened_data, opened_data};
 
 use crate::list::ListText;
 use crate::written::{infos_value, revisions_value, revs_value, value_text};
@@ -33,27 +33,11 @@ pub(crate) fn written_value(alloc: Global, id: &DocId, rev: &RevId) -> Result<Va
     write_value(alloc, id.as_str(), rev.as_str())
 }
 
-fn write_value(alloc: Global, id: &str, rev: &str) -> Result<Value, AllocError>
+pub(crate) fn write_value(alloc: Global, id: &str, rev: &str) -> Result<Value, AllocError>
     ensures value { IfOk result (λ value. view value ≡ write_data id.now rev.now) }
     ensures plain { IfOk result (λ value. has_float (view value) ≡ false) }
 {
     json!(in alloc; {"id": id, "ok": true, "rev": rev})
-}
-
-/// The text that tells of a write of a local document that was taken.
-pub(crate) fn local_written_text(
-    alloc: Global,
-    id: &DocId,
-    counter: u32,
-) -> Result<String, AllocError>
-    ensures { IfOk result (λ text. string_bytes text
-        ≡ compact_text (local_written_data id.now counter)) }
-{
-    let id = id.as_str();
-    let name = format!(in alloc; "_local/{id}")?;
-    let rev = format!(in alloc; "0-{counter}")?;
-    let written = write_value(alloc, name.as_str(), rev.as_str())?;
-    value_text(alloc, &written)
 }
 
 /// A copy of a body's members, to add to.

@@ -4,13 +4,44 @@ ghost use Rattle.std.specs.Prelude.{◌≡◌, codes, IfOk, OnOk, string_bytes};
 ghost use Rattle.serde_json.specs.Data.{string, put as with_member};
 ghost use Rattle.serde_json.specs.View.{members_view};
 ghost use Rattle.serde_json.specs.Written.{compact_text};
-ghost use Rattle.http_response.specs.Document.{counter_text, local_data, local_id};
+ghost use Rattle.http_response.specs.Document.{counter_text, local_data, local_id, local_written_data};
 
-use crate::document::{copy_members, object_text};
+use crate::document::{copy_members, object_text, write_value};
+use crate::written::value_text;
 use document_id::DocId;
 use json_profile::Body;
 use serde_json::{Map, Value, put};
 use std::alloc::{AllocError, Global};
+
+/// `_local/ID`
+fn id_text(alloc: Global, id: &DocId) -> Result<String, AllocError>
+    ensures { IfOk result (λ text. string_bytes text ≡ local_id id.now) }
+{
+    let id = id.as_str();
+    format!(in alloc; "_local/{id}")
+}
+
+/// `0-k`
+fn counter_text(alloc: Global, counter: u32) -> Result<String, AllocError>
+    ensures { IfOk result (λ text. string_bytes text ≡ counter_text counter) }
+{
+    format!(in alloc; "0-{counter}")
+}
+
+/// The text that tells of a write that was taken.
+pub(crate) fn local_written_text(
+    alloc: Global,
+    id: &DocId,
+    counter: u32,
+) -> Result<String, AllocError>
+    ensures { IfOk result (λ text. string_bytes text
+        ≡ compact_text (local_written_data id.now counter)) }
+{
+    let id = id_text(alloc, id)?;
+    let rev = counter_text(alloc, counter)?;
+    let written = write_value(alloc, id.as_str(), rev.as_str())?;
+    value_text(alloc, &written)
+}
 
 /// Puts `_local/ID`.
 fn put_local_id(
@@ -21,8 +52,7 @@ fn put_local_id(
     ensures { OnOk result (members_view members.new.entries
         ≡ with_member (codes "_id") (string (local_id id.now)) (members_view members.old.entries)) }
 {
-    let id = id.as_str();
-    let text = format!(in alloc; "_local/{id}")?;
+    let text = id_text(alloc, id)?;
     put(members, alloc, "_id", Value::String(text))
 }
 
@@ -35,7 +65,7 @@ fn put_counter(
     ensures { OnOk result (members_view members.new.entries
         ≡ with_member (codes "_rev") (string (counter_text counter)) (members_view members.old.entries)) }
 {
-    let text = format!(in alloc; "0-{counter}")?;
+    let text = counter_text(alloc, counter)?;
     put(members, alloc, "_rev", Value::String(text))
 }
 

@@ -9,7 +9,8 @@ ghost use Rattle.http_response.specs.Told.{done, reply_told, told_edits, told_fi
 
 use crate::bulk::{edits_text, merges_text};
 use crate::connection::Connection;
-use crate::document::{local_written_text, written_text};
+use crate::document::written_text;
+use crate::local::local_written_text;
 use crate::problem::{refusal_text, status_of};
 use crate::response::{Allow, Status, response};
 use commands::{Command, CommandKind, Edit, Refusal, RefusalKind, Reply, ReplyKind};
