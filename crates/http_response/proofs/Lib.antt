@@ -1,4 +1,4 @@
 pub mod BulkLists
 pub mod Floats
 pub mod ListTexts
-pub mod LostTexts
+pub mod ShortTexts
