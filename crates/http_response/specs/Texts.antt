@@ -8,12 +8,25 @@ use Rattle.http_request.specs.declared.refusal.Refusal.{Refusal}
 use Rattle.http_response.specs.Response.{response_text, status_text, content_head, place_head, connection_line, crlf}
 use Rattle.http_response.specs.Problem.{problem_text, refusal_status, refusal_allow, refusal_body, closing_body}
 use Rattle.http_response.specs.Told.{Told, reply_told, answer_told}
+use Rattle.http_response.specs.declared.response.Status.{Status}
 use Rattle.http_response.specs.declared.response.Status.TheVariants as status
 use Rattle.http_response.specs.declared.response.Allow.TheVariants as allow
 use Rattle.http_response.specs.declared.connection.Connection.{Connection}
 use Rattle.http_response.specs.declared.connection.Connection.TheVariants as connection
 use Rattle.http_response.specs.declared.lost.Lost.{Lost}
 use Rattle.http_response.specs.declared.lost.Lost.TheVariants as lost
+
+-- ---- responses that take no memory, in parts
+
+-- the head as far as the place, with a length in digits
+abbrev pub before_place : Status → List ℕ → List ℕ
+before_place status digits = codes "HTTP/1.1 " ++ (status_text status ++ (content_head ++ (digits ++ place_head)))
+
+-- what goes on after the place, where the connection closes
+abbrev pub after_place : List ℕ → List ℕ
+after_place body = crlf ++ (connection_line connection.Close ++ (crlf ++ body))
+
+-- ---- what is told of no call of the database
 
 -- a request that is refused
 unfoldable pub refusal_text : ℕ → Connection → Refusal → List ℕ
@@ -23,6 +36,10 @@ refusal_text place connection refusal =
 -- bytes that are refused, with all that follows them
 unfoldable pub closing_text : ℕ → FramingFault → List ℕ
 closing_text place fault = response_text status.BadRequest place allow.Unsaid connection.Close (closing_body fault)
+
+-- the length of its body, in digits
+abbrev pub closing_length : FramingFault → List ℕ
+closing_length fault = codes "39"
 
 -- `GET /`
 unfoldable pub welcome_text : ℕ → Connection → List ℕ
@@ -61,11 +78,3 @@ no_memory_text place lost = response_text status.InsufficientStorage place allow
 abbrev pub no_memory_length : Lost → List ℕ
 no_memory_length lost.Call = codes "37"
 no_memory_length lost.Reply = codes "38"
-
--- its head as far as the place, and what goes on after it
-abbrev pub before_place : Lost → List ℕ
-before_place lost =
-    codes "HTTP/1.1 " ++ (status_text status.InsufficientStorage ++ (content_head ++ (no_memory_length lost ++ place_head)))
-
-abbrev pub after_place : Lost → List ℕ
-after_place lost = crlf ++ (connection_line connection.Close ++ (crlf ++ no_memory_body lost))

@@ -59,13 +59,13 @@ abbrev pub told_local_one : Status → Id → Result ℕ Refusal → Told
 told_local_one status id (Ok counter) = (status, compact_text (local_written_data id counter))
 told_local_one status id (Err refusal) = told_refused refusal
 
--- a write of a local document, in a form, which is never the last
+-- a write of a local document, in a form that is not of a bulk
 abbrev pub told_local : Form → Id → Result ℕ Refusal → Told
 told_local form.Put id outcome = told_local_one status.Created id outcome
 told_local form.Delete id outcome = told_local_one status.Ok id outcome
 told_local form.Whole id outcome = done
 
--- the last row has the limit alone: no command is answered a reply of another form than its own
+-- the last row is of the limit; a reply of another form than that of its command does not come
 abbrev pub reply_told : Form → Command → Reply → Told
 reply_told form (Edits edits) (Wrote outcomes) = told_edits form edits outcomes
 reply_told form (Merges merges) (Wrote outcomes) = told_merges merges outcomes

@@ -6,7 +6,9 @@ ghost use Rattle.http_response.specs.Texts.{closing_text, full_text, refusal_tex
 
 use crate::connection::Connection;
 use crate::problem::body_of_absent;
-use crate::response::{Allow, Status, response};
+use crate::response::{Allow, Status, plain_response, response};
+use crate::short::{SHORT_ROOM, short_response};
+use arrayvec::ArrayString;
 use commands::AbsentKind;
 use http_framing::FramingFault;
 use http_request::{Reason, Refusal};
@@ -75,16 +77,13 @@ fn bad_request(reason: Reason) -> &'static str
 
 /// The response to bytes that are refused, after which the connection closes.
 #[tactic(auto, unfolding(crate::specs::Texts::closing_text))]
-pub fn closing(alloc: Global, place: u64, _fault: FramingFault) -> Result<String, AllocError>
-    ensures text { IfOk result (λ text. string_bytes text ≡ closing_text place _fault) }
+pub fn closing(place: u64, _fault: FramingFault) -> ArrayString<SHORT_ROOM>
+    ensures text { result.bytes ≡ closing_text place _fault }
 {
-    response(
-        alloc,
-        Status::BadRequest,
+    short_response(
+        "HTTP/1.1 400 Bad Request\r\nContent-Type: application/json\r\nContent-Length: 39\r\nCouch-Place: ",
         place,
-        Allow::Unsaid,
-        Connection::Close,
-        r#"{"error":"bad_request","reason":"head"}"#,
+        "\r\nConnection: close\r\n\r\n{\"error\":\"bad_request\",\"reason\":\"head\"}",
     )
 }
 
@@ -93,11 +92,10 @@ pub fn closing(alloc: Global, place: u64, _fault: FramingFault) -> Result<String
 pub fn welcome(alloc: Global, place: u64, connection: Connection) -> Result<String, AllocError>
     ensures text { IfOk result (λ text. string_bytes text ≡ welcome_text place connection) }
 {
-    response(
+    plain_response(
         alloc,
         Status::Ok,
         place,
-        Allow::Unsaid,
         connection,
         r#"{"couchdb":"Welcome"}"#,
     )
@@ -108,11 +106,10 @@ pub fn welcome(alloc: Global, place: u64, connection: Connection) -> Result<Stri
 pub fn full(alloc: Global, place: u64, connection: Connection) -> Result<String, AllocError>
     ensures text { IfOk result (λ text. string_bytes text ≡ full_text place connection) }
 {
-    response(
+    plain_response(
         alloc,
         Status::ServiceUnavailable,
         place,
-        Allow::Unsaid,
         connection,
         r#"{"error":"unavailable","reason":"full"}"#,
     )

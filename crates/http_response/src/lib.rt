@@ -19,13 +19,15 @@ mod object;
 mod problem;
 mod replied;
 mod response;
+mod short;
 mod written;
 
 pub use answered::answer;
 pub use connection::Connection;
 pub use fixed::{closing, full, refused, welcome};
-pub use lost::{Lost, NO_MEMORY_ROOM, no_memory};
+pub use lost::{Lost, no_memory};
 pub use replied::reply;
+pub use short::SHORT_ROOM;
 
 #[cfg(test)]
 mod answer_tests;

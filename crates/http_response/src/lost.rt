@@ -1,10 +1,11 @@
 //! The responses for want of memory, which take none.
 
-ghost use Rattle.std.specs.Prelude.{◌≡◌, ◌++◌, ◌≤◌, length};
-ghost use Rattle.http_response.specs.Texts.{after_place, before_place, no_memory_text};
+ghost use Rattle.std.specs.Prelude.{◌≡◌, ◌≤◌, length};
+ghost use Rattle.http_response.specs.Texts.{after_place, before_place, no_memory_body, no_memory_length, no_memory_text};
 
+use crate::response::Status;
+use crate::short::{SHORT_ROOM, short_response};
 use arrayvec::ArrayString;
-use itoa::Buffer;
 
 /// What memory was refused for.
 #[derive(Clone, Copy, Debug, PartialEq, Eq)]
@@ -15,25 +16,17 @@ pub enum Lost {
     Reply,
 }
 
-/// The room that a response for want of memory needs.
-pub const NO_MEMORY_ROOM: usize = 192;
-
 /// The response for want of memory, after which the connection closes.
 #[tactic(auto, unfolding(crate::specs::Texts::no_memory_text))]
-pub fn no_memory(place: u64, lost: Lost) -> ArrayString<NO_MEMORY_ROOM>
+pub fn no_memory(place: u64, lost: Lost) -> ArrayString<SHORT_ROOM>
     ensures text { result.bytes ≡ no_memory_text place lost }
 {
-    let mut digits = Buffer::new();
-    let mut text = ArrayString::new();
-    text.push_str(before_place(lost));
-    text.push_str(digits.format(place));
-    text.push_str(after_place(lost));
-    text
+    short_response(before_place(lost), place, after_place(lost))
 }
 
 /// The head as far as the place.
 fn before_place(lost: Lost) -> &'static str
-    ensures text { result.now ≡ before_place lost }
+    ensures text { result.now ≡ before_place Status.InsufficientStorage (no_memory_length lost) }
     ensures short { length result.now ≤ 110 }
 {
     match lost {
@@ -48,7 +41,7 @@ fn before_place(lost: Lost) -> &'static str
 
 /// The rest of the head, and the body.
 fn after_place(lost: Lost) -> &'static str
-    ensures text { result.now ≡ after_place lost }
+    ensures text { result.now ≡ after_place (no_memory_body lost) }
     ensures short { length result.now ≤ 62 }
 {
     match lost {

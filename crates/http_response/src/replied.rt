@@ -12,7 +12,7 @@ use crate::connection::Connection;
 use crate::document::written_text;
 use crate::local::local_written_text;
 use crate::problem::{refusal_text, status_of};
-use crate::response::{Allow, Status, response};
+use crate::response::{Status, plain_response};
 use commands::{Command, CommandKind, Edit, Refusal, RefusalKind, Reply, ReplyKind};
 use document_id::DocId;
 use http_request::Form;
@@ -33,14 +33,7 @@ pub fn reply(
         ≡ reply_text place connection form command.now reply.now) }
 {
     let (status, body) = tell(alloc, form, command.kind(), reply.kind())?;
-    response(
-        alloc,
-        status,
-        place,
-        Allow::Unsaid,
-        connection,
-        body.as_str(),
-    )
+    plain_response(alloc, status, place, connection, body.as_str())
 }
 
 fn tell(

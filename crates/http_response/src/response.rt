@@ -79,3 +79,16 @@ pub(crate) fn response(
         "HTTP/1.1 {status}\r\nContent-Type: application/json\r\nContent-Length: {len}\r\nCouch-Place: {place}\r\n{allow}{connection}\r\n{body}"
     )
 }
+
+/// The text of a response with this body, that lists no methods.
+pub(crate) fn plain_response(
+    alloc: Global,
+    status: Status,
+    place: u64,
+    connection: Connection,
+    body: &str,
+) -> Result<String, AllocError>
+    ensures { IfOk result (λ text. string_bytes text ≡ response_text status place Allow.Unsaid connection body.now) }
+{
+    response(alloc, status, place, Allow::Unsaid, connection, body)
+}

@@ -1,7 +1,7 @@
 use crate::{Connection, Lost, answer, closing, full, no_memory, refused, reply, welcome};
 use commands::{
-    Absent, AbsentKind, Answer, AnswerKind, Command, Document, Edit, Options, Query, QueryKind,
-    Refusal as WriteRefusal, RefusalKind, Reply, ReplyKind,
+    Absent, AbsentKind, Answer, AnswerKind, Command, Document, Edit, Merge, Options, Query,
+    QueryKind, Refusal as WriteRefusal, RefusalKind, Reply, ReplyKind,
 };
 use document_id::DocId;
 use http_framing::FramingFault;
@@ -9,6 +9,7 @@ use http_request::{Form, Reason, Refusal};
 use http_routes::Route;
 use json_profile::Body;
 use revision_id::RevId;
+use std::alloc::Global;
 use std::sync::Arc;
 use std::test::Fail;
 
@@ -20,13 +21,7 @@ fn reply_to_put(
     outcome: Result<RevId, WriteRefusal>,
 ) -> Result<String, Fail> {
     let alloc = rt.alloc();
-    let edit = Edit {
-        id: DocId::new(alloc, "a").ok().ok_or("id")?,
-        named: None,
-        deleted: false,
-        body: Arc::new(alloc, Body::empty(alloc)).ok().ok_or("memory")?,
-    };
-    let edits = vec![in alloc; edit].ok().ok_or("memory")?;
+    let edits = vec![in alloc; edit(alloc, "a")?].ok().ok_or("memory")?;
     let command = Command::edits(edits).ok_or("command")?;
     let outcomes = vec![in alloc; outcome].ok().ok_or("memory")?;
     let told = Reply::new(ReplyKind::Wrote(outcomes));
@@ -46,6 +41,85 @@ fn a_put(rt: HostRuntime) -> Result<(), Fail> {
     assert_eq!(rt;
         text.as_str(),
         "HTTP/1.1 409 Conflict\r\nContent-Type: application/json\r\nContent-Length: 57\r\nCouch-Place: 1\r\n\r\n{\"error\":\"conflict\",\"reason\":\"Document update conflict.\"}"
+    );
+    Ok(())
+}
+
+fn id(alloc: Global, text: &str) -> Result<DocId, Fail> {
+    Ok(DocId::new(alloc, text).ok().ok_or("id")?)
+}
+
+fn body(alloc: Global) -> Result<Arc<Body>, Fail> {
+    Ok(Arc::new(alloc, Body::empty(alloc)).ok().ok_or("memory")?)
+}
+
+fn edit(alloc: Global, name: &str) -> Result<Edit, Fail> {
+    Ok(Edit {
+        id: id(alloc, name)?,
+        named: None,
+        deleted: false,
+        body: body(alloc)?,
+    })
+}
+
+fn merge(alloc: Global, name: &str) -> Result<Merge, Fail> {
+    let path = vec![in alloc; RevId::parse(A1).ok().ok_or("revision")?]?;
+    Ok(Merge::new(id(alloc, name)?, path, false, body(alloc)?).ok_or("path")?)
+}
+
+/// The reply to two writes, of which the second is refused.
+fn two_writes(alloc: Global, refusal: RefusalKind) -> Result<Reply, Fail> {
+    let taken = Ok(RevId::parse(A1).ok().ok_or("revision")?);
+    let refused = Err(WriteRefusal::new(refusal));
+    let outcomes = vec![in alloc; taken, refused]?;
+    Ok(Reply::new(ReplyKind::Wrote(outcomes)))
+}
+
+#[test]
+fn bulks(rt: HostRuntime) -> Result<(), Fail> {
+    let alloc = rt.alloc();
+    let edits = vec![in alloc; edit(alloc, "a")?, edit(alloc, "b")?]?;
+    let edits = Command::edits(edits).ok_or("command")?;
+    let told = two_writes(alloc, RefusalKind::Conflict)?;
+    assert_eq!(rt;
+        reply(alloc, 1, Connection::Open, Form::Whole, &edits, &told)?.as_str(),
+        "HTTP/1.1 201 Created\r\nContent-Type: application/json\r\nContent-Length: 132\r\nCouch-Place: 1\r\n\r\n[{\"id\":\"a\",\"ok\":true,\"rev\":\"1-0123456789abcdef0123456789abcdef\"},{\"error\":\"conflict\",\"id\":\"b\",\"reason\":\"Document update conflict.\"}]"
+    );
+    let merges = vec![in alloc; merge(alloc, "a")?, merge(alloc, "b")?]?;
+    let merges = Command::merges(merges).ok_or("command")?;
+    let told = two_writes(alloc, RefusalKind::BadHistory)?;
+    assert_eq!(rt;
+        reply(alloc, 2, Connection::Open, Form::Whole, &merges, &told)?.as_str(),
+        "HTTP/1.1 201 Created\r\nContent-Type: application/json\r\nContent-Length: 82\r\nCouch-Place: 2\r\n\r\n[{\"error\":\"bad_history\",\"id\":\"b\",\"reason\":\"A known revision has another parent.\"}]"
+    );
+    Ok(())
+}
+
+fn reply_to_local(
+    rt: &HostRuntime,
+    form: Form,
+    outcome: Result<u32, WriteRefusal>,
+) -> Result<String, Fail> {
+    let alloc = rt.alloc();
+    let command = Command::put_local(id(alloc, "a")?, None, None).ok_or("command")?;
+    let told = Reply::new(ReplyKind::WroteLocal(outcome));
+    Ok(reply(alloc, 3, Connection::Open, form, &command, &told)?)
+}
+
+#[test]
+fn local_writes(rt: HostRuntime) -> Result<(), Fail> {
+    assert_eq!(rt;
+        reply_to_local(&rt, Form::Put, Ok(4294967295))?.as_str(),
+        "HTTP/1.1 201 Created\r\nContent-Type: application/json\r\nContent-Length: 48\r\nCouch-Place: 3\r\n\r\n{\"id\":\"_local/a\",\"ok\":true,\"rev\":\"0-4294967295\"}"
+    );
+    assert_eq!(rt;
+        reply_to_local(&rt, Form::Delete, Ok(0))?.as_str(),
+        "HTTP/1.1 200 OK\r\nContent-Type: application/json\r\nContent-Length: 39\r\nCouch-Place: 3\r\n\r\n{\"id\":\"_local/a\",\"ok\":true,\"rev\":\"0-0\"}"
+    );
+    let missing = WriteRefusal::new(RefusalKind::Missing);
+    assert_eq!(rt;
+        reply_to_local(&rt, Form::Delete, Err(missing))?.as_str(),
+        "HTTP/1.1 404 Not Found\r\nContent-Type: application/json\r\nContent-Length: 40\r\nCouch-Place: 3\r\n\r\n{\"error\":\"not_found\",\"reason\":\"missing\"}"
     );
     Ok(())
 }
@@ -111,7 +185,7 @@ fn refusals(rt: HostRuntime) -> Result<(), Fail> {
         "HTTP/1.1 405 Method Not Allowed\r\nContent-Type: application/json\r\nContent-Length: 61\r\nCouch-Place: 0\r\nAllow: GET, PUT, DELETE\r\nConnection: close\r\n\r\n{\"error\":\"method_not_allowed\",\"reason\":\"Method not allowed.\"}"
     );
     assert_eq!(rt;
-        closing(alloc, 0, FramingFault::LargeBody)?.as_str(),
+        closing(0, FramingFault::LargeBody).as_str(),
         "HTTP/1.1 400 Bad Request\r\nContent-Type: application/json\r\nContent-Length: 39\r\nCouch-Place: 0\r\nConnection: close\r\n\r\n{\"error\":\"bad_request\",\"reason\":\"head\"}"
     );
     Ok(())
