@@ -1,5 +1,5 @@
 -- The revision of a text.
-use Rattle.std.proofs.Common.{◌≡◌, ◌≢◌, ℕ, zero, suc, ◌+◌, ◌^◌, ◌<◌, ◌≤◌, List, [], ◌∷◌, ◌++◌, length, take, drop, get_or, length-append, Option, Some, None, Ok, Bool, true, false, ◌&&◌, refl, sym, ap, ◌∙◌, subst, arith, decimal}
+use Rattle.std.proofs.Common.{◌≡◌, ◌≢◌, ℕ, zero, suc, ◌+◌, ◌^◌, ◌<◌, ◌≤◌, List, [], ◌∷◌, ◌++◌, length, take, drop, get_or, length-append, Option, Some, None, Ok, Bool, true, false, ◌&&◌, refl, sym, ap, ◌∙◌, subst, arith, decimal, IfSome}
 use Rattle.std.specs.Prelude.{nat_lt, nat_le, ◌==◌}
 use Rattle.std.specs.List.{list_all, before_first, after_first, position_or_len}
 use Rattle.std.specs.Str.{bytes_eq}
@@ -15,7 +15,7 @@ use Rattle.std.proofs.lemmas.Str.Parse.{IsNumeralModel, numerals_by_value, tells
 use Rattle.hex.specs.Hex.{IsBytes, encode_lower, decode_of}
 use Rattle.hex.proofs.HexLemmas.{decode_of-encode_lower}
 use Rattle.model.specs.Revision.{Rev, IsRev, rev_text, last_generation}
-use Rattle.http_request.specs.Revisions.{is_dash, is_rev, rev_if, rev_named, spelled}
+use Rattle.http_request.specs.Revisions.{is_dash, hashed, is_rev, rev_if, rev_named, rev_with, spelled}
 
 own : IsNumeralModel (AllDigits 10) (digits_value 10)
 own = numerals_by_value (AllDigits 10) tells_digits
@@ -109,3 +109,34 @@ rev_named-none text never = none (is_rev (spelled text)) (bytes_eq (rev_text (sp
     none false b p q = refl
     none true false p q = refl
     none true true p q = absurd (never (spelled text) (is_rev-says (spelled text) p) ((bytes_eq-Decides (rev_text (spelled text)) text).0 q))
+
+-- ---- a generation, and the text of a hash
+
+pub rev_with-is : (r : Rev) (generation : ℕ) (text : List ℕ) → IsRev r → r.generation ≡ generation → encode_lower r.hash ≡ text → rev_with generation text ≡ Some r
+unfolding rev_with
+rev_with-is r generation text h at is =
+    let bytes : result_unwrap_or (decode_of text) [] ≡ r.hash =
+    ap (λ t. result_unwrap_or (decode_of t) []) (sym is) ∙ ap (λ d. result_unwrap_or d []) (decode_of-encode_lower r.hash h.bytes) in
+    let same : hashed generation text ≡ r = λ i. record { generation = sym at i; hash = bytes i } in
+    let test : (is_rev r && bytes_eq (encode_lower r.hash) text) ≡ true =
+    both (is_rev r) (bytes_eq (encode_lower r.hash) text) (says-is_rev r h) ((bytes_eq-Decides (encode_lower r.hash) text).1 is) in
+    ap (λ s. rev_if (is_rev s && bytes_eq (encode_lower s.hash) text) s) same ∙ ap (λ b. rev_if b r) test
+
+pub rev_with-none : (generation : ℕ) (text : List ℕ) → ((r : Rev) → IsRev r → r.generation ≡ generation → encode_lower r.hash ≢ text) → rev_with generation text ≡ None
+unfolding rev_with
+rev_with-none generation text never = none (is_rev (hashed generation text)) (bytes_eq (encode_lower (hashed generation text).hash) text) refl refl
+  where
+    none : (a b : Bool) → is_rev (hashed generation text) ≡ a → bytes_eq (encode_lower (hashed generation text).hash) text ≡ b → rev_if (a && b) (hashed generation text) ≡ None
+    none false b p q = refl
+    none true false p q = refl
+    none true true p q =
+        absurd (never (hashed generation text) (is_rev-says (hashed generation text) p) refl ((bytes_eq-Decides (encode_lower (hashed generation text).hash) text).0 q))
+
+pub rev_with-says : (generation : ℕ) (text : List ℕ) → IfSome (rev_with generation text) (λ r. (r.generation ≡ generation) × IsRev r)
+unfolding rev_with
+rev_with-says generation text = test (is_rev (hashed generation text)) (bytes_eq (encode_lower (hashed generation text).hash) text) refl
+  where
+    test : (a b : Bool) → is_rev (hashed generation text) ≡ a → IfSome (rev_if (a && b) (hashed generation text)) (λ r. (r.generation ≡ generation) × IsRev r)
+    test false b p = tt
+    test true false p = tt
+    test true true p = (refl, is_rev-says (hashed generation text) p)

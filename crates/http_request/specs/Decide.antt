@@ -18,6 +18,7 @@ use Rattle.http_request.specs.Identity.{path_id}
 use Rattle.http_request.specs.Parameters.{options_of, rev_parameter, no_replication}
 use Rattle.http_request.specs.Document.{edit_of}
 use Rattle.http_request.specs.Limit.{limit_of}
+use Rattle.http_request.specs.Bulk.{bulk_of}
 use Rattle.http_request.specs.declared.asked.Asked.{Asked}
 use Rattle.http_request.specs.declared.asked.Asked.TheVariants as asked
 use Rattle.http_request.specs.declared.asked.Form.TheVariants as form
@@ -72,11 +73,16 @@ delete_document path query =
 abbrev pub put_revs_limit : List ℕ → Checked Asked
 put_revs_limit body = and_then (limit_of body) (λ limit. Ok (asked.Command form.Whole (SetLimit limit)))
 
+-- POST of a bulk of documents
+abbrev pub post_bulk : List ℕ → Checked Asked
+post_bulk body = and_then (bulk_of body) (λ command. Ok (asked.Command form.Whole command))
+
 -- what is asked of a route
 abbrev pub asked_of : Route → Method → List ℕ → List ℕ → List ℕ → Checked Asked
 asked_of route.Root method.Get path query body = Ok asked.Welcome
 asked_of route.Database method.Get path query body = Ok (asked.Query Info)
 asked_of route.DatabaseSlash method.Get path query body = Ok (asked.Query Info)
+asked_of route.BulkDocs method.Post path query body = post_bulk body
 asked_of route.RevsLimit method.Get path query body = Ok (asked.Query RevsLimit)
 asked_of route.RevsLimit method.Put path query body = put_revs_limit body
 asked_of route.Document method.Get path query body = get_document path query

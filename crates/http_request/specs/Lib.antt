@@ -1,8 +1,11 @@
 pub mod Steps
+pub mod Each
 pub mod Identity
 pub mod Revisions
 pub mod Parameters
 pub mod Text
 pub mod Document
+pub mod Path
+pub mod Bulk
 pub mod Limit
 pub mod Decide

@@ -1,12 +1,12 @@
 //! A document as the body of a request writes it.
 
-ghost use Rattle.std.specs.Prelude.{◌≡◌, Ok};
+ghost use Rattle.std.specs.Prelude.{◌≡◌, Ok, option_map};
 ghost use Rattle.http_request.specs.Document.{document_in, document_of, edit_of, flag_in, has_shape, is_flag, is_text, named_twice, names_no_other, nesting_parts, parts_in, parts_of, revision_of, text_of, without_ignored};
 ghost use Rattle.http_request.specs.Parameters.{rev_of};
 ghost use Rattle.http_request.specs.Steps.{Decides};
 
 use crate::refusal::{Fault, Reason, refuse};
-use crate::revision::read_revision;
+use crate::revision::name_revision;
 use crate::text::read_json;
 use commands::Edit;
 use document_id::DocId;
@@ -111,8 +111,18 @@ impl Parts {
         }
     }
 
+    /// The text of `_id`.
+    pub(crate) fn id_text(&self) -> Option<&str>
+        ensures { option_map (λ text. text.now) result ≡ text_of self.now.id }
+    {
+        match &self.id {
+            Some(id) => id.as_str(),
+            None => None,
+        }
+    }
+
     /// The revision in `_rev`.
-    fn own_revision(&self) -> Result<Option<RevId>, Fault>
+    pub(crate) fn own_revision(&self) -> Result<Option<RevId>, Fault>
         ensures { Decides result (rev_of (text_of self.now.rev)) }
     {
         let Some(value) = &self.rev else {
@@ -121,10 +131,7 @@ impl Parts {
         let Some(text) = value.as_str() else {
             return Ok(None);
         };
-        match read_revision(text) {
-            Some(rev) => Ok(Some(rev)),
-            None => Err(refuse(Reason::Revision)),
-        }
+        Ok(Some(name_revision(text)?))
     }
 
     /// The revision that a parameter and the document name, where the document has this id.
@@ -139,7 +146,7 @@ impl Parts {
     }
 
     /// Whether this is a deletion.
-    fn is_deleted(&self) -> bool
+    pub(crate) fn is_deleted(&self) -> bool
         ensures { result ≡ flag_in self.now.deleted }
     {
         match &self.deleted {
@@ -151,7 +158,12 @@ impl Parts {
 
 impl Parts {
     /// The edit of this document over a revision.
-    fn into_edit(self, alloc: Global, id: DocId, named: Option<RevId>) -> Result<Edit, Fault>
+    pub(crate) fn into_edit(
+        self,
+        alloc: Global,
+        id: DocId,
+        named: Option<RevId>,
+    ) -> Result<Edit, Fault>
         ensures { Decides result (Ok (record {
           id = id;
           named = named;
@@ -173,7 +185,7 @@ impl Parts {
 }
 
 /// The parts of a value that has the shape of a document.
-fn as_document(parts: Option<Parts>) -> Result<Parts, Fault>
+pub(crate) fn as_document(parts: Option<Parts>) -> Result<Parts, Fault>
     ensures { Decides result (document_in parts) }
 {
     match parts {

@@ -6,10 +6,13 @@
 //! bottom for each route.
 
 mod asked;
+mod bulk;
 mod document;
+mod each;
 mod identity;
 mod limit;
 mod parameter;
+mod path;
 mod read;
 mod refusal;
 mod revision;

@@ -5,7 +5,7 @@ ghost use Rattle.http_request.specs.Parameters.{flag_parameter, is_given, no_rep
 ghost use Rattle.http_request.specs.Steps.{Decides};
 
 use crate::refusal::{Fault, Reason, refuse};
-use crate::revision::read_revision;
+use crate::revision::name_revision;
 use commands::Options;
 use http_target::query::find_parameter;
 use http_target::value::parse_flag;
@@ -32,10 +32,7 @@ pub(crate) fn read_named_revision(alloc: Global, query: &str) -> Result<Option<R
     let Some(text) = find_parameter(alloc, query, "rev")? else {
         return Ok(None);
     };
-    match read_revision(text.as_str()) {
-        Some(rev) => Ok(Some(rev)),
-        None => Err(refuse(Reason::Revision)),
-    }
+    Ok(Some(name_revision(text.as_str())?))
 }
 
 /// Whether a parameter has this value.

@@ -2,10 +2,11 @@
 
 ghost use Rattle.std.specs.Prelude.{◌≡◌, [], ◌∷◌, Ok, IfOk};
 ghost use Rattle.model.specs.Command.{Edits};
-ghost use Rattle.http_request.specs.Decide.{asked_of, decide, delete_document, get_document, method_in, method_of, put_document, put_revs_limit, route_in};
+ghost use Rattle.http_request.specs.Decide.{asked_of, decide, delete_document, get_document, method_in, method_of, post_bulk, put_document, put_revs_limit, route_in};
 ghost use Rattle.http_request.specs.Steps.{Decides};
 
 use crate::asked::{Asked, Form};
+use crate::bulk::read_bulk;
 use crate::document::read_edit;
 use crate::identity::read_path_id;
 use crate::limit::read_limit;
@@ -61,6 +62,7 @@ fn read_route(
         (Route::Database | Route::DatabaseSlash, Method::Get) => {
             Ok(Asked::Query(Query::new(QueryKind::Info)))
         }
+        (Route::BulkDocs, Method::Post) => read_bulk_docs(alloc, body),
         (Route::RevsLimit, Method::Get) => Ok(Asked::Query(Query::new(QueryKind::RevsLimit))),
         (Route::RevsLimit, Method::Put) => read_revs_limit(alloc, body),
         (Route::Document, Method::Get) => read_document_query(alloc, path, query),
@@ -152,6 +154,14 @@ fn one_edit(alloc: Global, form: Form, edit: Edit) -> Result<Asked, Fault>
         unreachable!()
     };
     Ok(Asked::Command(form, command))
+}
+
+/// POST of a bulk of documents.
+fn read_bulk_docs(alloc: Global, body: &[u8]) -> Result<Asked, Fault>
+    ensures { Decides result (post_bulk body.now) }
+{
+    let command = read_bulk(alloc, body)?;
+    Ok(Asked::Command(Form::Whole, command))
 }
 
 /// PUT of the limit of revisions.
