@@ -3,3 +3,4 @@ pub mod JsonTexts
 pub mod Members
 pub mod Parts
 pub mod RevisionTexts
+pub mod TextLists

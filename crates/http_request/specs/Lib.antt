@@ -5,4 +5,7 @@ pub mod Parameters
 pub mod Text
 pub mod Document
 pub mod Limit
+pub mod Feeds
+pub mod Opened
+pub mod Local
 pub mod Decide

@@ -173,7 +173,7 @@ impl Parts {
 }
 
 /// The parts of a value that has the shape of a document.
-fn as_document(parts: Option<Parts>) -> Result<Parts, Fault>
+pub(crate) fn as_document(parts: Option<Parts>) -> Result<Parts, Fault>
     ensures { Decides result (document_in parts) }
 {
     match parts {

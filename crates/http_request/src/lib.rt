@@ -6,9 +6,13 @@
 //! bottom for each route.
 
 mod asked;
+mod counter;
 mod document;
+mod feed;
 mod identity;
 mod limit;
+mod local;
+mod opened;
 mod parameter;
 mod read;
 mod refusal;
