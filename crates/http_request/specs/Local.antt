@@ -1,5 +1,5 @@
 -- Local documents, as requests name and write them.
-use Rattle.std.specs.Prelude.{ℕ, ◌==◌, ◌++◌, Bool, false, List, [], ◌∷◌, Option, Some, None, Ok, codes, not, option_and_then, if◌then◌else◌}
+use Rattle.std.specs.Prelude.{ℕ, ◌==◌, ◌&&◌, ◌++◌, Bool, false, List, [], ◌∷◌, Option, Some, None, Ok, codes, nat_lt, nat_le, not, option_and_then, if◌then◌else◌}
 use Rattle.std.specs.List.{before_first, after_first}
 use Rattle.std.specs.Str.{bytes_eq}
 use Rattle.serde_json.specs.Data.{Members}
@@ -7,13 +7,12 @@ use Rattle.serde_json.specs.Find.{as_object, get_member}
 use Rattle.http_target.specs.Query.{Parameters, parameter, parameters_of}
 use Rattle.http_target.specs.Value.{number}
 use Rattle.json_profile.specs.Objects.{without, has_special}
-use Rattle.model.specs.Command.{Id, PutLocal}
+use Rattle.model.specs.Command.{Id, PutLocal, last_counter}
 use Rattle.model.specs.Profile.{without_specials}
 use Rattle.model.specs.Query.{GetLocal}
 use Rattle.http_request.specs.Steps.{Checked, and_then, or_refused, check}
 use Rattle.http_request.specs.Document.{document_in, names_no_other, nesting_parts, text_of}
 use Rattle.http_request.specs.Identity.{path_id}
-use Rattle.http_request.specs.Limit.{in_range}
 use Rattle.http_request.specs.Revisions.{is_dash}
 use Rattle.http_request.specs.Text.{json_of}
 use Rattle.http_request.specs.declared.asked.Asked.{Asked}
@@ -28,9 +27,13 @@ abbrev pub begins_with_zero : List ℕ → Bool
 begins_with_zero [] = false
 begins_with_zero (digit ∷ digits) = digit == 48
 
--- a number from 1, without leading zeros
+-- a number from 1 to the last
+abbrev pub counter_at : ℕ → Option ℕ
+counter_at n = if nat_lt 0 n && nat_le n last_counter then Some n else None
+
+-- such a number without leading zeros
 abbrev pub counter_of : List ℕ → Option ℕ
-counter_of digits = if begins_with_zero digits then None else option_and_then in_range (number digits)
+counter_of digits = if begins_with_zero digits then None else option_and_then counter_at (number digits)
 
 -- the number of the revision of this text, which is `0-` and the number
 abbrev pub counter_named : List ℕ → Option ℕ

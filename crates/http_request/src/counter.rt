@@ -2,8 +2,7 @@
 
 ghost use Rattle.std.specs.Prelude.{◌≡◌, codes, IfOk, IfSome};
 ghost use Rattle.model.specs.Command.{IsCounter};
-ghost use Rattle.http_request.specs.Limit.{in_range};
-ghost use Rattle.http_request.specs.Local.{counter_named, counter_of, counter_parameter, counter_twice};
+ghost use Rattle.http_request.specs.Local.{counter_at, counter_named, counter_of, counter_parameter, counter_twice};
 ghost use Rattle.http_request.specs.Steps.{Decides};
 
 use crate::refusal::{Fault, Reason, refuse};
@@ -11,8 +10,8 @@ use http_target::query::Parameters;
 use http_target::value::parse_number;
 
 /// The number as that of a revision, from 1.
-fn in_range(number: u64) -> Option<u32>
-    ensures counter { result ≡ in_range number }
+fn counter_at(number: u64) -> Option<u32>
+    ensures counter { result ≡ counter_at number }
     ensures is_counter { IfSome result IsCounter }
 {
     if number == 0 || number > 4_294_967_295 {
@@ -30,7 +29,7 @@ fn parse_counter(digits: &str) -> Option<u32>
         return None;
     }
     match parse_number(digits) {
-        Some(number) => in_range(number),
+        Some(number) => counter_at(number),
         None => None,
     }
 }
