@@ -6,3 +6,4 @@ pub mod Parts
 pub mod Passes
 pub mod Paths
 pub mod RevisionTexts
+pub mod TextLists

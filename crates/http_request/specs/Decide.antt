@@ -1,29 +1,31 @@
 -- What a request asks, or why it is refused.
-use Rattle.std.specs.Prelude.{ℕ, true, List, [], ◌∷◌, Option, Ok, Err, Some, None, codes, is_none}
+use Rattle.std.specs.Prelude.{ℕ, true, List, [], ◌∷◌, Option, Ok, Err, Some, None, codes}
 use Rattle.std.specs.List.{find}
 use Rattle.std.specs.Str.{bytes_eq}
 use Rattle.http_framing.specs.Request.{Request}
 use Rattle.http_target.specs.Target.{path_of, query_of}
-use Rattle.http_target.specs.Query.{parameter}
+use Rattle.http_target.specs.Query.{Parameters, parameter, parameters_of}
 use Rattle.http_routes.specs.Routes.{route_of, methods_of, name_of}
 use Rattle.http_routes.specs.declared.Route.{Route}
 use Rattle.http_routes.specs.declared.Route.TheVariants as route
 use Rattle.http_routes.specs.declared.Method.{Method}
 use Rattle.http_routes.specs.declared.Method.TheVariants as method
 use Rattle.serde_json.specs.Data.{no_members}
-use Rattle.model.specs.Command.{Edits, SetLimit}
-use Rattle.model.specs.Query.{Get, Info, RevsLimit}
-use Rattle.http_request.specs.Steps.{Checked, and_then, check}
+use Rattle.model.specs.Command.{Id, Edits, SetLimit}
+use Rattle.model.specs.Query.{Get, Info, Options, RevsLimit}
+use Rattle.http_request.specs.Steps.{Checked, and_then}
 use Rattle.http_request.specs.Identity.{path_id}
 use Rattle.http_request.specs.Parameters.{options_of, rev_parameter, no_replication}
 use Rattle.http_request.specs.Document.{edit_of}
 use Rattle.http_request.specs.Limit.{limit_of}
 use Rattle.http_request.specs.Bulk.{bulk_of}
+use Rattle.http_request.specs.Feeds.{all_docs_of, changes_of}
+use Rattle.http_request.specs.Opened.{open_revs_of}
+use Rattle.http_request.specs.Local.{delete_local, get_local, put_local}
 use Rattle.http_request.specs.declared.asked.Asked.{Asked}
 use Rattle.http_request.specs.declared.asked.Asked.TheVariants as asked
 use Rattle.http_request.specs.declared.asked.Form.TheVariants as form
 use Rattle.http_request.specs.declared.refusal.Refusal.TheVariants as refusal
-use Rattle.http_request.specs.declared.refusal.Reason.TheVariants as reason
 
 abbrev pub route_found : Option Route → Checked Route
 route_found None = Err refusal.Missing
@@ -44,21 +46,24 @@ method_found route (Some method) = Ok method
 abbrev pub method_in : Route → List ℕ → Checked Method
 method_in route name = method_found route (method_of route name)
 
+-- the revisions of `open_revs` where it is given, else one
+abbrev pub opened_or_got : Id → Options → Parameters → Option (List ℕ) → Checked Asked
+opened_or_got id options parameters (Some text) = open_revs_of id options text parameters
+opened_or_got id options parameters None = and_then (rev_parameter parameters) (λ rev. Ok (asked.Query (Get id rev options)))
+
 -- GET of a document
 abbrev pub get_document : List ℕ → List ℕ → Checked Asked
 get_document path query =
     and_then (path_id path) (λ id.
-    and_then (options_of query) (λ options.
-    and_then (check (is_none (parameter (codes "open_revs") query)) reason.Parameter) (λ _.
-    and_then (rev_parameter query) (λ rev.
-    Ok (asked.Query (Get id rev options))))))
+    and_then (options_of (parameters_of query)) (λ options.
+    opened_or_got id options (parameters_of query) (parameter (codes "open_revs") (parameters_of query))))
 
 -- PUT of a document
 abbrev pub put_document : List ℕ → List ℕ → List ℕ → Checked Asked
 put_document path query body =
     and_then (path_id path) (λ id.
-    and_then (no_replication query) (λ _.
-    and_then (rev_parameter query) (λ rev.
+    and_then (no_replication (parameters_of query)) (λ _.
+    and_then (rev_parameter (parameters_of query)) (λ rev.
     and_then (edit_of id rev body) (λ edit.
     Ok (asked.Command form.Put (Edits (edit ∷ [])))))))
 
@@ -66,7 +71,7 @@ put_document path query body =
 abbrev pub delete_document : List ℕ → List ℕ → Checked Asked
 delete_document path query =
     and_then (path_id path) (λ id.
-    and_then (rev_parameter query) (λ rev.
+    and_then (rev_parameter (parameters_of query)) (λ rev.
     Ok (asked.Command form.Delete (Edits (record { id = id; named = rev; deleted = true; body = no_members } ∷ [])))))
 
 -- PUT of the limit of revisions
@@ -83,6 +88,11 @@ asked_of route.Root method.Get path query body = Ok asked.Welcome
 asked_of route.Database method.Get path query body = Ok (asked.Query Info)
 asked_of route.DatabaseSlash method.Get path query body = Ok (asked.Query Info)
 asked_of route.BulkDocs method.Post path query body = post_bulk body
+asked_of route.AllDocs method.Get path query body = all_docs_of (parameters_of query)
+asked_of route.Changes method.Get path query body = changes_of (parameters_of query)
+asked_of route.Local method.Get path query body = get_local path
+asked_of route.Local method.Put path query body = put_local path query body
+asked_of route.Local method.Delete path query body = delete_local path query
 asked_of route.RevsLimit method.Get path query body = Ok (asked.Query RevsLimit)
 asked_of route.RevsLimit method.Put path query body = put_revs_limit body
 asked_of route.Document method.Get path query body = get_document path query

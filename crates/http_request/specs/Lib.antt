@@ -8,4 +8,7 @@ pub mod Document
 pub mod Path
 pub mod Bulk
 pub mod Limit
+pub mod Feeds
+pub mod Opened
+pub mod Local
 pub mod Decide

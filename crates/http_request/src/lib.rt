@@ -7,10 +7,14 @@
 
 mod asked;
 mod bulk;
+mod counter;
 mod document;
 mod each;
+mod feed;
 mod identity;
 mod limit;
+mod local;
+mod opened;
 mod parameter;
 mod path;
 mod read;

@@ -1,69 +1,95 @@
 //! The parameters of a query string, as routes read them.
 
-ghost use Rattle.std.specs.Prelude.{◌≡◌, IfOk};
-ghost use Rattle.http_request.specs.Parameters.{flag_parameter, is_given, no_replication, options_of, rev_parameter};
+ghost use Rattle.std.specs.Prelude.{◌≡◌};
+ghost use Rattle.http_request.specs.Parameters.{asks_for_documents, flag_parameter, is_given, is_there, no_replication, number_parameter, options_of, rev_parameter};
 ghost use Rattle.http_request.specs.Steps.{Decides};
 
 use crate::refusal::{Fault, Reason, refuse};
 use crate::revision::name_revision;
 use commands::Options;
-use http_target::query::find_parameter;
-use http_target::value::parse_flag;
+use http_target::query::Parameters;
+use http_target::value::{parse_flag, parse_number};
 use revision_id::RevId;
-use std::alloc::{AllocError, Global};
 
 /// A truth value, false where it is not given.
-fn read_flag(alloc: Global, query: &str, name: &str) -> Result<bool, Fault>
-    ensures { Decides result (flag_parameter name.now query.now) }
+fn read_flag(parameters: &Parameters<'_>, name: &str) -> Result<bool, Fault>
+    ensures { Decides result (flag_parameter name.now parameters.now) }
 {
-    let Some(value) = find_parameter(alloc, query, name)? else {
+    let Some(value) = parameters.get(name) else {
         return Ok(false);
     };
-    match parse_flag(value.as_str()) {
+    match parse_flag(value) {
         Some(flag) => Ok(flag),
         None => Err(refuse(Reason::Parameter)),
     }
 }
 
-/// The revision that the request names.
-pub(crate) fn read_named_revision(alloc: Global, query: &str) -> Result<Option<RevId>, Fault>
-    ensures { Decides result (rev_parameter query.now) }
+/// A number, if it is given.
+pub(crate) fn read_number(parameters: &Parameters<'_>, name: &str) -> Result<Option<u64>, Fault>
+    ensures { Decides result (number_parameter name.now parameters.now) }
 {
-    let Some(text) = find_parameter(alloc, query, "rev")? else {
+    let Some(value) = parameters.get(name) else {
         return Ok(None);
     };
-    Ok(Some(name_revision(text.as_str())?))
-}
-
-/// Whether a parameter has this value.
-fn is_given(alloc: Global, query: &str, name: &str, value: &str) -> Result<bool, AllocError>
-    ensures { IfOk result (λ given. given ≡ is_given name.now value.now query.now) }
-{
-    match find_parameter(alloc, query, name)? {
-        Some(found) => Ok(found.as_str() == value),
-        None => Ok(false),
+    match parse_number(value) {
+        Some(number) => Ok(Some(number)),
+        None => Err(refuse(Reason::Parameter)),
     }
 }
 
-/// Refuses the parameter that says that a write is a replication.
-pub(crate) fn refuse_replication(alloc: Global, query: &str) -> Result<(), Fault>
-    ensures { Decides result (no_replication query.now) }
+/// The revision that the request names.
+pub(crate) fn read_named_revision(parameters: &Parameters<'_>) -> Result<Option<RevId>, Fault>
+    ensures { Decides result (rev_parameter parameters.now) }
 {
-    if is_given(alloc, query, "new_edits", "false")? {
+    let Some(text) = parameters.get("rev") else {
+        return Ok(None);
+    };
+    Ok(Some(name_revision(text)?))
+}
+
+/// Whether a parameter has this value.
+pub(crate) fn is_given(parameters: &Parameters<'_>, name: &str, value: &str) -> bool
+    ensures { result ≡ is_given name.now value.now parameters.now }
+{
+    match parameters.get(name) {
+        Some(found) => found == value,
+        None => false,
+    }
+}
+
+/// Whether a parameter is there, with any value.
+pub(crate) fn is_there(parameters: &Parameters<'_>, name: &str) -> bool
+    ensures { result ≡ is_there name.now parameters.now }
+{
+    parameters.get(name).is_some()
+}
+
+/// Refuses the parameter that says that a write is a replication.
+pub(crate) fn refuse_replication(parameters: &Parameters<'_>) -> Result<(), Fault>
+    ensures { Decides result (no_replication parameters.now) }
+{
+    if is_given(parameters, "new_edits", "false") {
         return Err(refuse(Reason::Parameter));
     }
     Ok(())
 }
 
-/// What beside its body is asked of a document.
-pub(crate) fn read_options(alloc: Global, query: &str) -> Result<Options, Fault>
-    ensures { Decides result (options_of query.now) }
+/// Whether rows are asked for with documents, or in another order.
+pub(crate) fn asks_for_documents(parameters: &Parameters<'_>) -> bool
+    ensures { result ≡ asks_for_documents parameters.now }
 {
-    let latest = read_flag(alloc, query, "latest")?;
-    let revs = read_flag(alloc, query, "revs")?;
-    let revs_info = read_flag(alloc, query, "revs_info")?;
-    let conflicts = read_flag(alloc, query, "conflicts")?;
-    let deleted_conflicts = read_flag(alloc, query, "deleted_conflicts")?;
+    is_given(parameters, "include_docs", "true") || is_given(parameters, "descending", "true")
+}
+
+/// What beside its body is asked of a document.
+pub(crate) fn read_options(parameters: &Parameters<'_>) -> Result<Options, Fault>
+    ensures { Decides result (options_of parameters.now) }
+{
+    let latest = read_flag(parameters, "latest")?;
+    let revs = read_flag(parameters, "revs")?;
+    let revs_info = read_flag(parameters, "revs_info")?;
+    let conflicts = read_flag(parameters, "conflicts")?;
+    let deleted_conflicts = read_flag(parameters, "deleted_conflicts")?;
     Ok(Options {
         latest,
         revs,

@@ -8,14 +8,17 @@ ghost use Rattle.http_request.specs.Steps.{Decides};
 use crate::asked::{Asked, Form};
 use crate::bulk::read_bulk;
 use crate::document::read_edit;
+use crate::feed::{read_all_docs, read_changes};
 use crate::identity::read_path_id;
 use crate::limit::read_limit;
+use crate::local::{read_local_deletion, read_local_put, read_local_query};
+use crate::opened::read_open_revs;
 use crate::parameter::{read_named_revision, read_options, refuse_replication};
-use crate::refusal::{Fault, Reason, Refusal, refuse};
+use crate::refusal::{Fault, Refusal};
 use commands::{Command, Edit, Query, QueryKind};
 use http_framing::request::Request;
 use http_routes::{Method, Route, Routes};
-use http_target::query::find_parameter;
+use http_target::query::Parameters;
 use http_target::split_target;
 use json_profile::Body;
 use std::alloc::{AllocError, Global};
@@ -63,6 +66,11 @@ fn read_route(
             Ok(Asked::Query(Query::new(QueryKind::Info)))
         }
         (Route::BulkDocs, Method::Post) => read_bulk_docs(alloc, body),
+        (Route::AllDocs, Method::Get) => read_all_docs(alloc, query),
+        (Route::Changes, Method::Get) => read_changes(alloc, query),
+        (Route::Local, Method::Get) => read_local_query(alloc, path),
+        (Route::Local, Method::Put) => read_local_put(alloc, path, query, body),
+        (Route::Local, Method::Delete) => read_local_deletion(alloc, path, query),
         (Route::RevsLimit, Method::Get) => Ok(Asked::Query(Query::new(QueryKind::RevsLimit))),
         (Route::RevsLimit, Method::Put) => read_revs_limit(alloc, body),
         (Route::Document, Method::Get) => read_document_query(alloc, path, query),
@@ -106,11 +114,12 @@ fn read_document_query(alloc: Global, path: &str, query: &str) -> Result<Asked, 
     ensures { Decides result (get_document path.now query.now) }
 {
     let id = read_path_id(alloc, path)?;
-    let options = read_options(alloc, query)?;
-    if find_parameter(alloc, query, "open_revs")?.is_some() {
-        return Err(refuse(Reason::Parameter));
+    let parameters = Parameters::read(alloc, query)?;
+    let options = read_options(&parameters)?;
+    if let Some(text) = parameters.get("open_revs") {
+        return read_open_revs(alloc, id, options, text, &parameters);
     }
-    let rev = read_named_revision(alloc, query)?;
+    let rev = read_named_revision(&parameters)?;
     Ok(Asked::Query(Query::new(QueryKind::Get { id, rev, options })))
 }
 
@@ -119,8 +128,9 @@ fn read_document_edit(alloc: Global, path: &str, query: &str, body: &[u8]) -> Re
     ensures { Decides result (put_document path.now query.now body.now) }
 {
     let id = read_path_id(alloc, path)?;
-    refuse_replication(alloc, query)?;
-    let rev = read_named_revision(alloc, query)?;
+    let parameters = Parameters::read(alloc, query)?;
+    refuse_replication(&parameters)?;
+    let rev = read_named_revision(&parameters)?;
     let edit = read_edit(alloc, id, rev, body)?;
     one_edit(alloc, Form::Put, edit)
 }
@@ -130,7 +140,8 @@ fn read_deletion(alloc: Global, path: &str, query: &str) -> Result<Asked, Fault>
     ensures { Decides result (delete_document path.now query.now) }
 {
     let id = read_path_id(alloc, path)?;
-    let named = read_named_revision(alloc, query)?;
+    let parameters = Parameters::read(alloc, query)?;
+    let named = read_named_revision(&parameters)?;
     let Ok(body) = Arc::new(alloc, Body::empty(alloc)) else {
         return Err(Fault::Memory);
     };

@@ -1,4 +1,4 @@
-use crate::query::find_parameter;
+use crate::query::Parameters;
 use crate::segment::{SegmentFault, decode_segment};
 use crate::{last_segment, split_target};
 use std::test::Fail;
@@ -12,13 +12,11 @@ fn a_target_in_its_parts(rt: HostRuntime) -> Result<(), Fail> {
         .ok()
         .ok_or("memory")?;
     assert_eq!(rt; id.as_str(), "café/1");
-    let rev = find_parameter(rt.alloc(), query, "rev")?.ok_or("rev")?;
-    assert_eq!(rt; rev.as_str(), "1-a");
-    let revs = find_parameter(rt.alloc(), query, "open_revs")?.ok_or("open_revs")?;
-    assert_eq!(rt; revs.as_str(), "[\"2-b\"]");
-    let plus = find_parameter(rt.alloc(), query, "q")?.ok_or("q")?;
-    assert_eq!(rt; plus.as_str(), "a b+");
-    assert!(rt; find_parameter(rt.alloc(), query, "limit")?.is_none());
+    let parameters = Parameters::read(rt.alloc(), query)?;
+    assert_eq!(rt; parameters.get("rev"), Some("1-a"));
+    assert_eq!(rt; parameters.get("open_revs"), Some("[\"2-b\"]"));
+    assert_eq!(rt; parameters.get("q"), Some("a b+"));
+    assert!(rt; parameters.get("limit").is_none());
     Ok(())
 }
 

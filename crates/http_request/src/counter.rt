@@ -1,0 +1,82 @@
+//! Revisions of local documents, as requests write them.
+
+ghost use Rattle.std.specs.Prelude.{◌≡◌, codes, IfOk, IfSome};
+ghost use Rattle.model.specs.Command.{IsCounter};
+ghost use Rattle.http_request.specs.Local.{counter_at, counter_named, counter_of, counter_parameter, counter_twice};
+ghost use Rattle.http_request.specs.Steps.{Decides};
+
+use crate::refusal::{Fault, Reason, refuse};
+use http_target::query::Parameters;
+use http_target::value::parse_number;
+
+/// The number as that of a revision, from 1.
+fn counter_at(number: u64) -> Option<u32>
+    ensures counter { result ≡ counter_at number }
+    ensures is_counter { IfSome result IsCounter }
+{
+    if number == 0 || number > 4_294_967_295 {
+        return None;
+    }
+    Some(number as u32)
+}
+
+/// A number from 1, without leading zeros.
+fn parse_counter(digits: &str) -> Option<u32>
+    ensures counter { result ≡ counter_of digits.now }
+    ensures is_counter { IfSome result IsCounter }
+{
+    if matches!(digits.as_bytes(), [b'0', ..]) {
+        return None;
+    }
+    match parse_number(digits) {
+        Some(number) => counter_at(number),
+        None => None,
+    }
+}
+
+/// The number of the revision of this text, which is `0-` and the number.
+pub(crate) fn read_counter(text: &str) -> Option<u32>
+    ensures counter { result ≡ counter_named text.now }
+    ensures is_counter { IfSome result IsCounter }
+{
+    match text.split_once('-') {
+        Some((zero, digits)) if zero == "0" => parse_counter(digits),
+        _ => None,
+    }
+}
+
+/// The revision that the request names.
+pub(crate) fn read_named_counter(parameters: &Parameters<'_>) -> Result<Option<u32>, Fault>
+    ensures decides { Decides result (counter_parameter parameters.now) }
+    ensures is_counter { IfOk result (λ counter. IfSome counter IsCounter) }
+{
+    let Some(text) = parameters.get("rev") else {
+        return Ok(None);
+    };
+    match read_counter(text) {
+        Some(counter) => Ok(Some(counter)),
+        None => Err(refuse(Reason::Revision)),
+    }
+}
+
+/// The one revision that is named in two places.
+pub(crate) fn counter_twice(
+    parameter: Option<u32>,
+    member: Option<u32>,
+) -> Result<Option<u32>, Fault>
+    requires parameter { IfSome parameter IsCounter }
+    requires member { IfSome member IsCounter }
+    ensures decides { Decides result (counter_twice parameter member) }
+    ensures is_counter { IfOk result (λ counter. IfSome counter IsCounter) }
+{
+    let Some(member) = member else {
+        return Ok(parameter);
+    };
+    let Some(parameter) = parameter else {
+        return Ok(Some(member));
+    };
+    if parameter != member {
+        return Err(refuse(Reason::Revision));
+    }
+    Ok(Some(parameter))
+}

@@ -1,0 +1,116 @@
+//! What is asked of all documents: their changes, and their list.
+
+ghost use Rattle.std.specs.Prelude.{◌≡◌, codes};
+ghost use Rattle.http_request.specs.Feeds.{all_docs_of, asks_for_keys, asks_for_other_changes, asks_for_range, changes_of, changes_since, is_normal, style_in, style_named};
+ghost use Rattle.http_request.specs.Steps.{Decides};
+ghost use Rattle.http_target.specs.Query.{parameter, parameters_of};
+
+use crate::asked::Asked;
+use crate::parameter::{asks_for_documents, is_given, is_there, read_number};
+use crate::refusal::{Fault, Reason, refuse};
+use commands::{Query, QueryKind, Style, StyleKind};
+use http_target::query::Parameters;
+use std::alloc::Global;
+
+/// Whether changes are asked for that no feed gives.
+fn asks_for_other_changes(parameters: &Parameters<'_>) -> bool
+    ensures { result ≡ asks_for_other_changes parameters.now }
+{
+    asks_for_documents(parameters) || is_there(parameters, "filter") || is_there(parameters, "view")
+}
+
+/// Whether the feed is `normal`, where one is given.
+fn is_normal(parameters: &Parameters<'_>) -> bool
+    ensures { result ≡ is_normal parameters.now }
+{
+    match parameters.get("feed") {
+        Some(feed) => feed == "normal",
+        None => true,
+    }
+}
+
+/// The style of this name.
+fn style_named(name: &str) -> Option<Style>
+    ensures { result ≡ style_named name.now }
+{
+    match name {
+        "main_only" => Some(Style::new(StyleKind::MainOnly)),
+        "all_docs" => Some(Style::new(StyleKind::AllDocs)),
+        _ => None,
+    }
+}
+
+/// The style, of which the winner alone is the default.
+fn read_style(parameters: &Parameters<'_>) -> Result<Style, Fault>
+    ensures { Decides result (style_in (parameter (codes "style") parameters.now)) }
+{
+    let Some(name) = parameters.get("style") else {
+        return Ok(Style::new(StyleKind::MainOnly));
+    };
+    match style_named(name) {
+        Some(style) => Ok(style),
+        None => Err(refuse(Reason::Parameter)),
+    }
+}
+
+/// The changes after the number that is given, or after the one that the database has.
+fn read_since(limit: Option<u64>, style: Style, parameters: &Parameters<'_>) -> Result<Asked, Fault>
+    ensures { Decides result (changes_since limit style parameters.now) }
+{
+    if is_given(parameters, "since", "now") {
+        return Ok(Asked::ChangesFromNow { limit, style });
+    }
+    let since = read_number(parameters, "since")?.unwrap_or(0);
+    Ok(Asked::Query(Query::new(QueryKind::Changes {
+        since,
+        limit,
+        style,
+    })))
+}
+
+/// GET of the changes.
+pub(crate) fn read_changes(alloc: Global, query: &str) -> Result<Asked, Fault>
+    ensures { Decides result (changes_of (parameters_of query.now)) }
+{
+    let parameters = Parameters::read(alloc, query)?;
+    if asks_for_other_changes(&parameters) || !is_normal(&parameters) {
+        return Err(refuse(Reason::Parameter));
+    }
+    let style = read_style(&parameters)?;
+    let limit = read_number(&parameters, "limit")?;
+    read_since(limit, style, &parameters)
+}
+
+/// Whether some rows are asked for by their keys.
+fn asks_for_keys(parameters: &Parameters<'_>) -> bool
+    ensures { result ≡ asks_for_keys parameters.now }
+{
+    is_there(parameters, "key")
+        || is_there(parameters, "keys")
+        || is_there(parameters, "skip")
+        || is_there(parameters, "limit")
+}
+
+/// Whether rows from one key to another are asked for.
+fn asks_for_range(parameters: &Parameters<'_>) -> bool
+    ensures { result ≡ asks_for_range parameters.now }
+{
+    is_there(parameters, "startkey")
+        || is_there(parameters, "endkey")
+        || is_there(parameters, "start_key")
+        || is_there(parameters, "end_key")
+}
+
+/// GET of all documents.
+pub(crate) fn read_all_docs(alloc: Global, query: &str) -> Result<Asked, Fault>
+    ensures { Decides result (all_docs_of (parameters_of query.now)) }
+{
+    let parameters = Parameters::read(alloc, query)?;
+    if asks_for_documents(&parameters)
+        || asks_for_keys(&parameters)
+        || asks_for_range(&parameters)
+    {
+        return Err(refuse(Reason::Parameter));
+    }
+    Ok(Asked::Query(Query::new(QueryKind::AllDocuments)))
+}
