@@ -10,7 +10,7 @@ use Rattle.http_front.specs.declared.response.Text.TheVariants as text
 
 abbrev pub bytes_of : Text → List ℕ
 bytes_of (text.Made text) = string_bytes text
-bytes_of (text.NoMemory text) = text.bytes
+bytes_of (text.Short text) = text.bytes
 
 -- the turn of an item that has this response
 abbrev pub turn_of : Item → Response → Turn

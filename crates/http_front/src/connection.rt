@@ -29,11 +29,11 @@ impl Service<Setting> for Session {
 
     fn refuse<W: Sink>(
         &mut self,
-        setting: &Setting,
+        _setting: &Setting,
         fault: FramingFault,
         writer: &mut W,
     ) -> Result<(), Failed> {
-        let response = refuse(self, setting, fault);
+        let response = refuse(self, fault);
         write_response(writer, response.bytes(), response.closes())?;
         Ok(())
     }

@@ -2,10 +2,10 @@
 
 ghost use Rattle.std.specs.Prelude.{◌≡◌, ℕ, List, string_bytes, IfOk};
 ghost use Rattle.http_front.specs.Outcome.{after_closing};
-ghost use Rattle.http_front.specs.Response.{bytes_of, SaysLost, SendsOrLost};
+ghost use Rattle.http_front.specs.Response.{bytes_of, SaysLost, Sends, SendsOrLost};
 
 use arrayvec::ArrayString;
-use http_response::{Connection, Lost, NO_MEMORY_ROOM, no_memory};
+use http_response::{Connection, Lost, SHORT_ROOM, no_memory};
 use std::alloc::AllocError;
 
 /// What is sent, and whether the connection closes after it.
@@ -19,8 +19,8 @@ pub(crate) struct Response {
 #[derive(Drop)]
 pub(crate) enum Text {
     Made(String),
-    /// The text for want of memory, which takes none.
-    NoMemory(ArrayString<NO_MEMORY_ROOM>),
+    /// A text that takes no memory.
+    Short(ArrayString<SHORT_ROOM>),
 }
 
 impl Response {
@@ -28,8 +28,15 @@ impl Response {
     pub(crate) fn out_of_memory(place: u64, lost: Lost) -> Response
         ensures { SaysLost place lost result }
     {
+        Response::last(no_memory(place, lost))
+    }
+
+    /// Sends a text that takes no memory, after which the connection closes.
+    pub(crate) fn last(text: ArrayString<SHORT_ROOM>) -> Response
+        ensures { Sends text.bytes true result }
+    {
         Response {
-            text: Text::NoMemory(no_memory(place, lost)),
+            text: Text::Short(text),
             closes: true,
         }
     }
@@ -58,7 +65,7 @@ impl Response {
     {
         match &self.text {
             Text::Made(made) => made.as_bytes(),
-            Text::NoMemory(text) => text.as_str().as_bytes(),
+            Text::Short(text) => text.as_str().as_bytes(),
         }
     }
 

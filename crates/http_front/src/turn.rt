@@ -134,10 +134,8 @@ fn read(session: &Session, alloc: Global, query: &Query, closes: bool) -> Respon
 }
 
 /// Answers bytes that are refused.
-pub(crate) fn refuse(session: &Session, setting: &Setting, fault: FramingFault) -> Response
+pub(crate) fn refuse(session: &Session, fault: FramingFault) -> Response
     ensures { AnswersAlone session.now (turn_of (Refused fault) result) session.now }
 {
-    let place = session.place();
-    let text = closing(setting.alloc, place, fault);
-    Response::new(text, true, place, Lost::Call)
+    Response::last(closing(session.place(), fault))
 }
