@@ -7,5 +7,6 @@ pub mod Text
 pub mod Document
 pub mod Path
 pub mod Bulk
+pub mod Difference
 pub mod Limit
 pub mod Decide

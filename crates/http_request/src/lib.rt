@@ -7,6 +7,7 @@
 
 mod asked;
 mod bulk;
+mod difference;
 mod document;
 mod each;
 mod identity;

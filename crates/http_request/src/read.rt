@@ -2,11 +2,12 @@
 
 ghost use Rattle.std.specs.Prelude.{◌≡◌, [], ◌∷◌, Ok, IfOk};
 ghost use Rattle.model.specs.Command.{Edits};
-ghost use Rattle.http_request.specs.Decide.{asked_of, decide, delete_document, get_document, method_in, method_of, post_bulk, put_document, put_revs_limit, route_in};
+ghost use Rattle.http_request.specs.Decide.{asked_of, decide, delete_document, get_document, method_in, method_of, post_bulk, post_revs_diff, put_document, put_revs_limit, route_in};
 ghost use Rattle.http_request.specs.Steps.{Decides};
 
 use crate::asked::{Asked, Form};
 use crate::bulk::read_bulk;
+use crate::difference::read_difference;
 use crate::document::read_edit;
 use crate::identity::read_path_id;
 use crate::limit::read_limit;
@@ -63,6 +64,7 @@ fn read_route(
             Ok(Asked::Query(Query::new(QueryKind::Info)))
         }
         (Route::BulkDocs, Method::Post) => read_bulk_docs(alloc, body),
+        (Route::RevsDiff, Method::Post) => read_revs_diff(alloc, body),
         (Route::RevsLimit, Method::Get) => Ok(Asked::Query(Query::new(QueryKind::RevsLimit))),
         (Route::RevsLimit, Method::Put) => read_revs_limit(alloc, body),
         (Route::Document, Method::Get) => read_document_query(alloc, path, query),
@@ -162,6 +164,14 @@ fn read_bulk_docs(alloc: Global, body: &[u8]) -> Result<Asked, Fault>
 {
     let command = read_bulk(alloc, body)?;
     Ok(Asked::Command(Form::Whole, command))
+}
+
+/// POST of revisions of which some may be missing.
+fn read_revs_diff(alloc: Global, body: &[u8]) -> Result<Asked, Fault>
+    ensures { Decides result (post_revs_diff body.now) }
+{
+    let named = read_difference(alloc, body)?;
+    Ok(Asked::Query(Query::new(QueryKind::RevsDiff(named))))
 }
 
 /// PUT of the limit of revisions.
