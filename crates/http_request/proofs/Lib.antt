@@ -1,4 +1,5 @@
 pub mod Checks
+pub mod Differences
 pub mod JsonTexts
 pub mod Listings
 pub mod Members

@@ -1,5 +1,5 @@
 -- The documents that a bulk lists.
-use Rattle.std.proofs.Common.{◌≡◌, ℕ, ◌<◌, ◌≤◌, List, [], ◌∷◌, length, Option, Some, None, Bool, true, false, refl, sym, ap, ◌∙◌, arith}
+use Rattle.std.proofs.Common.{◌≡◌, ℕ, ◌<◌, ◌≤◌, List, [], ◌∷◌, length, Some, None, Bool, true, false, refl, sym, ap, ◌∙◌, arith}
 use Rattle.std.specs.Prelude.{codes, nat_le, option_map, option_and_then, if◌then◌else◌}
 use Rattle.std.proofs.lemmas.Bool.{le-leb, leb-true}
 use Rattle.serde_json.specs.Data.{Data, null, boolean, number, string, array, object, Members}
@@ -16,7 +16,7 @@ get-object name (string s) = refl
 get-object name (array ds) = refl
 get-object name (object ms) = refl
 
-values_of-items_of : (values : List Data) → values_of (items_of values) ≡ values
+pub values_of-items_of : (values : List Data) → values_of (items_of values) ≡ values
 values_of-items_of [] = refl
 values_of-items_of (value ∷ values) = ap (λ vs. value ∷ vs) (values_of-items_of values)
 

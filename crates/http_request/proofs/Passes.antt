@@ -1,5 +1,5 @@
 -- A check of each of some values, step by step.
-use Rattle.std.proofs.Common.{◌≡◌, List, [], ◌∷◌, ◌++◌, Result, Ok, Err, sym, ap, ◌∙◌, refl}
+use Rattle.std.proofs.Common.{◌≡◌, List, [], ◌∷◌, ◌++◌, Ok, Err, sym, ap, ◌∙◌, refl}
 use Rattle.std.proofs.lemmas.List.{append-nil, append_assoc}
 use Rattle.http_request.specs.Steps.{Checked, Decides, and_then}
 use Rattle.http_request.specs.Each.{DecidesEach, each}

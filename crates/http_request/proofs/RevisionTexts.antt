@@ -1,6 +1,6 @@
 -- The revision of a text.
-use Rattle.std.proofs.Common.{◌≡◌, ◌≢◌, ℕ, zero, suc, ◌+◌, ◌^◌, ◌<◌, ◌≤◌, List, [], ◌∷◌, ◌++◌, length, take, drop, get_or, length-append, Option, Some, None, Ok, Bool, true, false, ◌&&◌, refl, sym, ap, ◌∙◌, subst, arith, decimal, IfSome}
-use Rattle.std.specs.Prelude.{nat_lt, nat_le, ◌==◌}
+use Rattle.std.proofs.Common.{◌≡◌, ◌≢◌, ℕ, zero, suc, ◌+◌, ◌^◌, ◌<◌, ◌≤◌, List, [], ◌∷◌, ◌++◌, length, take, drop, get_or, length-append, Option, Some, None, Bool, true, false, ◌&&◌, refl, sym, ap, ◌∙◌, arith, decimal, IfSome}
+use Rattle.std.specs.Prelude.{nat_lt}
 use Rattle.std.specs.List.{list_all, before_first, after_first, position_or_len}
 use Rattle.std.specs.Str.{bytes_eq}
 use Rattle.std.specs.Str.Parse.{AllDigits, digits_value}

@@ -1,9 +1,9 @@
 -- The documents of a bulk, as the body of a request lists them; each check is made of all of them before the next.
-use Rattle.std.specs.Prelude.{ℕ, ◌&&◌, ◌||◌, Bool, true, false, List, [], ◌∷◌, Option, Some, None, Ok, codes, is_some, length, nat_le, not, option_map, option_and_then, if◌then◌else◌}
+use Rattle.std.specs.Prelude.{ℕ, ◌||◌, Bool, true, false, List, [], ◌∷◌, Option, Some, None, Ok, codes, is_some, length, nat_le, not, option_map, option_and_then, if◌then◌else◌}
 use Rattle.std.specs.List.{list_any}
 use Rattle.serde_json.specs.Data.{Data, Items, no_items, item}
 use Rattle.serde_json.specs.Find.{as_array, as_bool, get}
-use Rattle.model.specs.Command.{Command, Edit, Edits, Id, Merge, Merges, max_edits}
+use Rattle.model.specs.Command.{Command, Edit, Edits, Merge, Merges, max_edits}
 use Rattle.model.specs.Revision.{Rev, same_rev}
 use Rattle.commands.specs.Merge.{merge_of, newest_of}
 use Rattle.http_request.specs.Steps.{Checked, and_then, or_refused, check, refused}

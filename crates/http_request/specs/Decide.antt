@@ -12,8 +12,8 @@ use Rattle.http_routes.specs.declared.Method.{Method}
 use Rattle.http_routes.specs.declared.Method.TheVariants as method
 use Rattle.serde_json.specs.Data.{no_members}
 use Rattle.model.specs.Command.{Id, Edits, SetLimit}
-use Rattle.model.specs.Query.{Get, Info, Options, RevsLimit}
-use Rattle.http_request.specs.Steps.{Checked, and_then}
+use Rattle.model.specs.Query.{Get, Info, Options, RevsLimit, RevsDiff}
+use Rattle.http_request.specs.Steps.{Checked, and_then, check}
 use Rattle.http_request.specs.Identity.{path_id}
 use Rattle.http_request.specs.Parameters.{options_of, rev_parameter, no_replication}
 use Rattle.http_request.specs.Document.{edit_of}
@@ -22,6 +22,7 @@ use Rattle.http_request.specs.Bulk.{bulk_of}
 use Rattle.http_request.specs.Feeds.{all_docs_of, changes_of}
 use Rattle.http_request.specs.Opened.{open_revs_of}
 use Rattle.http_request.specs.Local.{delete_local, get_local, put_local}
+use Rattle.http_request.specs.Difference.{difference_of}
 use Rattle.http_request.specs.declared.asked.Asked.{Asked}
 use Rattle.http_request.specs.declared.asked.Asked.TheVariants as asked
 use Rattle.http_request.specs.declared.asked.Form.TheVariants as form
@@ -82,6 +83,10 @@ put_revs_limit body = and_then (limit_of body) (λ limit. Ok (asked.Command form
 abbrev pub post_bulk : List ℕ → Checked Asked
 post_bulk body = and_then (bulk_of body) (λ command. Ok (asked.Command form.Whole command))
 
+-- POST of revisions of which some may be missing
+abbrev pub post_revs_diff : List ℕ → Checked Asked
+post_revs_diff body = and_then (difference_of body) (λ named. Ok (asked.Query (RevsDiff named)))
+
 -- what is asked of a route
 abbrev pub asked_of : Route → Method → List ℕ → List ℕ → List ℕ → Checked Asked
 asked_of route.Root method.Get path query body = Ok asked.Welcome
@@ -93,6 +98,7 @@ asked_of route.Changes method.Get path query body = changes_of (parameters_of qu
 asked_of route.Local method.Get path query body = get_local path
 asked_of route.Local method.Put path query body = put_local path query body
 asked_of route.Local method.Delete path query body = delete_local path query
+asked_of route.RevsDiff method.Post path query body = post_revs_diff body
 asked_of route.RevsLimit method.Get path query body = Ok (asked.Query RevsLimit)
 asked_of route.RevsLimit method.Put path query body = put_revs_limit body
 asked_of route.Document method.Get path query body = get_document path query

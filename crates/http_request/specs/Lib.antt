@@ -7,6 +7,7 @@ pub mod Text
 pub mod Document
 pub mod Path
 pub mod Bulk
+pub mod Difference
 pub mod Limit
 pub mod Feeds
 pub mod Opened

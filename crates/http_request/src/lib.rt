@@ -8,6 +8,7 @@
 mod asked;
 mod bulk;
 mod counter;
+mod difference;
 mod document;
 mod each;
 mod feed;

@@ -2,11 +2,12 @@
 
 ghost use Rattle.std.specs.Prelude.{◌≡◌, [], ◌∷◌, Ok, IfOk};
 ghost use Rattle.model.specs.Command.{Edits};
-ghost use Rattle.http_request.specs.Decide.{asked_of, decide, delete_document, get_document, method_in, method_of, post_bulk, put_document, put_revs_limit, route_in};
+ghost use Rattle.http_request.specs.Decide.{asked_of, decide, delete_document, get_document, method_in, method_of, post_bulk, post_revs_diff, put_document, put_revs_limit, route_in};
 ghost use Rattle.http_request.specs.Steps.{Decides};
 
 use crate::asked::{Asked, Form};
 use crate::bulk::read_bulk;
+use crate::difference::read_difference;
 use crate::document::read_edit;
 use crate::feed::{read_all_docs, read_changes};
 use crate::identity::read_path_id;
@@ -71,6 +72,7 @@ fn read_route(
         (Route::Local, Method::Get) => read_local_query(alloc, path),
         (Route::Local, Method::Put) => read_local_put(alloc, path, query, body),
         (Route::Local, Method::Delete) => read_local_deletion(alloc, path, query),
+        (Route::RevsDiff, Method::Post) => read_revs_diff(alloc, body),
         (Route::RevsLimit, Method::Get) => Ok(Asked::Query(Query::new(QueryKind::RevsLimit))),
         (Route::RevsLimit, Method::Put) => read_revs_limit(alloc, body),
         (Route::Document, Method::Get) => read_document_query(alloc, path, query),
@@ -173,6 +175,14 @@ fn read_bulk_docs(alloc: Global, body: &[u8]) -> Result<Asked, Fault>
 {
     let command = read_bulk(alloc, body)?;
     Ok(Asked::Command(Form::Whole, command))
+}
+
+/// POST of revisions of which some may be missing.
+fn read_revs_diff(alloc: Global, body: &[u8]) -> Result<Asked, Fault>
+    ensures { Decides result (post_revs_diff body.now) }
+{
+    let named = read_difference(alloc, body)?;
+    Ok(Asked::Query(Query::new(QueryKind::RevsDiff(named))))
 }
 
 /// PUT of the limit of revisions.

@@ -299,3 +299,41 @@ fn a_bulk(rt: HostRuntime) -> Result<(), Fail> {
     assert!(rt; edits[0].id.as_str() == "b" && edits[1].id.as_str() == "a");
     Ok(())
 }
+
+#[test]
+fn differences(rt: HostRuntime) -> Result<(), Fail> {
+    for (body, reason) in [
+        ("[]", Reason::Shape),
+        (r#"{"":["x"],"b":1}"#, Reason::Shape),
+        (r#"{"":["x"],"b":[1]}"#, Reason::Shape),
+        (r#"{"a":["x"],"b":[],"_c":[]}"#, Reason::Id),
+        (
+            r#"{"a":["1-0123456789abcdef0123456789abcdef","x"]}"#,
+            Reason::Revision,
+        ),
+    ] {
+        assert_eq!(rt;
+            bad_post(&rt, "/db/_revs_diff", body)?,
+            Some(reason),
+            "{body}"
+        );
+    }
+    Ok(())
+}
+
+#[test]
+fn a_difference(rt: HostRuntime) -> Result<(), Fail> {
+    let body = r#"{"b":[],"a":["1-0123456789abcdef0123456789abcdef"]}"#;
+    let Ok(Asked::Query(query)) = ask(&rt, "POST", "/db/_revs_diff", body)? else {
+        return Err("no query".into());
+    };
+    let QueryKind::RevsDiff(named) = query.kind() else {
+        return Err("no difference".into());
+    };
+    let [first, second] = named.documents() else {
+        return Err("not two".into());
+    };
+    assert!(rt; first.id.as_str() == "a" && first.revisions.len() == 1);
+    assert!(rt; second.id.as_str() == "b" && second.revisions.is_empty());
+    Ok(())
+}
