@@ -24,6 +24,16 @@ write_data id rev =
 abbrev pub written_data : Id → Rev → Data
 written_data id rev = write_data id (rev_text rev)
 
+-- ---- what is told of a local document
+
+-- `_local/ID`
+abbrev pub local_id : Id → List ℕ
+local_id id = codes "_local/" ++ id
+
+-- `0-k`
+abbrev pub counter_text : ℕ → List ℕ
+counter_text counter = codes "0-" ++ decimal counter
+
 -- ---- the revisions of a document
 
 abbrev pub hash_data : Rev → Data
@@ -90,14 +100,6 @@ abbrev pub all_opened_data : List (Result Document Rev) → Data
 all_opened_data opened = array (items_of (map opened_data opened))
 
 -- ---- a local document
-
--- `_local/ID`
-abbrev pub local_id : Id → List ℕ
-local_id id = codes "_local/" ++ id
-
--- `0-k`
-abbrev pub counter_text : ℕ → List ℕ
-counter_text counter = codes "0-" ++ decimal counter
 
 abbrev pub local_data : Id → ℕ × Body → Data
 local_data id local = object (put (codes "_rev") (string (counter_text local.0)) (put (codes "_id") (string (local_id id)) local.1))
