@@ -13,7 +13,7 @@ use Rattle.http_routes.specs.declared.Method.TheVariants as method
 use Rattle.serde_json.specs.Data.{no_members}
 use Rattle.model.specs.Command.{Id, Edits, SetLimit}
 use Rattle.model.specs.Query.{Get, Info, Options, RevsLimit, RevsDiff}
-use Rattle.http_request.specs.Steps.{Checked, and_then, check}
+use Rattle.http_request.specs.Steps.{Checked, and_then}
 use Rattle.http_request.specs.Identity.{path_id}
 use Rattle.http_request.specs.Parameters.{options_of, rev_parameter, no_replication}
 use Rattle.http_request.specs.Document.{edit_of}

@@ -55,7 +55,7 @@ fn append_rows(alloc: Global, text: String, rows: &[Row]) -> Result<String, Allo
     list.finish()
 }
 
-/// An object of rows.
+/// The rows, with the number to go on from and how many are left.
 fn rows_text(alloc: Global, last_seq: u64, pending: u64, rows: &[Row]) -> Result<String, AllocError>
     ensures { IfOk result (λ text. string_bytes text ≡ compact_text
         (page_data (record { last_seq = last_seq; pending = pending; rows = rows.now }))) }
