@@ -94,15 +94,14 @@ restrict_entries keep t = refl
 
 -- ---- the first marks
 
-pub among_turned : (named : List Rev) (r : Rev) → list_any (λ y. same_rev y r) named ≡ among named r
-among_turned [] r = refl
-among_turned (y ∷ named) r = λ i. same_rev-symm y r i || among_turned named r i
+pub told_mark : (limit : ℕ) (named : List Rev) (t : Tree) (r : Rev) (b : Bool) → b ≡ among named r → cond (is_leaf t r && not b) limit 0 ≡ first_mark limit named t r
+told_mark limit named t r b e = ap (λ c. cond (is_leaf t r && not c) limit 0) e
 
-pub named_mark : (limit : ℕ) (named : List Rev) (t : Tree) (r : Rev) → among named r ≡ true → 0 ≡ first_mark limit named t r
-named_mark limit named t r e = sym (cond-false (is_leaf t r && not (among named r)) limit 0 (and_right (is_leaf t r) (not (among named r)) (ap not e)))
-
-pub leaf_mark : (limit : ℕ) (named : List Rev) (t : Tree) (r : Rev) → is_leaf t r ≡ true → among named r ≡ false → limit ≡ first_mark limit named t r
-leaf_mark limit named t r l e = sym (cond-true (is_leaf t r && not (among named r)) limit 0 (and_from (is_leaf t r) (not (among named r)) l (ap not e)))
+pub marked_more : (g : Rev → ℕ) (nodes : List Node) (i m : ℕ) (n : Node) (old new : List ℕ) → i < length nodes → n ≡ get_or nodes i n
+    → old ≡ map (λ k. g k.rev) (take i nodes) → m ≡ g n.rev → new ≡ old ++ m ∷ [] → new ≡ map (λ k. g k.rev) (take (i + 1) nodes)
+marked_more g nodes i m n old new lt is before e made =
+    made ∙ ap (λ ms. ms ++ m ∷ []) before ∙ ap (λ k. map (λ k. g k.rev) (take i nodes) ++ k ∷ []) e
+    ∙ ap (λ (k : Node). map (λ k. g k.rev) (take i nodes) ++ g k.rev ∷ []) is ∙ sym (map-append (λ k. g k.rev) (take i nodes) (get_or nodes i n ∷ [])) ∙ ap (map (λ k. g k.rev)) (sym (take_more nodes i n lt))
 
 -- ---- the nodes of a tree
 
