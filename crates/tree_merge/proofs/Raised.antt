@@ -1,10 +1,9 @@
 -- The list of the marks of a tree's revisions.
-use Rattle.std.specs.Prelude.{◌≡◌, ℕ, zero, suc, ◌+◌, ◌-◌, ◌<◌, ◌≤◌, max, Bool, true, false, cond, not, ◌&&◌, ◌||◌, List, [], ◌∷◌, ◌++◌, map, length, get_or, take, drop, set, All, AllPairs, Contains, Option, Some, None, is_some, refl}
+use Rattle.std.specs.Prelude.{◌≡◌, ℕ, zero, suc, ◌+◌, ◌-◌, ◌<◌, ◌≤◌, max, Bool, true, false, cond, not, ◌&&◌, List, [], ◌∷◌, ◌++◌, map, length, get_or, take, drop, set, All, AllPairs, Contains, Option, Some, None, is_some, refl}
 use Rattle.std.proofs.Common.{sym, ap, subst, ◌∙◌, arith, sub-one, drop-cons}
 use Rattle.std.specs.declared.cmp.Ordering.TheVariants.{Less}
 use Rattle.std.proofs.Math.ListN.{length-map}
-use Rattle.std.specs.List.{list_any}
-use Rattle.std.proofs.lemmas.Bool.{true≢false, cond-true, cond-false, and_from, and_right}
+use Rattle.std.proofs.lemmas.Bool.{true≢false, cond-true, cond-false}
 use Rattle.std.proofs.lemmas.List.{get_or-map, take_all, take_more, map-append}
 use Rattle.std.proofs.lemmas.List.Elements.{All-head, All-tail, All-weaker, All-contains_itself}
 use Rattle.model.specs.Map.{entries, get, refine_list}
