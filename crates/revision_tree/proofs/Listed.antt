@@ -3,7 +3,7 @@ use Rattle.std.proofs.Common.{◌≡◌, List, [], ◌∷◌, Bool, true, false,
 use Rattle.std.specs.Prelude.{T}
 use Rattle.std.specs.Ordering.{is_lt}
 use Rattle.std.specs.FinMap.Entries as es
-use Rattle.std.specs.FinMap.Entries.{by_order, find, is_sorted, below_all}
+use Rattle.std.specs.FinMap.Entries.{by_order, is_sorted, below_all}
 use Rattle.model.specs.Map.{entries, from_list, same_list}
 use Rattle.model.specs.Revision.{Rev, rev_cmp, revs}
 use Rattle.model.specs.Tree.{Tree, Revision}

@@ -138,14 +138,26 @@ same_or : (a b : Option Found) → option_or (option_map as_model a) (option_map
 same_or None b = refl
 same_or (Some a) b = refl
 
--- the winner is the greatest live leaf, or else the greatest leaf
-pub winner_or : (nodes : List Node) (live dead : Option Found) → IsNodes nodes
-    → live ≡ option_map found_of (find_list (is_wanted false) (reverse nodes)) → dead ≡ option_map found_of (find_list (is_wanted true) (reverse nodes))
-    → winner (tree_of nodes) ≡ option_map as_model (option_or live dead)
-winner_or nodes live dead h p q =
-    ap first_of (sym (walk_is_leaves nodes h)) ∙ first_of_two (down false nodes) (down true nodes)
-    ∙ (λ i. option_or (first_kept (is_wanted false) (reverse nodes) i) (first_kept (is_wanted true) (reverse nodes) i))
-    ∙ (λ i. option_or (option_map as_model (sym p i)) (option_map as_model (sym q i))) ∙ same_or live dead
+abbrev pub greatest_of : Bool → List Node → Option Found
+greatest_of d nodes = option_map found_of (find_list (is_wanted d) (reverse nodes))
 
-pub some_found : (nodes : List Node) (o : Option Found) → IsNodes nodes → winner (tree_of nodes) ≡ option_map as_model o → o ≡ None → ⊥
-some_found nodes o h e none = let w = some_winner (tree_of nodes) h.tree in none-some w.0 (sym (sym (w.1) ∙ e ∙ ap (option_map as_model) none))
+-- the winner is the greatest live leaf, or else the greatest leaf
+module _ (nodes : List Node) (h : IsNodes nodes) (live : Option Found) (p : live ≡ greatest_of false nodes) where
+  winner_or : winner (tree_of nodes) ≡ option_map as_model (option_or live (greatest_of true nodes))
+  winner_or =
+      ap first_of (sym (walk_is_leaves nodes h)) ∙ first_of_two (down false nodes) (down true nodes)
+      ∙ (λ i. option_or (first_kept (is_wanted false) (reverse nodes) i) (first_kept (is_wanted true) (reverse nodes) i))
+      ∙ (λ i. option_or (option_map as_model (sym p i)) (option_map as_model (greatest_of true nodes))) ∙ same_or live (greatest_of true nodes)
+
+  pub live_winner : (l : Found) → live ≡ Some l → winner (tree_of nodes) ≡ Some (as_model l)
+  live_winner l e = winner_or ∙ ap (λ o. option_map as_model (option_or o (greatest_of true nodes))) e
+
+  module _ (none : live ≡ None) (dead : Option Found) (q : dead ≡ greatest_of true nodes) where
+    dead_winner : winner (tree_of nodes) ≡ option_map as_model dead
+    dead_winner = winner_or ∙ ap (λ o. option_map as_model (option_or o (greatest_of true nodes))) none ∙ ap (option_map as_model) (sym q)
+
+    pub deleted_winner : (l : Found) → dead ≡ Some l → winner (tree_of nodes) ≡ Some (as_model l)
+    deleted_winner l e = dead_winner ∙ ap (option_map as_model) e
+
+    pub some_greatest : dead ≡ None → ⊥
+    some_greatest e = let w = some_winner (tree_of nodes) h.tree in none-some w.0 (sym (sym (w.1) ∙ dead_winner ∙ ap (option_map as_model) e))

@@ -19,7 +19,10 @@ pub(crate) fn winner_of(nodes: &[Node]) -> Leaf
     requires { IsNodes nodes.now }
     ensures { winning (tree_of nodes.now) ≡ Some (record { deleted = result.deleted; rev = result.rev }) }
 {
-    match greatest(nodes, false).or(greatest(nodes, true)) {
+    if let Some(live) = greatest(nodes, false) {
+        return live;
+    }
+    match greatest(nodes, true) {
         Some(leaf) => leaf,
         None => unreachable!(),
     }

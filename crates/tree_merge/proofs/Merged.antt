@@ -6,7 +6,7 @@ use Rattle.std.specs.FinMap.Entries.{find, put, is_sorted}
 use Rattle.std.proofs.lemmas.Bool.{cond-false}
 use Rattle.std.proofs.lemmas.List.{map-append, take_all, drop_all}
 use Rattle.std.proofs.lemmas.List.Elements.{All-nil, All-cons, All-append, All-weaker}
-use Rattle.model.specs.Map.{Map, entries, get, get-put, same_map, same_list}
+use Rattle.model.specs.Map.{Map, entries, get, get-put, same_map}
 use Rattle.model.specs.Body.{Body}
 use Rattle.model.specs.Revision.{Rev, rev_cmp, revs, same_rev}
 use Rattle.model.specs.Tree.{Tree, Revision}

@@ -1,10 +1,9 @@
 -- The list of the marks of a tree's revisions.
-use Rattle.std.specs.Prelude.{◌≡◌, ℕ, zero, suc, ◌+◌, ◌-◌, ◌<◌, ◌≤◌, max, Bool, true, false, cond, not, ◌&&◌, ◌||◌, List, [], ◌∷◌, ◌++◌, map, length, get_or, take, drop, set, All, AllPairs, Contains, Option, Some, None, is_some, refl}
+use Rattle.std.specs.Prelude.{◌≡◌, ℕ, zero, suc, ◌+◌, ◌-◌, ◌<◌, ◌≤◌, max, Bool, true, false, cond, not, ◌&&◌, List, [], ◌∷◌, ◌++◌, map, length, get_or, take, drop, set, All, AllPairs, Contains, Option, Some, None, is_some, refl}
 use Rattle.std.proofs.Common.{sym, ap, subst, ◌∙◌, arith, sub-one, drop-cons}
 use Rattle.std.specs.declared.cmp.Ordering.TheVariants.{Less}
 use Rattle.std.proofs.Math.ListN.{length-map}
-use Rattle.std.specs.List.{list_any}
-use Rattle.std.proofs.lemmas.Bool.{true≢false, cond-true, cond-false, and_from, and_right}
+use Rattle.std.proofs.lemmas.Bool.{true≢false, cond-true, cond-false}
 use Rattle.std.proofs.lemmas.List.{get_or-map, take_all, take_more, map-append}
 use Rattle.std.proofs.lemmas.List.Elements.{All-head, All-tail, All-weaker, All-contains_itself}
 use Rattle.model.specs.Map.{entries, get, refine_list}
@@ -94,15 +93,14 @@ restrict_entries keep t = refl
 
 -- ---- the first marks
 
-pub among_turned : (named : List Rev) (r : Rev) → list_any (λ y. same_rev y r) named ≡ among named r
-among_turned [] r = refl
-among_turned (y ∷ named) r = λ i. same_rev-symm y r i || among_turned named r i
+pub told_mark : (limit : ℕ) (named : List Rev) (t : Tree) (r : Rev) (b : Bool) → b ≡ among named r → cond (is_leaf t r && not b) limit 0 ≡ first_mark limit named t r
+told_mark limit named t r b e = ap (λ c. cond (is_leaf t r && not c) limit 0) e
 
-pub named_mark : (limit : ℕ) (named : List Rev) (t : Tree) (r : Rev) → among named r ≡ true → 0 ≡ first_mark limit named t r
-named_mark limit named t r e = sym (cond-false (is_leaf t r && not (among named r)) limit 0 (and_right (is_leaf t r) (not (among named r)) (ap not e)))
-
-pub leaf_mark : (limit : ℕ) (named : List Rev) (t : Tree) (r : Rev) → is_leaf t r ≡ true → among named r ≡ false → limit ≡ first_mark limit named t r
-leaf_mark limit named t r l e = sym (cond-true (is_leaf t r && not (among named r)) limit 0 (and_from (is_leaf t r) (not (among named r)) l (ap not e)))
+pub marked_more : (g : Rev → ℕ) (nodes : List Node) (i m : ℕ) (n : Node) (old new : List ℕ) → i < length nodes → n ≡ get_or nodes i n
+    → old ≡ map (λ k. g k.rev) (take i nodes) → m ≡ g n.rev → new ≡ old ++ m ∷ [] → new ≡ map (λ k. g k.rev) (take (i + 1) nodes)
+marked_more g nodes i m n old new lt is before e made =
+    made ∙ ap (λ ms. ms ++ m ∷ []) before ∙ ap (λ k. map (λ k. g k.rev) (take i nodes) ++ k ∷ []) e
+    ∙ ap (λ (k : Node). map (λ k. g k.rev) (take i nodes) ++ g k.rev ∷ []) is ∙ sym (map-append (λ k. g k.rev) (take i nodes) (get_or nodes i n ∷ [])) ∙ ap (map (λ k. g k.rev)) (sym (take_more nodes i n lt))
 
 -- ---- the nodes of a tree
 

@@ -1,12 +1,14 @@
 -- A write of a path, a strip and the leaves that a cut takes.
-use Rattle.std.specs.Prelude.{◌≡◌, ◌↔◌, ℕ, ◌+◌, ◌<◌, ◌≤◌, Bool, true, false, not, ◌&&◌, cond, List, [], ◌∷◌, ◌++◌, length, get_or, take, Option, Some, None, unwrap_or, Result, Ok, Err, IsErrAnd, if◌then◌else◌, refl}
+use Rattle.std.specs.Prelude.{◌≡◌, ◌↔◌, ℕ, ◌+◌, ◌<◌, ◌≤◌, Bool, true, false, not, ◌&&◌, ◌||◌, cond, List, [], ◌∷◌, ◌++◌, length, get_or, take, Option, Some, None, unwrap_or, Result, Ok, Err, IsErrAnd, if◌then◌else◌, refl}
 use Rattle.std.proofs.Common.{sym, ap, ◌∙◌}
+use Rattle.std.specs.BTreeSet.{BTreeSet, contains, Updates}
 use Rattle.std.specs.Cmp.{both_ways}
-use Rattle.std.proofs.lemmas.Bool.{and_left, and_right, and_from, cond-true, cond-false}
+use Rattle.std.proofs.lemmas.Bool.{true≢false, and_left, and_from, cond-true, cond-false}
 use Rattle.std.proofs.lemmas.List.{take_all, take_more, map-append}
+use Rattle.std.proofs.lemmas.List.Folds.{list_any-append}
 use Rattle.model.specs.Map.{entries, empty, refine_list}
 use Rattle.model.specs.Body.{Body}
-use Rattle.model.specs.Revision.{Rev, revs}
+use Rattle.model.specs.Revision.{Rev, revs, rev_cmp, same_rev}
 use Rattle.model.specs.Tree.{Tree, Revision, is_leaf, among}
 use Rattle.model.specs.TreeChange.{graft, stem, strip, removed_leaves}
 use Rattle.model.specs.Command.{BadHistory}
@@ -14,8 +16,10 @@ use Rattle.model.specs.Edit.{stemmed, with_path}
 use Rattle.model.proofs.StripLaws.{IsTree-strip, IsInRange-strip}
 use Rattle.model.proofs.OnceLaws.{Contains-removed_leaves, removed_leaves-push}
 use Rattle.model.proofs.AncestorLaws.{Contains-among}
+use Rattle.model.proofs.PathLaws.{same_rev-symm}
 use Rattle.revision_tree.specs.declared.node.Node.{Node}
 use Rattle.revision_tree.specs.Nodes.{IsListOf, entry_of, entries_of}
+use Rattle.tree_merge.specs.Seen.{AreSeen}
 use Rattle.tree_merge.specs.Strip.{bared_in}
 use Rattle.tree_merge.specs.declared.fault.MergeFault.{MergeFault}
 
@@ -74,11 +78,27 @@ added_next named t i r old new lt is before e =
     at false l = cond-false (is_leaf t r && not (among (removed_leaves (take i named) t) r)) (removed_leaves (take i named) t ++ r ∷ []) (removed_leaves (take i named) t) (and_left (is_leaf t r) (not (among (removed_leaves (take i named) t) r)) l)
         ∙ sym (cond-false (is_leaf t r && not (among (take i named) r)) (removed_leaves (take i named) t ++ r ∷ []) (removed_leaves (take i named) t) (and_left (is_leaf t r) (not (among (take i named) r)) l))
 
-pub not_added : (t : Tree) (rs : List Rev) (r : Rev) → is_leaf t r ≡ false → rs ≡ added t rs r
-not_added t rs r l = sym (cond-false (is_leaf t r && not (among rs r)) (rs ++ r ∷ []) rs (and_left (is_leaf t r) (not (among rs r)) l))
-
-pub there_already : (t : Tree) (rs : List Rev) (r : Rev) → among rs r ≡ true → rs ≡ added t rs r
-there_already t rs r e = sym (cond-false (is_leaf t r && not (among rs r)) (rs ++ r ∷ []) rs (and_right (is_leaf t r) (not (among rs r)) (ap not e)))
-
 pub is_added : (t : Tree) (rs : List Rev) (r : Rev) → is_leaf t r ≡ true → among rs r ≡ false → rs ++ r ∷ [] ≡ added t rs r
 is_added t rs r l e = sym (cond-true (is_leaf t r && not (among rs r)) (rs ++ r ∷ []) rs (and_from (is_leaf t r) (not (among rs r)) l (ap not e)))
+
+-- ---- the set of those that were taken
+
+last_too : (a b : Bool) → (a || (b || false)) ≡ cond b true a
+last_too true true = refl
+last_too true false = refl
+last_too false true = refl
+last_too false false = refl
+
+among-push : (rs : List Rev) (r q : Rev) → among (rs ++ r ∷ []) q ≡ cond (same_rev r q) true (among rs q)
+among-push rs r q = list_any-append (same_rev q) rs (r ∷ []) ∙ last_too (among rs q) (same_rev q r) ∙ ap (λ b. cond b true (among rs q)) (same_rev-symm q r)
+
+pub AreSeen-push : (s n : BTreeSet Rev) (rs : List Rev) (r : Rev) → Updates rev_cmp s n r true → AreSeen s rs → AreSeen n (rs ++ r ∷ [])
+AreSeen-push s n rs r u h = record { has = λ q. u.0 q ∙ ap (cond (same_rev r q) true) (h.has q) ∙ sym (among-push rs r q) }
+
+not_from_true : (a b : Bool) → a ≡ not b → a ≡ true → b ≡ false
+not_from_true a true e h = absurd (true≢false (sym h ∙ e))
+not_from_true a false e h = refl
+
+-- what the set hasn't is not in the list
+pub untaken_of : (s : BTreeSet Rev) (rs : List Rev) (r : Rev) (b : Bool) → AreSeen s rs → b ≡ not (contains rev_cmp s r) → b ≡ true → among rs r ≡ false
+untaken_of s rs r b h e t = sym (h.has r) ∙ not_from_true b (contains rev_cmp s r) e t

@@ -1,3 +1,4 @@
 pub mod Merging
 pub mod Reach
+pub mod Seen
 pub mod Strip

@@ -1,12 +1,16 @@
 //! How many steps above each revision are kept.
-ghost use Rattle.std.specs.Prelude.{◌≡◌, ℕ, IfOk, length, map};
+ghost use Rattle.std.specs.Prelude.{◌≡◌, ℕ, not, ◌&&◌, if◌then◌else◌, IfOk, length, map};
+ghost use Rattle.std.specs.BTreeSet.{contains};
 ghost use Rattle.model.specs.Map.{entries};
-ghost use Rattle.model.specs.Revision.{Rev};
+ghost use Rattle.model.specs.Revision.{Rev, rev_cmp};
+ghost use Rattle.model.specs.Tree.{is_leaf as is_known_leaf};
 ghost use Rattle.tree_merge.specs.Reach.{first_mark, reach, raised};
+ghost use Rattle.tree_merge.specs.Seen.{AreSeen};
 
 use revision_id::RevId;
 use revision_tree::RevTree;
 use std::alloc::{AllocError, Global};
+use std::collections::BTreeSet;
 
 /// Of each revision how many are kept from it up, itself among them: `limit` from a leaf that isn't named, one fewer with
 /// each step up, and the most of what several leaves give.
@@ -31,16 +35,23 @@ fn first_marks(
 ) -> Result<Vec<u32>, AllocError>
     ensures { IfOk result (λ marks. marks.items ≡ map (λ e. first_mark limit named.now tree.now e.0) (entries tree.now)) }
 {
+    let named = set_of(alloc, named)?;
     let nodes = tree.nodes();
     let mut marks = Vec::new(alloc);
     for node in nodes {
-        marks.push(mark_of(tree, named, limit, node.rev))?;
+        marks.push(mark_of(tree, &named, limit, node.rev))?;
     }
     Ok(marks)
 }
 
-fn mark_of(tree: &RevTree, named: &[RevId], limit: u32, rev: RevId) -> u32
-    ensures { result ≡ first_mark limit named.now tree.now rev }
+fn set_of(alloc: Global, revs: &[RevId]) -> Result<BTreeSet<RevId>, AllocError>
+    ensures { IfOk result (λ set. AreSeen set revs.now) }
+{
+    revs.iter().copied().collect(alloc)
+}
+
+fn mark_of(tree: &RevTree, named: &BTreeSet<RevId>, limit: u32, rev: RevId) -> u32
+    ensures { result ≡ (if is_known_leaf tree.now rev && not (contains rev_cmp named.now rev) then limit else 0) }
 {
     if !tree.is_leaf(rev) {
         return 0;

@@ -1,18 +1,15 @@
-use Rattle.std.proofs.Common.{◌≡◌, ◌∙◌, true, false, sym, subst}
-use Rattle.model.specs.Tree.{among}
-use Rattle.tree_merge.proofs.Raised.{among_turned}
-use Rattle.tree_merge.proofs.Writes.{there_already, is_added}
+use Rattle.std.proofs.Common.{◌∙◌, sym, subst}
+use Rattle.tree_merge.specs.Seen.{AreSeen}
+use Rattle.tree_merge.proofs.Writes.{is_added, AreSeen-push, untaken_of}
 use Rattle.tree_merge.proofs.removed.add.Goals as goal
-
-pub returns-then-contains : goal.returns-then-contains
-returns-then-contains c =
-    let rs = c.args.leaves.now.items in
-    let r = c.args.rev in
-    there_already c.args.tree.now rs r (subst (λ ns. among ns r ≡ true) c.deref.ensures.value (sym (among_turned c.deref.result.now r) ∙ sym c.contains.ensures.value ∙ c.if-contains.true))
 
 pub returns : goal.returns
 returns c =
     let rs = c.args.leaves.now.items in
     let r = c.args.rev in
-    c.in_ok-push.ensures.items ∙ is_added c.args.tree.now rs r (sym c.is_leaf.ensures ∙ c.if-not-is_leaf.false)
-    (subst (λ ns. among ns r ≡ false) c.deref.ensures.value (sym (among_turned c.deref.result.now r) ∙ sym c.contains.ensures.value ∙ c.if-contains.false))
+    let s = c.args.seen.now in
+    let items = c.in_ok-push.ensures.items in
+    record {
+      leaves = items ∙ is_added c.args.tree.now rs r (sym c.is_leaf.ensures ∙ c.if-not-is_leaf.false) (untaken_of s rs r c.in_ok-added.added c.requires c.in_ok-added.ensures.added c.if-not-added.false);
+      seen = subst (AreSeen c.insert.new.self) (sym items) (AreSeen-push s c.insert.new.self rs r c.in_ok-added.ensures.updates c.requires);
+    }
