@@ -12,7 +12,7 @@ ghost use Rattle.model.specs.Database.{Record as Stored, empty_database, same_tr
 
 use crate::documents::Documents;
 use crate::record::Record;
-use crate::written::{edited, merged};
+use crate::written::{Written, edited, merged};
 use commands::{
     Command, CommandKind, Counts, Edit, Merge, Refusal, RefusalKind, Reply, ReplyKind, Seat,
 };
@@ -179,18 +179,32 @@ impl Content {
         self.documents.update(self.alloc, id, tree)
     }
 
+    /// Stores what was written, and answers its revision. A refused write changes nothing.
+    fn store_written(
+        &mut self,
+        id: &DocId,
+        outcome: Result<Written, Refusal>,
+    ) -> Result<Result<RevId, Refusal>, AllocError>
+        requires room { self.old.update_seq < u64.MAX }
+        ensures reply { IfOk result (λ r. r ≡ revision_written outcome) }
+        ensures after { IfOk result (λ _. self.new ≡ model.store_written self.old id.now outcome) }
+    {
+        match outcome {
+            Ok(written) => {
+                self.store(id, written.tree)?;
+                Ok(Ok(written.rev))
+            }
+            Err(refusal) => Ok(Err(refusal)),
+        }
+    }
+
     fn edit(&mut self, edit: &Edit) -> Result<Result<RevId, Refusal>, AllocError>
         requires room { self.old.update_seq < u64.MAX }
         ensures reply { IfOk result (λ r. r ≡ revision_written (edit_in self.old edit.now)) }
         ensures after { IfOk result (λ _. self.new ≡ after_edit self.old edit.now) }
     {
-        match edited(self.alloc, self.revs_limit(), self.tree(&edit.id), edit)? {
-            Ok(written) => {
-                self.store(&edit.id, written.tree)?;
-                Ok(Ok(written.rev))
-            }
-            Err(refusal) => Ok(Err(refusal)),
-        }
+        let outcome = edited(self.alloc, self.revs_limit(), self.tree(&edit.id), edit)?;
+        self.store_written(&edit.id, outcome)
     }
 
     fn merge(&mut self, merge: &Merge) -> Result<Result<RevId, Refusal>, AllocError>
@@ -198,13 +212,8 @@ impl Content {
         ensures reply { IfOk result (λ r. r ≡ revision_written (merge_in self.old merge.now)) }
         ensures after { IfOk result (λ _. self.new ≡ after_merge self.old merge.now) }
     {
-        match merged(self.alloc, self.revs_limit(), self.tree(merge.id()), merge)? {
-            Ok(written) => {
-                self.store(merge.id(), written.tree)?;
-                Ok(Ok(written.rev))
-            }
-            Err(refusal) => Ok(Err(refusal)),
-        }
+        let outcome = merged(self.alloc, self.revs_limit(), self.tree(merge.id()), merge)?;
+        self.store_written(merge.id(), outcome)
     }
 
     /// One after another, in the order listed.

@@ -1,8 +1,9 @@
 //! What an edit or a merge makes of a document's tree.
-ghost use Rattle.std.specs.Prelude.{◌≡◌, ◌∷◌, ◌<◌, IfOk, None, Some, Ok, option_copied};
+ghost use Rattle.std.specs.Prelude.{◌≡◌, ◌∷◌, ◌<◌, ◌+◌, length, IfOk, None, Some, Ok, option_copied};
 ghost use Rattle.std.specs.Arc.{arc_value};
 ghost use Rattle.model.specs.Revision.{generation_after};
 ghost use Rattle.model.specs.TreeChange.{IsPath};
+ghost use Rattle.commands.specs.Merge.{newest_of};
 ghost use Rattle.model.specs.Edit.{parent_path, parent_for as parent_in, over_winner as over_leaf, with_path as tree_with, written as written_at, child_written as child_in, edited as edited_in, merged as merged_in};
 
 use commands::{Edit, Merge, Refusal, RefusalKind};
@@ -61,15 +62,7 @@ pub(crate) fn merged(
     ensures { IfOk result (λ w. w ≡ merged_in limit (option_copied tree.entry) merge.now) }
 {
     let path = merge.path();
-    path_written(
-        alloc,
-        limit,
-        tree,
-        path[0],
-        path,
-        merge.body(),
-        merge.deleted(),
-    )
+    path_written(alloc, limit, tree, path, merge.body(), merge.deleted())
 }
 
 /// The revision that an edit is over, or why it is refused.
@@ -153,37 +146,43 @@ fn child_placed(
     ensures { IfOk result (λ w. w ≡ written_at rev
         (tree_with limit (option_copied tree.entry) (rev ∷ parent_path parent) edit.now.body edit.now.deleted)) }
 {
+    let length = path_length(parent.as_ref());
+    let newest = [rev, parent.unwrap_or(rev)];
+    path_written(
+        alloc,
+        limit,
+        tree,
+        &newest[..length],
+        &edit.body,
+        edit.deleted,
+    )
+}
+
+/// How many revisions there are in the path of a child.
+fn path_length(parent: Option<&RevId>) -> usize
+    ensures { result ≡ length (parent_path (option_copied parent.entry)) + 1 }
+{
     match parent {
-        None => path_written(alloc, limit, tree, rev, &[rev], &edit.body, edit.deleted),
-        Some(parent) => {
-            let _generation = parent.generation();
-            path_written(
-                alloc,
-                limit,
-                tree,
-                rev,
-                &[rev, parent],
-                &edit.body,
-                edit.deleted,
-            )
-        }
+        None => 1,
+        Some(_) => 2,
     }
 }
 
+/// The newest revision of the path, and the tree with the path.
 fn path_written(
     alloc: Global,
     limit: u32,
     tree: Option<&RevTree>,
-    rev: RevId,
     path: &[RevId],
     body: &Arc<Body>,
     deleted: bool,
 ) -> Result<Result<Written, Refusal>, AllocError>
     requires limit { 0 < limit }
     requires path { IsPath path.now }
-    ensures { IfOk result (λ w. w ≡ written_at rev
+    ensures { IfOk result (λ w. w ≡ written_at (newest_of path.now)
         (tree_with limit (option_copied tree.entry) path.now (arc_value body.now) deleted)) }
 {
+    let rev = path[0];
     match with_path(alloc, tree, limit, path, body.clone()?, deleted) {
         Ok(tree) => Ok(Ok(Written { rev, tree })),
         Err(MergeFault::Contradiction) => Ok(Err(Refusal::new(RefusalKind::BadHistory))),
