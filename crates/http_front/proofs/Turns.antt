@@ -29,21 +29,26 @@ module _ (history : List Entry) (place : ℕ) (place_is : place ≡ length histo
   }
 
   -- memory was refused
-  pub answers_lost : (item : Item) → SaysLost place lost.Call response → AnswersAlone history (turn_of item response) history
-  answers_lost item says = unchanged item OutOfMemory refl (says.0, says.1)
+  pub answers_lost : (request : Request) → SaysLost place lost.Call response → AnswersAlone history (turn_of (Asked request) response) history
+  answers_lost request says = unchanged (Asked request) OutOfMemory refl (tt, says.0, says.1)
 
   -- the text of a refusal, or of `/`
-  pub answers_fixed : (item : Item) (text : List ℕ) → HasFixedText place item text → SendsOrLost text (closes_connection item) place lost.Call response
+  pub answers_fixed : (item : Item) (text : List ℕ) → HasFixedText place item text → Sends text (closes_connection item) response
       → AnswersAlone history (turn_of item response) history
-  answers_fixed item text fixed (inl sends) = unchanged item Fixed refl (subst (HasFixedText place item) (sym sends.0) fixed, sends.1)
-  answers_fixed item text fixed (inr says) = answers_lost item says
+  answers_fixed item text fixed sends = unchanged item Fixed refl (subst (HasFixedText place item) (sym sends.0) fixed, sends.1)
+
+  -- the same of a request, unless memory was refused
+  answers_fixed-or_lost : (request : Request) (text : List ℕ) → HasFixedText place (Asked request) text → SendsOrLost text request.closes place lost.Call response
+      → AnswersAlone history (turn_of (Asked request) response) history
+  answers_fixed-or_lost request text fixed (inl sends) = answers_fixed (Asked request) text fixed sends
+  answers_fixed-or_lost request text fixed (inr says) = answers_lost request says
 
   module _ (request : Request) (closes : Bool) (closes_is : request.closes ≡ closes) where
     -- the text of what was decided, where that is a refusal or `/`
     pub answers_decided : (decided : _) (text : List ℕ) → decided ≡ decide request → IsFixedText place closes decided text
         → SendsOrLost text closes place lost.Call response → AnswersAlone history (turn_of (Asked request) response) history
     answers_decided decided text is fixed sends =
-        answers_fixed (Asked request) text
+        answers_fixed-or_lost request text
         (subst (λ (c : Bool). IsFixedText place c (decide request) text) (sym closes_is) (subst (λ d. IsFixedText place closes d text) is fixed))
         (subst (λ (c : Bool). SendsOrLost text c place lost.Call response) (sym closes_is) sends)
 
@@ -58,7 +63,7 @@ module _ (history : List Entry) (place : ℕ) (place_is : place ≡ length histo
           sends.0 ∙ ap (λ (c : Bool). answer_text place (after_closing c) query answer) (sym sends.1),
           sends.1 ∙ sym closes_is,
         )
-    answers_query query answer asks answers (inr says) = answers_lost (Asked request) says
+    answers_query query answer asks answers (inr says) = answers_lost request says
 
     -- the history is full
     pub answers_full : (form : Form) (command : Command) → decide request ≡ Ok (asked.Command form command) → length history ≡ max_places
@@ -67,7 +72,7 @@ module _ (history : List Entry) (place : ℕ) (place_is : place ≡ length histo
     answers_full form command asks full (inl sends) =
         unchanged (Asked request) Full refl
         (form, command, asks, place_is ∙ full, sends.0 ∙ ap (λ (c : Bool). full_text place (after_closing c)) (sym sends.1), sends.1 ∙ sym closes_is)
-    answers_full form command asks full (inr says) = answers_lost (Asked request) says
+    answers_full form command asks full (inr says) = answers_lost request says
 
     module _ (old : List Entry) (seat : Seat) (form : Form) (command : Command) (reply : Reply) (asks : decide request ≡ Ok (asked.Command form command)) (writes : WritesCall 0 old seat command place reply history) (entry_is : history ≡ old ++ record { seat = seat; command = command; reply = reply } ∷ []) where
       -- the entry was written

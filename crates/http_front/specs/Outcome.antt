@@ -1,5 +1,5 @@
 -- What becomes of a request, and the text that tells it.
-use Rattle.std.specs.Prelude.{◌≡◌, ℕ, ◌⊎◌, Bool, true, List, [], ◌∷◌, take, Option, Result, Ok, Err, if◌then◌else◌}
+use Rattle.std.specs.Prelude.{◌≡◌, ℕ, ◌⊎◌, Bool, true, List, [], ◌∷◌, take, Option, Result, Ok, Err, if◌then◌else◌, ⊤}
 use Rattle.model.specs.Command.{Entry, Command}
 use Rattle.model.specs.Query.{Query, Answer, Changes, Style}
 use Rattle.model.specs.Database.{Database, empty_database}
@@ -32,7 +32,7 @@ pub data Outcome : Type 0 where
   WroteUntold : Form → Entry → Outcome
   -- the query has this answer
   Read : Query → Answer → Outcome
-  -- memory was refused, and no entry was written
+  -- memory was refused for a request, and no entry was written
   OutOfMemory : Outcome
   -- the history is full, and no entry was written
   Full : Outcome
@@ -47,6 +47,11 @@ abbrev pub written : Outcome → List Entry
 written (Wrote form entry) = entry ∷ []
 written (WroteUntold form entry) = entry ∷ []
 written _ = []
+
+-- the item is a request
+abbrev pub IsRequest : Item → Type 0
+IsRequest (Asked request) = ⊤
+IsRequest (Refused fault) = ⊥
 
 -- the item is a request that asks this
 abbrev pub Asks : Item → Asking → Type 0
@@ -104,7 +109,7 @@ module _ (session : ℕ) (history : List Entry) where
       IsRead turn.item place query answer
       × (turn.text ≡ answer_text place (after_closing turn.closes) query answer)
       × (turn.closes ≡ closes_connection turn.item)
-  TellsAt turn place OutOfMemory = (turn.text ≡ no_memory_text place lost.Call) × (turn.closes ≡ true)
+  TellsAt turn place OutOfMemory = IsRequest turn.item × (turn.text ≡ no_memory_text place lost.Call) × (turn.closes ≡ true)
   TellsAt turn place Full =
       (form : Form) × (command : Command) × Asks turn.item (asked.Command form command) × (place ≡ max_places)
       × (turn.text ≡ full_text place (after_closing turn.closes)) × (turn.closes ≡ closes_connection turn.item)

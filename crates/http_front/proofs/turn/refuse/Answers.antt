@@ -1,4 +1,4 @@
-use Rattle.std.proofs.Common.{inl, refl, ◌∙◌}
+use Rattle.std.proofs.Common.{refl, ◌∙◌}
 use Rattle.http_framing.specs.Input.{Refused}
 use Rattle.http_front.proofs.Turns.{answers_fixed}
 use Rattle.http_front.proofs.turn.refuse.Goals as goal
@@ -6,4 +6,4 @@ use Rattle.http_front.proofs.turn.refuse.Goals as goal
 pub returns : goal.returns
 returns c =
     answers_fixed c.args.session.now c.place.result c.place.ensures c.last.result (Refused c.args.fault) _ refl
-    (inl (c.last.ensures.0 ∙ c.closing.ensures.text, c.last.ensures.1))
+    (c.last.ensures.0 ∙ c.closing.ensures.text, c.last.ensures.1)
