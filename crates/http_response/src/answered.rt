@@ -15,7 +15,7 @@ use crate::document::{all_opened_text, document_text};
 use crate::local::local_text;
 use crate::problem::body_of_absent;
 use crate::replied::tell_done;
-use crate::response::{Allow, Status, response};
+use crate::response::{Status, plain_response};
 use crate::written::{counts_text, number_text};
 use commands::{Absent, AbsentKind, Answer, AnswerKind, Document, Query, QueryKind};
 use document_id::DocId;
@@ -36,14 +36,7 @@ pub fn answer(
         ≡ answer_text place connection query.now answer.now) }
 {
     let (status, body) = tell(alloc, query, answer.kind())?;
-    response(
-        alloc,
-        status,
-        place,
-        Allow::Unsaid,
-        connection,
-        body.as_str(),
-    )
+    plain_response(alloc, status, place, connection, body.as_str())
 }
 
 fn tell(alloc: Global, query: &Query, answer: &AnswerKind) -> Result<(Status, String), AllocError>
