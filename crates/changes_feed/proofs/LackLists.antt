@@ -1,5 +1,5 @@
 -- What is lacking of documents that are not known, and of several documents.
-use Rattle.std.specs.Prelude.{◌≡◌, true, List, [], ◌∷◌, ◌++◌, filter, nat_lt, Option, Some, None, refl}
+use Rattle.std.specs.Prelude.{◌≡◌, ℕ, true, List, [], ◌∷◌, ◌++◌, filter, nat_lt, Option, Some, None, refl}
 use Rattle.std.proofs.Common.{sym, ap, ◌∙◌}
 use Rattle.model.specs.Lists.{each_once}
 use Rattle.model.specs.Map.{empty, kept, refine_list}
@@ -7,14 +7,14 @@ use Rattle.model.specs.Revision.{Rev, same_rev}
 use Rattle.model.specs.Tree.{leaves, revs_of}
 use Rattle.model.specs.Command.{Id, names}
 use Rattle.model.specs.Query.{Difference}
-use Rattle.model.specs.Documents.{difference_of, in_order, largest_generation, missing_from}
-use Rattle.changes_feed.specs.Lacking.{one_lacking, with_ancestors}
+use Rattle.model.specs.Documents.{in_order, missing_from}
+use Rattle.changes_feed.specs.Lacking.{ancestors_of, one_lacking}
 
 passing_all : (xs : List Rev) → filter (λ r. true) xs ≡ xs
 passing_all [] = refl
 passing_all (x ∷ xs) = ap (λ ys. x ∷ ys) (passing_all xs)
 
--- of a tree of no revisions all are missing
+-- of a document that is not known all are missing
 pub missing-empty : (asked : List Rev) → missing_from empty asked ≡ each_once same_rev asked
 missing-empty asked = ap (each_once same_rev) (passing_all asked)
 
@@ -22,9 +22,9 @@ leaves-empty : leaves empty ≡ []
 unfolding leaves
 leaves-empty = refl
 
-pub difference-empty : (ms : List Rev) → with_ancestors ms [] ≡ difference_of empty ms
-difference-empty [] = refl
-difference-empty (r ∷ rs) = sym (ap (λ ls. with_ancestors (r ∷ rs) (in_order (filter (λ (l : Rev). nat_lt l.generation (largest_generation (r ∷ rs))) (revs_of ls)))) leaves-empty)
+-- and no leaf is an ancestor
+pub ancestors-empty : (generation : ℕ) → [] ≡ ancestors_of generation empty
+ancestors-empty generation = sym (ap (λ ls. in_order (filter (λ (l : Rev). nat_lt l.generation generation) (revs_of ls))) leaves-empty)
 
 module _ (f : Id → List Rev → Option Difference) where
   kept-append : (o : Option Difference) (e : Id × List Rev) (es ds : List (Id × Difference)) → (elim o [ None ↦ es ++ ds | Some y ↦ (e.0, y) ∷ (es ++ ds) ]) ≡ (elim o [ None ↦ es | Some y ↦ (e.0, y) ∷ es ]) ++ ds

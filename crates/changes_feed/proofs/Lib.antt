@@ -1,4 +1,5 @@
 pub mod LeafLists
+pub mod ShownParts
 pub mod SeenLists
 pub mod OrderLists
 pub mod LackLists

@@ -1,10 +1,9 @@
 //! Which revisions a database lacks.
-ghost use Rattle.std.specs.Prelude.{◌≡◌, ◌++◌, IfOk, OnOk, filter, not};
-ghost use Rattle.model.specs.Map.{empty};
+ghost use Rattle.std.specs.Prelude.{◌≡◌, ◌++◌, IfOk, OnOk, filter, not, option_copied};
 ghost use Rattle.model.specs.Tree.{knows};
 ghost use Rattle.model.specs.Database.{empty_database};
 ghost use Rattle.model.specs.History.{replay};
-ghost use Rattle.changes_feed.specs.Lacking.{one_lacking, with_ancestors};
+ghost use Rattle.changes_feed.specs.Lacking.{ancestors_of, known_tree, one_lacking};
 ghost use Rattle.model.specs.Documents.{difference as difference_at, difference_of as difference_from, differences, largest_generation as largest_of, missing_from as missing_in};
 
 use crate::leaves::leaves_below;
@@ -56,54 +55,56 @@ fn difference(
     ensures { IfOk result (λ answer. answer ≡ difference_at (replay empty_database version.now) id.now asked.now) }
 {
     match version.record(id) {
-        Some(record) => difference_in(alloc, record.tree(), asked),
-        None => difference_unknown(alloc, asked),
+        Some(record) => difference_in(alloc, Some(record.tree()), asked),
+        None => difference_in(alloc, None, asked),
     }
 }
 
 fn difference_in(
     alloc: Global,
-    tree: &RevTree,
+    tree: Option<&RevTree>,
     asked: &[RevId],
 ) -> Result<Option<Difference>, AllocError>
-    ensures { IfOk result (λ answer. answer ≡ difference_from tree.now (missing_in tree.now asked.now)) }
+    ensures { IfOk result (λ answer. answer ≡ (let t = known_tree (option_copied tree.entry) in difference_from t (missing_in t asked.now))) }
 {
     let missing = missing_from(alloc, tree, asked)?;
     if missing.is_empty() {
         return Ok(None);
     }
-    let possible_ancestors = leaves_below(alloc, tree, largest_generation(&missing))?;
+    let possible_ancestors = ancestors(alloc, tree, largest_generation(&missing))?;
     Ok(Some(Difference {
         missing,
         possible_ancestors,
     }))
 }
 
-/// Of a document that is not known all is missing, and no leaf is its ancestor.
-fn difference_unknown(alloc: Global, asked: &[RevId]) -> Result<Option<Difference>, AllocError>
-    ensures { IfOk result (λ answer. answer ≡ difference_from empty (missing_in empty asked.now)) }
+/// The revisions that are not known, each at its first place. Of a document that is not known all
+/// are missing.
+fn missing_from(
+    alloc: Global,
+    tree: Option<&RevTree>,
+    asked: &[RevId],
+) -> Result<Vec<RevId>, AllocError>
+    ensures { IfOk result (λ missing. missing.items ≡ missing_in (known_tree (option_copied tree.entry)) asked.now) }
 {
-    let missing = once(alloc, asked)?;
-    Ok(difference_with(missing, Vec::new(alloc)))
-}
-
-fn difference_with(missing: Vec<RevId>, possible_ancestors: Vec<RevId>) -> Option<Difference>
-    ensures { result ≡ with_ancestors missing.items possible_ancestors.items }
-{
-    if missing.is_empty() {
-        return None;
+    match tree {
+        Some(tree) => once(alloc, &not_known(alloc, tree, asked)?),
+        None => once(alloc, asked),
     }
-    Some(Difference {
-        missing,
-        possible_ancestors,
-    })
 }
 
-/// The revisions that are not known, each at its first place.
-fn missing_from(alloc: Global, tree: &RevTree, asked: &[RevId]) -> Result<Vec<RevId>, AllocError>
-    ensures { IfOk result (λ missing. missing.items ≡ missing_in tree.now asked.now) }
+/// The leaves of a generation below `generation`, in rising order.
+fn ancestors(
+    alloc: Global,
+    tree: Option<&RevTree>,
+    generation: u32,
+) -> Result<Vec<RevId>, AllocError>
+    ensures { IfOk result (λ revs. revs.items ≡ ancestors_of generation (known_tree (option_copied tree.entry))) }
 {
-    once(alloc, &not_known(alloc, tree, asked)?)
+    match tree {
+        Some(tree) => leaves_below(alloc, tree, generation),
+        None => Ok(Vec::new(alloc)),
+    }
 }
 
 fn not_known(alloc: Global, tree: &RevTree, revs: &[RevId]) -> Result<Vec<RevId>, AllocError>

@@ -1,11 +1,9 @@
 //! A document as it is shown: a revision, and what else was asked for.
-ghost use Rattle.std.specs.Prelude.{◌≡◌, IfOk, [], filter, not, Some, None, option_map, if◌then◌else◌};
+ghost use Rattle.std.specs.Prelude.{◌≡◌, IfOk, [], Some, None, option_map, if◌then◌else◌};
 ghost use Rattle.std.specs.Arc.{arc_value};
-ghost use Rattle.model.specs.Tree.{revs_of, path_of};
-ghost use Rattle.changes_feed.specs.Shown.{path_statuses};
-ghost use Rattle.model.specs.Documents.{document as document_of, losers, status_of, stored as stored_in};
+ghost use Rattle.changes_feed.specs.Shown.{listed_leaves, listed_path, others_with, statuses_of};
+ghost use Rattle.model.specs.Documents.{document as document_of, status_of, stored as stored_in};
 
-use crate::leaves::{deleted_conflicts_of, live_conflicts_of};
 use commands::{Document, Options, Status, StatusKind};
 use document_id::DocId;
 use json_profile::Body;
@@ -40,52 +38,59 @@ fn document(
 ) -> Result<Document, AllocError>
     ensures { IfOk result (λ shown. shown ≡ document_of id.now tree.now options.now rev (arc_value body.now)) }
 {
+    let path = path_of(alloc, tree, options, rev)?;
+    let revs_info = revs_info(alloc, tree, &path, options.revs_info)?;
+    let leaves = leaves_of(alloc, tree, options)?;
     Ok(Document {
         id: id.share()?,
         rev,
         deleted: tree.is_deleted(rev),
         body: Arc::try_clone(body)?,
-        revisions: revisions(alloc, tree, rev, options.revs)?,
-        revs_info: revs_info(alloc, tree, rev, options.revs_info)?,
-        conflicts: conflicts(alloc, tree, options.conflicts)?,
-        deleted_conflicts: deleted_conflicts(alloc, tree, options.deleted_conflicts)?,
+        revisions: options.revs.then_some(path),
+        revs_info,
+        conflicts: conflicts(alloc, tree, &leaves, false, options.conflicts)?,
+        deleted_conflicts: conflicts(alloc, tree, &leaves, true, options.deleted_conflicts)?,
     })
 }
 
-fn revisions(
+/// The known path, where the revisions or their states were asked for.
+fn path_of(
     alloc: Global,
     tree: &RevTree,
+    options: &Options,
     rev: RevId,
-    wanted: bool,
-) -> Result<Option<Vec<RevId>>, AllocError>
-    ensures { IfOk result (λ path. option_map (λ v. v.items) path ≡ (if wanted then Some (path_of tree.now rev) else None)) }
+) -> Result<Vec<RevId>, AllocError>
+    ensures { IfOk result (λ path. path.items ≡ listed_path options.now tree.now rev) }
 {
-    if !wanted {
-        return Ok(None);
+    if !options.revs && !options.revs_info {
+        return Ok(Vec::new(alloc));
     }
-    Ok(Some(tree.path_of(alloc, rev)?))
+    tree.path_of(alloc, rev)
 }
 
+/// Each revision with what is kept of it, where this was asked for.
 fn revs_info(
     alloc: Global,
     tree: &RevTree,
-    rev: RevId,
+    path: &[RevId],
     wanted: bool,
 ) -> Result<Option<Vec<(RevId, Status)>>, AllocError>
     ensures { IfOk result (λ info. option_map (λ v. v.items) info
-        ≡ (if wanted then Some (path_statuses tree.now rev) else None)) }
+        ≡ (if wanted then Some (statuses_of tree.now path.now) else None)) }
 {
     if !wanted {
         return Ok(None);
     }
-    Ok(Some(statuses(alloc, tree, rev)?))
+    Ok(Some(statuses(alloc, tree, path)?))
 }
 
-/// The known path of a revision, newest first, each with what is kept of it.
-fn statuses(alloc: Global, tree: &RevTree, rev: RevId) -> Result<Vec<(RevId, Status)>, AllocError>
-    ensures { IfOk result (λ info. info.items ≡ path_statuses tree.now rev) }
+fn statuses(
+    alloc: Global,
+    tree: &RevTree,
+    path: &[RevId],
+) -> Result<Vec<(RevId, Status)>, AllocError>
+    ensures { IfOk result (λ info. info.items ≡ statuses_of tree.now path.now) }
 {
-    let path = tree.path_of(alloc, rev)?;
     path.iter()
         .map(|known| (*known, status(tree, *known)))
         .collect(alloc)
@@ -103,22 +108,45 @@ fn status(tree: &RevTree, rev: RevId) -> Status
     Status::new(StatusKind::Available)
 }
 
-fn conflicts(alloc: Global, tree: &RevTree, wanted: bool) -> Result<Vec<RevId>, AllocError>
-    ensures { IfOk result (λ revs. revs.items
-        ≡ (if wanted then revs_of (filter (λ l. not l.deleted) (losers tree.now)) else [])) }
+/// The leaves, where conflicts were asked for.
+fn leaves_of(alloc: Global, tree: &RevTree, options: &Options) -> Result<Vec<RevId>, AllocError>
+    ensures { IfOk result (λ revs. revs.items ≡ listed_leaves options.now tree.now) }
 {
-    if !wanted {
+    if !options.conflicts && !options.deleted_conflicts {
         return Ok(Vec::new(alloc));
     }
-    live_conflicts_of(alloc, tree)
+    tree.leaves(alloc)
 }
 
-fn deleted_conflicts(alloc: Global, tree: &RevTree, wanted: bool) -> Result<Vec<RevId>, AllocError>
-    ensures { IfOk result (λ revs. revs.items
-        ≡ (if wanted then revs_of (filter (λ l. l.deleted) (losers tree.now)) else [])) }
+/// The leaves other than the first that are deleted, or those that are not, where they were asked
+/// for.
+fn conflicts(
+    alloc: Global,
+    tree: &RevTree,
+    leaves: &[RevId],
+    deleted: bool,
+    wanted: bool,
+) -> Result<Vec<RevId>, AllocError>
+    ensures { IfOk result (λ revs. revs.items ≡ (if wanted then others_with deleted tree.now leaves.now else [])) }
 {
     if !wanted {
         return Ok(Vec::new(alloc));
     }
-    deleted_conflicts_of(alloc, tree)
+    others(alloc, tree, leaves, deleted)
+}
+
+fn others(
+    alloc: Global,
+    tree: &RevTree,
+    leaves: &[RevId],
+    deleted: bool,
+) -> Result<Vec<RevId>, AllocError>
+    ensures { IfOk result (λ revs. revs.items ≡ others_with deleted tree.now leaves.now) }
+{
+    leaves
+        .iter()
+        .skip(1)
+        .filter(|rev| tree.is_deleted(**rev) == deleted)
+        .copied()
+        .collect(alloc)
 }

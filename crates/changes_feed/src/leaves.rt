@@ -1,51 +1,13 @@
 //! The leaves of a document, as answers list them.
-ghost use Rattle.std.specs.Prelude.{◌≡◌, IfOk, not, drop, filter, nat_lt};
-ghost use Rattle.model.specs.Tree.{leaves, revs_of, among, path_of, is_deleted};
+ghost use Rattle.std.specs.Prelude.{◌≡◌, IfOk, filter, nat_lt};
+ghost use Rattle.model.specs.Tree.{among, path_of};
 ghost use Rattle.changes_feed.specs.Lacking.{ancestors_of};
-ghost use Rattle.model.specs.Documents.{losers, latest_of as latest_in};
+ghost use Rattle.model.specs.Documents.{latest_of as latest_in};
 
 use crate::once::in_order;
 use revision_id::RevId;
 use revision_tree::RevTree;
 use std::alloc::{AllocError, Global};
-
-/// The leaves other than the winner that are not deleted, in the winner's order.
-pub(crate) fn live_conflicts_of(alloc: Global, tree: &RevTree) -> Result<Vec<RevId>, AllocError>
-    ensures { IfOk result (λ revs. revs.items ≡ revs_of (filter (λ l. not l.deleted) (losers tree.now))) }
-{
-    live_after_first(alloc, tree, &tree.leaves(alloc)?)
-}
-
-/// The leaves other than the winner that are deleted, in the winner's order.
-pub(crate) fn deleted_conflicts_of(alloc: Global, tree: &RevTree) -> Result<Vec<RevId>, AllocError>
-    ensures { IfOk result (λ revs. revs.items ≡ revs_of (filter (λ l. l.deleted) (losers tree.now))) }
-{
-    deleted_after_first(alloc, tree, &tree.leaves(alloc)?)
-}
-
-fn live_after_first(alloc: Global, tree: &RevTree, revs: &[RevId]) -> Result<Vec<RevId>, AllocError>
-    ensures { IfOk result (λ live. live.items ≡ filter (λ r. not (is_deleted tree.now r)) (drop 1 revs.now)) }
-{
-    revs.iter()
-        .skip(1)
-        .filter(|rev| !tree.is_deleted(**rev))
-        .copied()
-        .collect(alloc)
-}
-
-fn deleted_after_first(
-    alloc: Global,
-    tree: &RevTree,
-    revs: &[RevId],
-) -> Result<Vec<RevId>, AllocError>
-    ensures { IfOk result (λ deleted. deleted.items ≡ filter (λ r. is_deleted tree.now r) (drop 1 revs.now)) }
-{
-    revs.iter()
-        .skip(1)
-        .filter(|rev| tree.is_deleted(**rev))
-        .copied()
-        .collect(alloc)
-}
 
 /// The leaves that descend from a revision, itself if it is one, in the winner's order.
 pub(crate) fn latest_of(alloc: Global, tree: &RevTree, rev: RevId) -> Result<Vec<RevId>, AllocError>
