@@ -1,6 +1,6 @@
 //! A response at hand.
 
-ghost use Rattle.std.specs.Prelude.{◌≡◌, ℕ, List, string_bytes, IfOk};
+ghost use Rattle.std.specs.Prelude.{◌≡◌, ℕ, true, List, string_bytes, IfOk};
 ghost use Rattle.http_front.specs.Outcome.{after_closing};
 ghost use Rattle.http_front.specs.Response.{bytes_of, SaysLost, Sends, SendsOrLost};
 
