@@ -26,6 +26,3 @@ mod text;
 pub use asked::{Asked, Form};
 pub use read::read_request;
 pub use refusal::{Reason, Refusal};
-
-#[cfg(test)]
-mod tests;

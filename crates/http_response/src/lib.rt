@@ -28,8 +28,3 @@ pub use fixed::{closing, full, refused, welcome};
 pub use lost::{Lost, no_memory};
 pub use replied::reply;
 pub use short::SHORT_ROOM;
-
-#[cfg(test)]
-mod answer_tests;
-#[cfg(test)]
-mod tests;

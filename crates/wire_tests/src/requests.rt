@@ -1,6 +1,6 @@
-use crate::{Asked, Form, Reason, Refusal, read_request};
 use commands::{CommandKind, QueryKind};
 use http_framing::request::Request;
+use http_request::{Asked, Form, Reason, Refusal, read_request};
 use http_routes::{Route, Routes};
 use std::test::Fail;
 

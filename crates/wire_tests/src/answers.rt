@@ -1,9 +1,9 @@
-use crate::{Connection, answer};
 use commands::{
     Answer, AnswerKind, ChangesPage, Difference, Differences, Document, NamedRevisions, Options,
     Query, QueryKind, Row, Style, StyleKind,
 };
 use document_id::DocId;
+use http_response::{Connection, answer};
 use json_profile::Body;
 use revision_id::RevId;
 use std::sync::Arc;

@@ -1,4 +1,3 @@
-use crate::{Connection, Lost, answer, closing, full, no_memory, refused, reply, welcome};
 use commands::{
     Absent, AbsentKind, Answer, AnswerKind, Command, Document, Edit, Merge, Options, Query,
     QueryKind, Refusal as WriteRefusal, RefusalKind, Reply, ReplyKind,
@@ -6,6 +5,7 @@ use commands::{
 use document_id::DocId;
 use http_framing::FramingFault;
 use http_request::{Form, Reason, Refusal};
+use http_response::{Connection, Lost, answer, closing, full, no_memory, refused, reply, welcome};
 use http_routes::Route;
 use json_profile::Body;
 use revision_id::RevId;
