@@ -11,7 +11,7 @@ use Rattle.http_request.specs.Decide.{decide}
 use Rattle.http_request.specs.declared.asked.Asked.{Asked as Asking}
 use Rattle.http_request.specs.declared.asked.Asked.TheVariants as asked
 use Rattle.http_request.specs.declared.asked.Form.{Form}
-use Rattle.http_request.specs.declared.refusal.Refusal.{Refusal}
+use Rattle.http_bodies.specs.declared.refusal.Refusal.{Refusal}
 use Rattle.http_response.specs.Texts.{closing_text, refusal_text, welcome_text, reply_text, answer_text, full_text, no_memory_text}
 use Rattle.http_response.specs.declared.connection.Connection.{Connection as After}
 use Rattle.http_response.specs.declared.connection.Connection.TheVariants as after

@@ -13,20 +13,20 @@ use Rattle.http_routes.specs.declared.Method.TheVariants as method
 use Rattle.serde_json.specs.Data.{no_members}
 use Rattle.model.specs.Command.{Id, Edits, SetLimit}
 use Rattle.model.specs.Query.{Get, Info, Options, RevsLimit, RevsDiff}
-use Rattle.http_request.specs.Steps.{Checked, and_then}
+use Rattle.http_bodies.specs.Steps.{Checked, and_then}
 use Rattle.http_request.specs.Identity.{path_id}
 use Rattle.http_request.specs.Parameters.{options_of, rev_parameter, no_replication}
-use Rattle.http_request.specs.Document.{edit_of}
-use Rattle.http_request.specs.Limit.{limit_of}
-use Rattle.http_request.specs.Bulk.{bulk_of}
+use Rattle.http_bodies.specs.Document.{edit_of}
+use Rattle.http_bodies.specs.Limit.{limit_of}
+use Rattle.http_bodies.specs.Bulk.{bulk_of}
 use Rattle.http_request.specs.Feeds.{all_docs_of, changes_of}
 use Rattle.http_request.specs.Opened.{open_revs_of}
 use Rattle.http_request.specs.Local.{delete_local, get_local, put_local}
-use Rattle.http_request.specs.Difference.{difference_of}
+use Rattle.http_bodies.specs.Difference.{difference_of}
 use Rattle.http_request.specs.declared.asked.Asked.{Asked}
 use Rattle.http_request.specs.declared.asked.Asked.TheVariants as asked
 use Rattle.http_request.specs.declared.asked.Form.TheVariants as form
-use Rattle.http_request.specs.declared.refusal.Refusal.TheVariants as refusal
+use Rattle.http_bodies.specs.declared.refusal.Refusal.TheVariants as refusal
 
 abbrev pub route_found : Option Route → Checked Route
 route_found None = Err refusal.Missing

@@ -1,14 +1,5 @@
-pub mod Steps
-pub mod Each
 pub mod Identity
-pub mod Revisions
 pub mod Parameters
-pub mod Text
-pub mod Document
-pub mod Path
-pub mod Bulk
-pub mod Difference
-pub mod Limit
 pub mod Feeds
 pub mod Opened
 pub mod Local

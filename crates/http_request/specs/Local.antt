@@ -1,120 +1,33 @@
--- Local documents, as requests name and write them.
-use Rattle.std.specs.Prelude.{ℕ, ◌==◌, ◌&&◌, ◌++◌, Bool, false, List, [], ◌∷◌, Option, Some, None, Ok, codes, nat_lt, nat_le, not, option_and_then, if◌then◌else◌}
-use Rattle.std.specs.List.{before_first, after_first}
-use Rattle.std.specs.Str.{bytes_eq}
-use Rattle.serde_json.specs.Data.{Members}
-use Rattle.serde_json.specs.Find.{as_object, get_member}
-use Rattle.http_target.specs.Query.{Parameters, parameter, parameters_of}
-use Rattle.http_target.specs.Value.{number}
-use Rattle.json_profile.specs.Objects.{without, has_special}
-use Rattle.model.specs.Command.{Id, PutLocal, last_counter}
-use Rattle.model.specs.Profile.{without_specials}
+-- Local documents, as requests name them.
+use Rattle.std.specs.Prelude.{ℕ, List, Option, None, Ok, codes}
+use Rattle.http_target.specs.Query.{parameter, parameters_of}
+use Rattle.model.specs.Command.{PutLocal}
 use Rattle.model.specs.Query.{GetLocal}
-use Rattle.http_request.specs.Steps.{Checked, and_then, or_refused, check}
-use Rattle.http_request.specs.Document.{document_in, names_no_other, nesting_parts, text_of}
+use Rattle.http_bodies.specs.Local.{counter_in, local_edit_of}
+use Rattle.http_bodies.specs.Steps.{Checked, and_then}
 use Rattle.http_request.specs.Identity.{path_id}
-use Rattle.http_request.specs.Revisions.{is_dash}
-use Rattle.http_request.specs.Text.{json_of}
 use Rattle.http_request.specs.declared.asked.Asked.{Asked}
 use Rattle.http_request.specs.declared.asked.Asked.TheVariants as asked
 use Rattle.http_request.specs.declared.asked.Form.TheVariants as form
-use Rattle.http_request.specs.declared.document.Parts.{Parts}
-use Rattle.http_request.specs.declared.refusal.Reason.TheVariants as reason
-
--- ---- revisions
-
-abbrev pub begins_with_zero : List ℕ → Bool
-begins_with_zero [] = false
-begins_with_zero (digit ∷ digits) = digit == 48
-
--- a number from 1 to the last
-abbrev pub counter_at : ℕ → Option ℕ
-counter_at n = if nat_lt 0 n && nat_le n last_counter then Some n else None
-
--- such a number without leading zeros
-abbrev pub counter_of : List ℕ → Option ℕ
-counter_of digits = if begins_with_zero digits then None else option_and_then counter_at (number digits)
-
--- the number of the revision of this text, which is `0-` and the number
-abbrev pub counter_named : List ℕ → Option ℕ
-counter_named text = if bytes_eq (before_first is_dash text) (codes "0") then counter_of (after_first is_dash text) else None
-
--- a revision's number, if it is given
-abbrev pub counter_in : Option (List ℕ) → Checked (Option ℕ)
-counter_in None = Ok None
-counter_in (Some text) = and_then (or_refused (counter_named text) reason.Revision) (λ counter. Ok (Some counter))
 
 -- the revision that the request names
-abbrev pub counter_parameter : Parameters → Checked (Option ℕ)
-counter_parameter parameters = counter_in (parameter (codes "rev") parameters)
-
--- the revision that is named in two places
-abbrev pub counter_twice : Option ℕ → Option ℕ → Checked (Option ℕ)
-counter_twice first None = Ok first
-counter_twice None second = Ok second
-counter_twice (Some first) (Some second) = and_then (check (first == second) reason.Revision) (λ _. Ok (Some first))
-
--- ---- bodies
-
--- the id as the body writes it
-abbrev pub local_text : Id → List ℕ
-local_text id = codes "_local/" ++ id
-
--- the special members that count, whether there is another one, and the body
-abbrev pub local_parts_of : Members → Parts
-local_parts_of members = record {
-  id = get_member (codes "_id") members;
-  rev = get_member (codes "_rev") members;
-  deleted = None;
-  revisions = None;
-  has_other = has_special (without (codes "_rev") (without (codes "_id") members));
-  body = without_specials members;
-}
-
--- the parts of an object
-abbrev pub local_parts_found : Option Members → Checked (Option Parts)
-local_parts_found None = Ok None
-local_parts_found (Some members) = and_then (nesting_parts (local_parts_of members)) (λ parts. Ok (Some parts))
-
--- the document of a body, with no special member but `_id` and `_rev`
-abbrev pub local_document_of : List ℕ → Checked Parts
-local_document_of body =
-    and_then (json_of body) (λ value.
-    and_then (local_parts_found (as_object value)) (λ found.
-    and_then (document_in found) (λ parts.
-    and_then (check (not parts.has_other) reason.Member) (λ _.
-    Ok parts))))
-
--- the revision that a parameter and the document name, where the document has this id
-abbrev pub counter_over : Id → Option ℕ → Parts → Checked (Option ℕ)
-counter_over id counter parts =
-    and_then (check (names_no_other (local_text id) (text_of parts.id)) reason.Id) (λ _.
-    and_then (counter_in (text_of parts.rev)) (λ own.
-    counter_twice counter own))
-
--- ---- requests
+abbrev pub rev_text : List ℕ → Option (List ℕ)
+rev_text query = parameter (codes "rev") (parameters_of query)
 
 -- GET of a local document
 abbrev pub get_local : List ℕ → Checked Asked
 get_local path = and_then (path_id path) (λ id. Ok (asked.Query (GetLocal id)))
 
--- the write of a body
-abbrev pub local_write : Id → Option ℕ → List ℕ → Checked Asked
-local_write id counter body =
-    and_then (local_document_of body) (λ parts.
-    and_then (counter_over id counter parts) (λ named.
-    Ok (asked.Command form.Put (PutLocal id named (Some parts.body)))))
-
 -- PUT of a local document
 abbrev pub put_local : List ℕ → List ℕ → List ℕ → Checked Asked
 put_local path query body =
     and_then (path_id path) (λ id.
-    and_then (counter_parameter (parameters_of query)) (λ counter.
-    local_write id counter body))
+    and_then (local_edit_of id (rev_text query) body) (λ command.
+    Ok (asked.Command form.Put command)))
 
 -- DELETE of a local document
 abbrev pub delete_local : List ℕ → List ℕ → Checked Asked
 delete_local path query =
     and_then (path_id path) (λ id.
-    and_then (counter_parameter (parameters_of query)) (λ counter.
+    and_then (counter_in (rev_text query)) (λ counter.
     Ok (asked.Command form.Delete (PutLocal id counter None))))

@@ -6,9 +6,9 @@ use Rattle.http_target.specs.Query.{Parameters, parameter}
 use Rattle.http_target.specs.Value.{flag, number}
 use Rattle.model.specs.Revision.{Rev}
 use Rattle.model.specs.Query.{Options}
-use Rattle.http_request.specs.Steps.{Checked, and_then, or_refused, check}
-use Rattle.http_request.specs.Revisions.{rev_named}
-use Rattle.http_request.specs.declared.refusal.Reason.TheVariants as reason
+use Rattle.http_bodies.specs.Steps.{Checked, and_then, or_refused, check}
+use Rattle.http_bodies.specs.Revisions.{rev_of}
+use Rattle.http_bodies.specs.declared.refusal.Reason.TheVariants as reason
 
 -- a truth value, false where it is not given
 abbrev pub flag_of : Option (List ℕ) → Checked Bool
@@ -26,11 +26,6 @@ number_of (Some value) = and_then (or_refused (number value) reason.Parameter) (
 
 abbrev pub number_parameter : List ℕ → Parameters → Checked (Option ℕ)
 number_parameter name parameters = number_of (parameter name parameters)
-
--- a revision, if it is given
-abbrev pub rev_of : Option (List ℕ) → Checked (Option Rev)
-rev_of None = Ok None
-rev_of (Some text) = and_then (or_refused (rev_named text) reason.Revision) (λ rev. Ok (Some rev))
 
 -- the revision that the request names
 abbrev pub rev_parameter : Parameters → Checked (Option Rev)

@@ -2,13 +2,13 @@
 
 ghost use Rattle.std.specs.Prelude.{◌≡◌, codes};
 ghost use Rattle.http_request.specs.Feeds.{all_docs_of, asks_for_keys, asks_for_other_changes, asks_for_range, changes_of, changes_since, is_normal, style_in, style_named};
-ghost use Rattle.http_request.specs.Steps.{Decides};
+ghost use Rattle.http_bodies.specs.Steps.{Decides};
 ghost use Rattle.http_target.specs.Query.{parameter, parameters_of};
 
 use crate::asked::Asked;
 use crate::parameter::{asks_for_documents, is_given, is_there, read_number};
-use crate::refusal::{Fault, Reason, refuse};
 use commands::{Query, QueryKind, Style, StyleKind};
+use http_bodies::{Fault, Reason, refuse};
 use http_target::query::Parameters;
 use std::alloc::Global;
 

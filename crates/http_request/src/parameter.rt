@@ -2,11 +2,10 @@
 
 ghost use Rattle.std.specs.Prelude.{◌≡◌};
 ghost use Rattle.http_request.specs.Parameters.{asks_for_documents, flag_parameter, is_given, is_there, no_replication, number_parameter, options_of, rev_parameter};
-ghost use Rattle.http_request.specs.Steps.{Decides};
+ghost use Rattle.http_bodies.specs.Steps.{Decides};
 
-use crate::refusal::{Fault, Reason, refuse};
-use crate::revision::name_revision;
 use commands::Options;
+use http_bodies::{Fault, Reason, name_revision, refuse};
 use http_target::query::Parameters;
 use http_target::value::{parse_flag, parse_number};
 use revision_id::RevId;

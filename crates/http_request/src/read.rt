@@ -3,20 +3,16 @@
 ghost use Rattle.std.specs.Prelude.{◌≡◌, [], ◌∷◌, Ok, IfOk};
 ghost use Rattle.model.specs.Command.{Edits};
 ghost use Rattle.http_request.specs.Decide.{asked_of, decide, delete_document, get_document, method_in, method_of, post_bulk, post_revs_diff, put_document, put_revs_limit, route_in};
-ghost use Rattle.http_request.specs.Steps.{Decides};
+ghost use Rattle.http_bodies.specs.Steps.{Decides};
 
 use crate::asked::{Asked, Form};
-use crate::bulk::read_bulk;
-use crate::difference::read_difference;
-use crate::document::read_edit;
 use crate::feed::{read_all_docs, read_changes};
 use crate::identity::read_path_id;
-use crate::limit::read_limit;
 use crate::local::{read_local_deletion, read_local_put, read_local_query};
 use crate::opened::read_open_revs;
 use crate::parameter::{read_named_revision, read_options, refuse_replication};
-use crate::refusal::{Fault, Refusal};
 use commands::{Command, Edit, Query, QueryKind};
+use http_bodies::{Fault, Refusal, read_bulk, read_difference, read_edit, read_limit};
 use http_framing::request::Request;
 use http_routes::{Method, Route, Routes};
 use http_target::query::Parameters;

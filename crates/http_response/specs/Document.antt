@@ -3,6 +3,7 @@ use Rattle.std.specs.Prelude.{ℕ, Bool, true, List, [], ◌∷◌, ◌++◌, ma
 use Rattle.hex.specs.Hex.{encode_lower}
 use Rattle.serde_json.specs.Data.{Data, unsigned, number, string, boolean, array, object, Members, no_members, member, put}
 use Rattle.serde_json.specs.View.{items_of}
+use Rattle.http_bodies.specs.Local.{local_id}
 use Rattle.model.specs.Body.{Body}
 use Rattle.model.specs.Command.{Id}
 use Rattle.model.specs.Query.{Counts, Document, Status, Available, IsDeleted, NoBody}
@@ -25,10 +26,6 @@ abbrev pub written_data : Id → Rev → Data
 written_data id rev = write_data id (rev_text rev)
 
 -- ---- what is told of a local document
-
--- `_local/ID`
-abbrev pub local_id : Id → List ℕ
-local_id id = codes "_local/" ++ id
 
 -- `0-k`
 abbrev pub counter_text : ℕ → List ℕ

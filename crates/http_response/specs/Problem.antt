@@ -1,10 +1,10 @@
 -- Why something was not done, as a response tells it.
 use Rattle.std.specs.Prelude.{ℕ, List, ◌++◌, codes}
 use Rattle.http_framing.specs.declared.FramingFault.{FramingFault}
-use Rattle.http_request.specs.declared.refusal.Refusal.{Refusal}
-use Rattle.http_request.specs.declared.refusal.Refusal.TheVariants as refusal
-use Rattle.http_request.specs.declared.refusal.Reason.{Reason}
-use Rattle.http_request.specs.declared.refusal.Reason.TheVariants as reason
+use Rattle.http_bodies.specs.declared.refusal.Refusal.{Refusal}
+use Rattle.http_bodies.specs.declared.refusal.Refusal.TheVariants as refusal
+use Rattle.http_bodies.specs.declared.refusal.Reason.{Reason}
+use Rattle.http_bodies.specs.declared.refusal.Reason.TheVariants as reason
 use Rattle.model.specs.Command as model
 use Rattle.model.specs.Query as query
 use Rattle.http_response.specs.declared.response.Status.{Status}

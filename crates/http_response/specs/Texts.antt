@@ -4,7 +4,7 @@ use Rattle.model.specs.Command.{Command, Reply}
 use Rattle.model.specs.Query.{Query, Answer}
 use Rattle.http_framing.specs.declared.FramingFault.{FramingFault}
 use Rattle.http_request.specs.declared.asked.Form.{Form}
-use Rattle.http_request.specs.declared.refusal.Refusal.{Refusal}
+use Rattle.http_bodies.specs.declared.refusal.Refusal.{Refusal}
 use Rattle.http_response.specs.Response.{response_text, status_text, content_head, place_head, connection_line, crlf}
 use Rattle.http_response.specs.Problem.{problem_text, refusal_status, refusal_allow, refusal_body, closing_body}
 use Rattle.http_response.specs.Told.{Told, reply_told, answer_told}

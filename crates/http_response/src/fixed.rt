@@ -10,8 +10,8 @@ use crate::response::{Allow, Status, plain_response, response};
 use crate::short::{SHORT_ROOM, short_response};
 use arrayvec::ArrayString;
 use commands::AbsentKind;
+use http_bodies::{Reason, Refusal};
 use http_framing::FramingFault;
-use http_request::{Reason, Refusal};
 use std::alloc::{AllocError, Global};
 
 /// The response to a request that is refused.

@@ -4,22 +4,16 @@ ghost use Rattle.std.specs.Prelude.{◌≡◌, codes, IfOk, OnOk, string_bytes};
 ghost use Rattle.serde_json.specs.Data.{string, put as with_member};
 ghost use Rattle.serde_json.specs.View.{members_view};
 ghost use Rattle.serde_json.specs.Written.{compact_text};
-ghost use Rattle.http_response.specs.Document.{counter_text, local_data, local_id, local_written_data};
+ghost use Rattle.http_bodies.specs.Local.{local_id};
+ghost use Rattle.http_response.specs.Document.{counter_text, local_data, local_written_data};
 
 use crate::document::{copy_members, object_text, write_value};
 use crate::written::value_text;
 use document_id::DocId;
+use http_bodies::local_id_text;
 use json_profile::Body;
 use serde_json::{Map, Value, put};
 use std::alloc::{AllocError, Global};
-
-/// `_local/ID`
-fn id_text(alloc: Global, id: &DocId) -> Result<String, AllocError>
-    ensures { IfOk result (λ text. string_bytes text ≡ local_id id.now) }
-{
-    let id = id.as_str();
-    format!(in alloc; "_local/{id}")
-}
 
 /// `0-k`
 fn counter_text(alloc: Global, counter: u32) -> Result<String, AllocError>
@@ -37,7 +31,7 @@ pub(crate) fn local_written_text(
     ensures { IfOk result (λ text. string_bytes text
         ≡ compact_text (local_written_data id.now counter)) }
 {
-    let id = id_text(alloc, id)?;
+    let id = local_id_text(alloc, id)?;
     let rev = counter_text(alloc, counter)?;
     let written = write_value(alloc, id.as_str(), rev.as_str())?;
     value_text(alloc, &written)
@@ -52,7 +46,7 @@ fn put_local_id(
     ensures { OnOk result (members_view members.new.entries
         ≡ with_member (codes "_id") (string (local_id id.now)) (members_view members.old.entries)) }
 {
-    let text = id_text(alloc, id)?;
+    let text = local_id_text(alloc, id)?;
     put(members, alloc, "_id", Value::String(text))
 }
 

@@ -1,6 +1,7 @@
 use commands::{CommandKind, QueryKind};
+use http_bodies::{Reason, Refusal};
 use http_framing::request::Request;
-use http_request::{Asked, Form, Reason, Refusal, read_request};
+use http_request::{Asked, Form, read_request};
 use http_routes::{Route, Routes};
 use std::test::Fail;
 

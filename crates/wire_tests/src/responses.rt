@@ -3,8 +3,9 @@ use commands::{
     QueryKind, Refusal as WriteRefusal, RefusalKind, Reply, ReplyKind,
 };
 use document_id::DocId;
+use http_bodies::{Reason, Refusal};
 use http_framing::FramingFault;
-use http_request::{Form, Reason, Refusal};
+use http_request::Form;
 use http_response::{Connection, Lost, answer, closing, full, no_memory, refused, reply, welcome};
 use http_routes::Route;
 use json_profile::Body;

@@ -1,0 +1,9 @@
+pub mod Checks
+pub mod Differences
+pub mod JsonTexts
+pub mod Listings
+pub mod Members
+pub mod Parts
+pub mod Passes
+pub mod Paths
+pub mod RevisionTexts

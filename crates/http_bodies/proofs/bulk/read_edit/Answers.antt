@@ -1,0 +1,7 @@
+use Rattle.http_bodies.specs.Document.{text_of}
+use Rattle.http_bodies.specs.Revisions.{rev_of}
+use Rattle.http_bodies.proofs.Checks.{refused_first}
+use Rattle.http_bodies.proofs.bulk.read_edit.Goals as goal
+
+pub returns : goal.returns
+returns c = refused_first c.in-Err.fault (rev_of (text_of c.args.document.parts.rev)) _ c.in-Err.ensures

@@ -1,0 +1,13 @@
+pub mod Steps
+pub mod Each
+pub mod Numbers
+pub mod Identity
+pub mod Revisions
+pub mod Text
+pub mod Lists
+pub mod Limit
+pub mod Document
+pub mod Path
+pub mod Bulk
+pub mod Difference
+pub mod Local

@@ -1,7 +1,0 @@
-use Rattle.http_request.specs.Document.{text_of}
-use Rattle.http_request.specs.Parameters.{rev_of}
-use Rattle.http_request.proofs.Checks.{refused_first}
-use Rattle.http_request.proofs.bulk.read_edit.Goals as goal
-
-pub returns : goal.returns
-returns c = refused_first c.in-Err.fault (rev_of (text_of c.args.document.parts.rev)) _ c.in-Err.ensures
