@@ -32,6 +32,12 @@ const PATH: Options = Options {
     ..PLAIN
 };
 
+const PATH_AND_STATUS: Options = Options {
+    revs: true,
+    revs_info: true,
+    ..PLAIN
+};
+
 const STATUS: Options = Options {
     revs_info: true,
     ..PLAIN
@@ -49,9 +55,9 @@ const DELETED_CONFLICTS: Options = Options {
 
 /// Three documents, of which the first is then deleted.
 const DELETED_FIRST: &[Change] = &[
-    Change::Edit("a"),
-    Change::Edit("b"),
-    Change::Edit("c"),
+    Change::Edit("a", "{}"),
+    Change::Edit("b", "{}"),
+    Change::Edit("c", "{}"),
     Change::Deletion("a", "A1"),
 ];
 
@@ -116,6 +122,20 @@ fn documents_are_missing_or_deleted(rt: HostRuntime) -> Result<(), Fail> {
 }
 
 #[test]
+fn bodies_are_told(rt: HostRuntime) -> Result<(), Fail> {
+    compare_after(
+        &rt,
+        rt.alloc(),
+        &[Change::Edit("n", "{\"n\":1}"), Change::Edit("a", "{}")],
+        &[
+            (Asked::Winner("n", PLAIN), "n N1 {\"n\":1}"),
+            (Asked::Winner("a", PLAIN), "a A1"),
+            (Asked::Leaves("n", PLAIN), "[n N1 {\"n\":1}]"),
+        ],
+    )
+}
+
+#[test]
 fn revisions_are_named(rt: HostRuntime) -> Result<(), Fail> {
     compare_after(
         &rt,
@@ -158,8 +178,8 @@ fn a_path_that_grew_at_its_root_is_told(rt: HostRuntime) -> Result<(), Fail> {
         &[
             (Asked::Winner("d", PATH), "d 3-c path 3-c 2-b 1-a"),
             (
-                Asked::Winner("d", STATUS),
-                "d 3-c status 3-c available 2-b available 1-a missing",
+                Asked::Winner("d", PATH_AND_STATUS),
+                "d 3-c path 3-c 2-b 1-a status 3-c available 2-b available 1-a missing",
             ),
             (Asked::Counts, "live 1 deleted 0 update 2 purge 0"),
         ],
@@ -177,7 +197,11 @@ fn conflicts_are_told(rt: HostRuntime) -> Result<(), Fail> {
             (Asked::Winner("d", CONFLICTS), "d 1-b conflicts 1-a"),
             (
                 Asked::Winner("d", DELETED_CONFLICTS),
-                "d 1-b deleted conflicts 3-c 2-f",
+                "d 1-b deleted_conflicts 3-c 2-f",
+            ),
+            (
+                Asked::Revision("d", "2-f", CONFLICTS),
+                "d 2-f deleted conflicts 1-a",
             ),
             (
                 Asked::Leaves("d", PLAIN),
@@ -247,19 +271,19 @@ fn changes_come_in_pages(rt: HostRuntime) -> Result<(), Fail> {
         &[
             (
                 Asked::Changes(0, Some(2), StyleKind::MainOnly),
-                "[2 b A1][3 c A1] last 3 pending 1",
+                "[2 b A1][3 c A1][last 3 pending 1]",
             ),
             (
                 Asked::Changes(3, None, StyleKind::MainOnly),
-                "[4 a X2 deleted] last 4 pending 0",
+                "[4 a X2 deleted][last 4 pending 0]",
             ),
             (
                 Asked::Changes(0, Some(0), StyleKind::MainOnly),
-                "[2 b A1] last 2 pending 2",
+                "[2 b A1][last 2 pending 2]",
             ),
             (
                 Asked::Changes(4, None, StyleKind::MainOnly),
-                " last 4 pending 0",
+                "[last 4 pending 0]",
             ),
             (Asked::Winner("a", PLAIN), "deleted"),
             (Asked::Documents, "[b A1][c A1]"),
@@ -277,11 +301,11 @@ fn changes_list_the_winner_or_all_leaves(rt: HostRuntime) -> Result<(), Fail> {
         &[
             (
                 Asked::Changes(0, None, StyleKind::MainOnly),
-                "[2 d 3-c] last 2 pending 0",
+                "[2 d 3-c][last 2 pending 0]",
             ),
             (
                 Asked::Changes(0, None, StyleKind::AllDocs),
-                "[2 d 3-c 2-b] last 2 pending 0",
+                "[2 d 3-c 2-b][last 2 pending 0]",
             ),
         ],
     )

@@ -9,11 +9,13 @@ use std::alloc::Global;
 use std::sync::Arc;
 use std::test::Fail;
 
-/// What is done to a database. Each document's body is `{}`, that of the local document `r`
-/// `{"last_seq":2}`.
+const LOCAL_BODY: &str = "{\"last_seq\":2}";
+
+/// What is done to a database. The bodies of deletions and merges are `{}`, and that of the local
+/// document `r` is `{"last_seq":2}`.
 pub(super) enum Change {
-    /// A first edit of a document.
-    Edit(&'static str),
+    /// A first edit of a document, and its body.
+    Edit(&'static str, &'static str),
     /// A deletion of a document over the revision named.
     Deletion(&'static str, &'static str),
     /// A merge into a document of a path, newest first.
@@ -56,26 +58,35 @@ fn act(version: &Version, command: &Command) -> Result<Version, Fail> {
 
 fn as_command(alloc: Global, change: &Change) -> Result<Option<Command>, Fail> {
     match change {
-        Change::Edit(id) => edited(alloc, id, None),
-        Change::Deletion(id, rev) => edited(alloc, id, Some(revision(rev)?)),
+        Change::Edit(id, text) => edited(alloc, id, None, body(alloc, text)?),
+        Change::Deletion(id, rev) => deleted(alloc, id, revision(rev)?),
         Change::Merge(id, path) => merges(alloc, merged(alloc, id, path, false)?),
         Change::DeletedMerge(id, path) => merges(alloc, merged(alloc, id, path, true)?),
-        Change::Local(named) => local(alloc, *named, Some(local_body(alloc)?)),
+        Change::Local(named) => local(alloc, *named, Some(body(alloc, LOCAL_BODY)?)),
         Change::LocalDeletion(named) => local(alloc, Some(*named), None),
         Change::RevsLimit(limit) => Ok(Command::set_limit(*limit)),
     }
 }
 
 /// An edit that names no revision, or the deletion of the one named.
-fn edited(alloc: Global, id: &str, named: Option<RevId>) -> Result<Option<Command>, Fail> {
+fn edited(
+    alloc: Global,
+    id: &str,
+    named: Option<RevId>,
+    body: Arc<Body>,
+) -> Result<Option<Command>, Fail> {
     let mut edits = Vec::new(alloc);
     edits.push(Edit {
         id: DocId::new(alloc, id)?,
         named,
         deleted: named.is_some(),
-        body: empty_body(alloc)?,
+        body,
     })?;
     Ok(Command::edits(edits))
+}
+
+fn deleted(alloc: Global, id: &str, rev: RevId) -> Result<Option<Command>, Fail> {
+    edited(alloc, id, Some(rev), empty_body(alloc)?)
 }
 
 fn merged(alloc: Global, id: &str, path: &str, deleted: bool) -> Result<Option<Merge>, Fail> {
@@ -105,8 +116,8 @@ fn empty_body(alloc: Global) -> Result<Arc<Body>, Fail> {
     Ok(Arc::new(alloc, Body::empty(alloc))?)
 }
 
-fn local_body(alloc: Global) -> Result<Arc<Body>, Fail> {
-    let json = read(alloc, b"{\"last_seq\":2}", 72)?;
+fn body(alloc: Global, text: &str) -> Result<Arc<Body>, Fail> {
+    let json = read(alloc, text.as_bytes(), 72)?;
     let body = json.object_without_specials(alloc)?;
     Ok(Arc::new(alloc, body)?)
 }

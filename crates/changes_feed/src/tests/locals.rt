@@ -67,6 +67,6 @@ fn local_documents_are_told(rt: HostRuntime) -> Result<(), Fail> {
         rt.alloc(),
         &version,
         &Asked::Changes(0, None, StyleKind::MainOnly),
-        " last 0 pending 0",
+        "[last 0 pending 0]",
     )
 }

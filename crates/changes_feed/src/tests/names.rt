@@ -3,10 +3,12 @@ use revision_id::RevId;
 use std::alloc::Global;
 use std::test::Fail;
 
-/// `A1` is what an edit makes of the body `{}`, and `X2` the deletion over it.
-const NAMES: [(&str, &str); 11] = [
+/// `A1` is what an edit makes of the body `{}`, `X2` the deletion over it, and `N1` what an edit
+/// makes of `{"n":1}`.
+const NAMES: [(&str, &str); 12] = [
     ("A1", "1-b7a5841aeb59f1be5d0e27b640827094"),
     ("X2", "2-afb96502f106d3ac58e31b6f3d8bc9a9"),
+    ("N1", "1-2f2cef67a856b4209c79b2cf6c03cc52"),
     ("1-a", "1-aaaaaaaaaaaaaaaaaaaaaaaaaaaaaaaa"),
     ("1-b", "1-bbbbbbbbbbbbbbbbbbbbbbbbbbbbbbbb"),
     ("2-b", "2-bbbbbbbbbbbbbbbbbbbbbbbbbbbbbbbb"),

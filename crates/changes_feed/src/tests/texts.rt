@@ -43,14 +43,24 @@ fn absence(kind: AbsentKind) -> &'static str {
 fn push_document(text: &mut String, document: &Document) -> Result<(), AllocError> {
     write!(text, "{} {}", document.id.as_str(), name_of(document.rev))?;
     push_deleted(text, document.deleted)?;
+    push_body(text, &document.body)?;
     push_path(text, document)?;
     push_names(text, "conflicts", &document.conflicts)?;
-    push_names(text, "deleted conflicts", &document.deleted_conflicts)
+    push_names(text, "deleted_conflicts", &document.deleted_conflicts)
 }
 
 fn push_deleted(text: &mut String, deleted: bool) -> Result<(), AllocError> {
     if deleted {
         text.push_str(" deleted")?;
+    }
+    Ok(())
+}
+
+/// A body that has members.
+fn push_body(text: &mut String, body: &Body) -> Result<(), AllocError> {
+    let members = body.text(*text.allocator())?;
+    if members.as_str() != "{}" {
+        write!(text, " {members}")?;
     }
     Ok(())
 }
@@ -139,7 +149,7 @@ fn push_difference(
 
 pub(super) fn push_page(text: &mut String, page: &ChangesPage) -> Result<(), AllocError> {
     push_rows(text, &page.rows)?;
-    write!(text, " last {} pending {}", page.last_seq, page.pending)
+    write!(text, "[last {} pending {}]", page.last_seq, page.pending)
 }
 
 pub(super) fn push_rows(text: &mut String, rows: &[Row]) -> Result<(), AllocError> {
@@ -185,7 +195,8 @@ pub(super) fn push_local(
 ) -> Result<(), AllocError> {
     match local {
         Some((counter, body)) => {
-            write!(text, "{counter} {}", body.text(*text.allocator())?.as_str())
+            write!(text, "{counter}")?;
+            push_body(text, body)
         }
         None => text.push_str("missing"),
     }
