@@ -11,6 +11,8 @@ mod once;
 mod opened;
 mod page;
 mod reads;
+#[cfg(test)]
+mod tests;
 
 pub use answered::answer;
 pub use difference::revs_diff;
