@@ -1,5 +1,5 @@
 -- A check that refused.
-use Rattle.std.proofs.Common.{◌≡◌, Result, Ok, Err, ap}
+use Rattle.std.proofs.Common.{Err, ap}
 use Rattle.http_bodies.specs.Steps.{Checked, and_then, Decides}
 use Rattle.http_bodies.specs.declared.refusal.Fault.{Fault}
 use Rattle.http_bodies.specs.declared.refusal.Fault.TheVariants.{Refused, Memory}

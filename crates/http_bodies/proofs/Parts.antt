@@ -1,14 +1,14 @@
 -- A document that was taken apart.
-use Rattle.std.proofs.Common.{◌≡◌, ℕ, ◌<◌, ◌≤◌, List, [], ◌∷◌, Option, Ok, Bool, true, false, refl, sym, ap, ◌∙◌, arith}
+use Rattle.std.proofs.Common.{◌≡◌, ℕ, ◌<◌, ◌≤◌, List, [], ◌∷◌, Ok, Bool, true, false, refl, ap, ◌∙◌, arith}
 use Rattle.std.specs.Prelude.{codes, nat_le}
 use Rattle.std.proofs.lemmas.Bool.{and_parts, le-leb, leb-true}
 use Rattle.std.specs.List.{list_all}
-use Rattle.serde_json.specs.Data.{Data, object, depth, Members}
+use Rattle.serde_json.specs.Data.{object, depth, Members}
 use Rattle.serde_json.specs.Find.{get_member}
-use Rattle.json_profile.specs.Objects.{without, has_special}
+use Rattle.json_profile.specs.Objects.{without}
 use Rattle.model.specs.Profile.{is_special, without_specials, max_body_nesting}
 use Rattle.http_bodies.specs.Steps.{Checked, and_then, check, refused}
-use Rattle.http_bodies.specs.Document.{nesting_parts, parts_of, without_ignored, without_all, listed_members}
+use Rattle.http_bodies.specs.Document.{nesting_parts, without_ignored, without_all, listed_members}
 use Rattle.http_bodies.specs.declared.document.Parts.{Parts}
 use Rattle.http_bodies.specs.declared.refusal.Reason.TheVariants as reason
 use Rattle.http_bodies.proofs.Members.{without_specials-without, get_member-without}

@@ -1,5 +1,5 @@
 -- A document as the body of a request writes it.
-use Rattle.std.specs.Prelude.{ℕ, ◌&&◌, Bool, true, false, List, [], ◌∷◌, Option, Some, None, Ok, is_some, not, option_map, option_and_then, unwrap_or, codes, nat_le}
+use Rattle.std.specs.Prelude.{ℕ, ◌&&◌, Bool, true, false, List, [], ◌∷◌, Option, Some, None, Ok, is_some, not, option_and_then, unwrap_or, codes, nat_le}
 use Rattle.std.specs.Option.{option_map_or}
 use Rattle.std.specs.Str.{bytes_eq}
 use Rattle.serde_json.specs.Data.{Data, object, depth, Members}
@@ -8,7 +8,7 @@ use Rattle.json_profile.specs.Objects.{without, has_special}
 use Rattle.model.specs.Command.{Id, Edit}
 use Rattle.model.specs.Profile.{without_specials, max_body_nesting}
 use Rattle.model.specs.Revision.{Rev, same_rev}
-use Rattle.http_bodies.specs.Steps.{Checked, and_then, or_refused, check, refused}
+use Rattle.http_bodies.specs.Steps.{Checked, and_then, check, refused}
 use Rattle.http_bodies.specs.Revisions.{rev_of}
 use Rattle.http_bodies.specs.Text.{json_of}
 use Rattle.http_bodies.specs.declared.document.Parts.{Parts}

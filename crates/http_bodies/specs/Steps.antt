@@ -1,5 +1,5 @@
 -- Checks, one after another.
-use Rattle.std.specs.Prelude.{◌≡◌, ℕ, Bool, List, Option, Some, None, Result, Ok, Err, ⊤, if◌then◌else◌}
+use Rattle.std.specs.Prelude.{◌≡◌, Bool, Option, Some, None, Result, Ok, Err, ⊤, if◌then◌else◌}
 use Rattle.http_bodies.specs.declared.refusal.Refusal.{Refusal}
 use Rattle.http_bodies.specs.declared.refusal.Refusal.TheVariants.{BadRequest}
 use Rattle.http_bodies.specs.declared.refusal.Reason.{Reason}

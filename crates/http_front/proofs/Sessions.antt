@@ -1,10 +1,10 @@
 -- Histories of a session that is alone.
-use Rattle.std.proofs.Common.{◌≡◌, ℕ, ◌+◌, ◌<◌, ◌≤◌, true, List, [], ◌∷◌, ◌++◌, length, refl, ap, sym, ◌∙◌, subst, arith, length-append, add-one, Some}
+use Rattle.std.proofs.Common.{◌≡◌, ℕ, ◌+◌, ◌<◌, List, [], ◌∷◌, ◌++◌, length, refl, ap, sym, ◌∙◌, subst, arith, length-append, add-one, Some}
 use Rattle.std.proofs.lemmas.Bool.{cond-true}
 use Rattle.std.proofs.lemmas.List.Elements.{filter-append}
 use Rattle.model.specs.Map.{same_key, same_key_itself}
 use Rattle.model.specs.Command.{Command, Reply, Seat, Entry, IsCounter, numbers}
-use Rattle.model.specs.Database.{Database, empty_database, calls_of, reply_to}
+use Rattle.model.specs.Database.{empty_database, calls_of, reply_to}
 use Rattle.model.specs.History.{IsLegal, replay, entry_of, of_session}
 use Rattle.model.proofs.CallLaws.{calls-replay}
 use Rattle.model.proofs.HistoryLaws.{IsLegal-push, IsNext-entry_of}

@@ -1,8 +1,8 @@
 -- What a session has seen, and what its calls do.
-use Rattle.std.specs.Prelude.{◌≡◌, ℕ, ◌+◌, ◌≤◌, List, [], ◌∷◌, ◌++◌, length}
+use Rattle.std.specs.Prelude.{◌≡◌, ℕ, ◌≤◌, List, [], ◌∷◌, ◌++◌, length}
 use Rattle.model.specs.Command.{Command, Reply, Seat, Entry}
-use Rattle.model.specs.Database.{Database, empty_database}
-use Rattle.model.specs.History.{IsLegal, replay, entry_of, of_session}
+use Rattle.model.specs.Database.{empty_database}
+use Rattle.model.specs.History.{IsLegal, of_session}
 use Rattle.model.specs.World.{WroteAt}
 use Rattle.model.specs.Told.{Tells}
 use Rattle.http_front.specs.Outcome.{max_places}

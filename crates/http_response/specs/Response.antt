@@ -1,8 +1,7 @@
 -- The text of a response: a status line, headers and a body.
-use Rattle.std.specs.Prelude.{ℕ, Bool, List, [], ◌∷◌, ◌++◌, length, map, codes, if◌then◌else◌}
+use Rattle.std.specs.Prelude.{ℕ, List, [], ◌∷◌, ◌++◌, length, map, codes}
 use Rattle.std.specs.Fmt.{decimal}
 use Rattle.http_routes.specs.Routes.{methods_of, name_of}
-use Rattle.http_routes.specs.declared.Route.{Route}
 use Rattle.http_response.specs.declared.response.Status.{Status}
 use Rattle.http_response.specs.declared.response.Status.TheVariants as status
 use Rattle.http_response.specs.declared.response.Allow.{Allow}

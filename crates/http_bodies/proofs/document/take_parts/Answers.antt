@@ -1,11 +1,10 @@
-use Rattle.std.proofs.Common.{◌≡◌, ◌∙◌, ◌≤◌, ◌<◌, Ok, ap, sym, subst}
+use Rattle.std.proofs.Common.{◌∙◌, ◌≤◌, ◌<◌, Ok, ap, sym, subst}
 use Rattle.std.specs.Prelude.{codes}
-use Rattle.serde_json.specs.Data.{object, depth, Members}
+use Rattle.serde_json.specs.Data.{object, depth}
 use Rattle.serde_json.specs.Find.{get_member}
 use Rattle.json_profile.specs.Objects.{without, has_special}
 use Rattle.model.specs.Profile.{without_specials, max_body_nesting}
-use Rattle.http_bodies.specs.Document.{nesting_parts, parts_of, without_ignored}
-use Rattle.http_bodies.specs.Steps.{Checked}
+use Rattle.http_bodies.specs.Document.{parts_of, without_ignored}
 use Rattle.http_bodies.proofs.Parts.{rev_left, deleted_left, revisions_left, body_left, nesting_parts-ok, nesting_parts-depth}
 use Rattle.http_bodies.proofs.document.take_parts.Goals as goal
 

@@ -1,4 +1,4 @@
-use Rattle.std.proofs.Common.{ap, ◌≡◌, Err}
+use Rattle.std.proofs.Common.{ap, Err}
 use Rattle.http_bodies.proofs.JsonTexts.{json_of-value, json_of-malformed, json_of-number, json_of-depth}
 use Rattle.http_bodies.proofs.text.read_json.Goals as goal
 

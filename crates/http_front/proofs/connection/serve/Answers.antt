@@ -1,4 +1,3 @@
-use Rattle.std.proofs.Common.{subst}
 use Rattle.http_front.proofs.Told.{served_alone}
 use Rattle.http_front.proofs.connection.serve.Goals as goal
 

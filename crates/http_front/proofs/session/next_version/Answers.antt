@@ -1,6 +1,6 @@
 use Rattle.std.proofs.Common.{◌<◌, length, arith}
 use Rattle.http_front.specs.Outcome.{max_places}
-use Rattle.http_front.proofs.Sessions.{IsAlone-next, WritesCall-next, next-entry}
+use Rattle.http_front.proofs.Sessions.{IsAlone-next, WritesCall-next}
 use Rattle.http_front.proofs.session.next_version.Goals as goal
 
 pub returns-clause-alone : goal.returns-clause-alone
