@@ -4,6 +4,8 @@
 mod content;
 mod documents;
 mod record;
+#[cfg(test)]
+mod tests;
 mod version;
 mod written;
 
