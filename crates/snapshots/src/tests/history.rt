@@ -23,10 +23,16 @@ fn older_versions_stay(rt: HostRuntime) -> Result<(), Fail> {
     Ok(())
 }
 
+/// A share of the version after the changes.
+fn share_of(alloc: Global, changes: &[Change]) -> Result<Version, Fail> {
+    let version = changed(alloc, changes)?;
+    Ok(version.share()?)
+}
+
 #[test]
 fn a_share_is_the_same(rt: HostRuntime) -> Result<(), Fail> {
     let changes = [Change::Edit("a", None), Change::Edit("a", Some(FIRST))];
-    let shared = changed(rt.alloc(), &changes)?.share()?;
+    let shared = share_of(rt.alloc(), &changes)?;
     assert_eq!(rt; standing(rt.alloc(), &shared)?, TWO_EDITS);
     assert_eq!(rt; answer_at(&shared, 2), revision(SECOND));
     assert_eq!(rt; shared.next_call(0), 3);
@@ -152,23 +158,34 @@ fn deleted_documents_are_not_live(rt: HostRuntime) -> Result<(), Fail> {
     Ok(())
 }
 
-/// A command of two edits of one document, both with no revision named.
-fn two_edits(alloc: Global) -> Result<Command, Fail> {
-    let first = edit(alloc, "a", None, false)?;
-    let second = edit(alloc, "a", None, false)?;
-    let edits = Vec::from_array(alloc, [first, second])?;
+/// A command of edits of the document `a`, each with no revision named.
+fn edits_of_a(alloc: Global, count: u8) -> Result<Command, Fail> {
+    let mut edits = Vec::new(alloc);
+    for _ in 0..count {
+        edits.push(edit(alloc, "a", None, false)?)?;
+    }
     Ok(Command::edits(edits).ok_or("few")?)
+}
+
+/// After one command of two edits.
+fn edited_twice(alloc: Global) -> Result<Version, Fail> {
+    let edits = edits_of_a(alloc, 2)?;
+    acted(&Version::empty(alloc), 0, &edits)
+}
+
+/// What the second write of the first command was answered.
+fn second_answer(version: &Version) -> Option<Answer> {
+    match version.entry(1)?.reply.kind() {
+        ReplyKind::Wrote(writes) => first_answer(writes.get(1..)?),
+        _ => None,
+    }
 }
 
 #[test]
 fn writes_are_done_in_order(rt: HostRuntime) -> Result<(), Fail> {
-    let version = acted(&Version::empty(rt.alloc()), 0, &two_edits(rt.alloc())?)?;
-    let ReplyKind::Wrote(writes) = version.entry(1).ok_or("an entry")?.reply.kind() else {
-        return Err("writes".into());
-    };
-    assert_eq!(rt; writes.len(), 2);
-    assert_eq!(rt; first_answer(writes), revision(FIRST));
-    assert_eq!(rt; first_answer(&writes[1..]), refused(RefusalKind::Conflict));
+    let version = edited_twice(rt.alloc())?;
+    assert_eq!(rt; answer_at(&version, 1), revision(FIRST));
+    assert_eq!(rt; second_answer(&version), refused(RefusalKind::Conflict));
     assert_eq!(rt; version.update_seq(), 1);
     Ok(())
 }
