@@ -61,18 +61,26 @@ fn edited_by(alloc: Global, session: u16) -> Result<Version, Fail> {
     acted(&Version::empty(alloc), session, &edit)
 }
 
+/// After one edit by a session, and a limit by session 0.
+fn edited_and_limited(alloc: Global, session: u16) -> Result<Version, Fail> {
+    let version = edited_by(alloc, session)?;
+    changed_by(alloc, &version, Change::Limit(7))
+}
+
+fn is_limit(entry: &Entry) -> bool {
+    matches!(entry.command.kind(), CommandKind::SetLimit(7))
+}
+
 #[test]
 fn entries_are_kept(rt: HostRuntime) -> Result<(), Fail> {
-    let version = edited_by(rt.alloc(), 63)?;
-    let version = changed_by(rt.alloc(), &version, Change::Limit(7))?;
+    let version = edited_and_limited(rt.alloc(), 63)?;
     assert!(&rt; version.entry(0).is_none() && version.entry(3).is_none());
     assert!(&rt;
         version
             .entry(1)
             .is_some_and(|entry| is_first_edit(entry, 63))
     );
-    let limit = version.entry(2).ok_or("two entries")?;
-    assert!(&rt; matches!(limit.command.kind(), CommandKind::SetLimit(7)));
+    assert!(&rt; version.entry(2).is_some_and(is_limit));
     assert_eq!(rt; answer_at(&version, 1), revision(FIRST));
     assert_eq!(rt; answer_at(&version, 2), Some(Answer::Done));
     Ok(())
@@ -80,12 +88,10 @@ fn entries_are_kept(rt: HostRuntime) -> Result<(), Fail> {
 
 #[test]
 fn sessions_have_their_own_calls(rt: HostRuntime) -> Result<(), Fail> {
-    let version = edited_by(rt.alloc(), 63)?;
-    assert_eq!(rt; version.next_call(63), 2);
-    assert_eq!(rt; version.next_call(0), 1);
-    let version = changed_by(rt.alloc(), &version, Change::Limit(7))?;
+    let version = edited_and_limited(rt.alloc(), 63)?;
     assert_eq!(rt; version.next_call(63), 2);
     assert_eq!(rt; version.next_call(0), 2);
+    assert_eq!(rt; version.next_call(1), 1);
     Ok(())
 }
 
