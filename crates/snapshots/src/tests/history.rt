@@ -1,9 +1,9 @@
 // Versions, their entries and what changed between them.
-use crate::Version;
 use crate::tests::{
     Answer, Change, DELETED, FIRST, ONE_EDIT, SECOND, Stands, TWO_EDITS, acted, answer_at, changed,
     changed_by, command, edit, first_answer, refused, revision, standing,
 };
+use crate::{Record, Version};
 use commands::{Command, CommandKind, Edit, Entry, RefusalKind, ReplyKind};
 use document_id::DocId;
 use std::alloc::Global;
@@ -144,11 +144,11 @@ fn documents_are_in_order_of_their_ids(rt: HostRuntime) -> Result<(), Fail> {
     Ok(())
 }
 
-/// Whether there is a live document of the id.
-fn is_live(alloc: Global, version: &Version, id: &str) -> Result<bool, Fail> {
+/// Whether a document is live after the changes.
+fn is_live_after(alloc: Global, changes: &[Change], id: &str) -> Result<bool, Fail> {
     let id = DocId::new(alloc, id)?;
-    let record = version.record(&id);
-    Ok(record.is_some_and(|record| record.is_live()))
+    let version = changed(alloc, changes)?;
+    Ok(version.record(&id).is_some_and(Record::is_live))
 }
 
 #[test]
@@ -158,9 +158,8 @@ fn deleted_documents_are_not_live(rt: HostRuntime) -> Result<(), Fail> {
         Change::Edit("b", None),
         Change::Deletion("b", Some(FIRST)),
     ];
-    let version = changed(rt.alloc(), &changes)?;
-    assert!(&rt; is_live(rt.alloc(), &version, "a")?);
-    assert!(&rt; !is_live(rt.alloc(), &version, "b")?);
+    assert!(&rt; is_live_after(rt.alloc(), &changes, "a")?);
+    assert!(&rt; !is_live_after(rt.alloc(), &changes, "b")?);
     Ok(())
 }
 
