@@ -1,9 +1,9 @@
 // Versions, their entries and what changed between them.
-use crate::Version;
 use crate::tests::{
     Answer, Change, DELETED, FIRST, ONE_EDIT, SECOND, Stands, TWO_EDITS, acted, answer_at, changed,
     changed_by, command, edit, first_answer, refused, revision, standing,
 };
+use crate::{Record, Version};
 use commands::{Command, CommandKind, Edit, Entry, RefusalKind, ReplyKind};
 use document_id::DocId;
 use std::alloc::Global;
@@ -23,10 +23,16 @@ fn older_versions_stay(rt: HostRuntime) -> Result<(), Fail> {
     Ok(())
 }
 
+/// A share of the version after the changes.
+fn share_of(alloc: Global, changes: &[Change]) -> Result<Version, Fail> {
+    let version = changed(alloc, changes)?;
+    Ok(version.share()?)
+}
+
 #[test]
 fn a_share_is_the_same(rt: HostRuntime) -> Result<(), Fail> {
     let changes = [Change::Edit("a", None), Change::Edit("a", Some(FIRST))];
-    let shared = changed(rt.alloc(), &changes)?.share()?;
+    let shared = share_of(rt.alloc(), &changes)?;
     assert_eq!(rt; standing(rt.alloc(), &shared)?, TWO_EDITS);
     assert_eq!(rt; answer_at(&shared, 2), revision(SECOND));
     assert_eq!(rt; shared.next_call(0), 3);
@@ -55,18 +61,26 @@ fn edited_by(alloc: Global, session: u16) -> Result<Version, Fail> {
     acted(&Version::empty(alloc), session, &edit)
 }
 
+/// After one edit by a session, and a limit by session 0.
+fn edited_and_limited(alloc: Global, session: u16) -> Result<Version, Fail> {
+    let version = edited_by(alloc, session)?;
+    changed_by(alloc, &version, Change::Limit(7))
+}
+
+fn is_limit(entry: &Entry) -> bool {
+    matches!(entry.command.kind(), CommandKind::SetLimit(7))
+}
+
 #[test]
 fn entries_are_kept(rt: HostRuntime) -> Result<(), Fail> {
-    let version = edited_by(rt.alloc(), 63)?;
-    let version = changed_by(rt.alloc(), &version, Change::Limit(7))?;
+    let version = edited_and_limited(rt.alloc(), 63)?;
     assert!(&rt; version.entry(0).is_none() && version.entry(3).is_none());
     assert!(&rt;
         version
             .entry(1)
             .is_some_and(|entry| is_first_edit(entry, 63))
     );
-    let limit = version.entry(2).ok_or("two entries")?;
-    assert!(&rt; matches!(limit.command.kind(), CommandKind::SetLimit(7)));
+    assert!(&rt; version.entry(2).is_some_and(is_limit));
     assert_eq!(rt; answer_at(&version, 1), revision(FIRST));
     assert_eq!(rt; answer_at(&version, 2), Some(Answer::Done));
     Ok(())
@@ -74,12 +88,10 @@ fn entries_are_kept(rt: HostRuntime) -> Result<(), Fail> {
 
 #[test]
 fn sessions_have_their_own_calls(rt: HostRuntime) -> Result<(), Fail> {
-    let version = edited_by(rt.alloc(), 63)?;
-    assert_eq!(rt; version.next_call(63), 2);
-    assert_eq!(rt; version.next_call(0), 1);
-    let version = changed_by(rt.alloc(), &version, Change::Limit(7))?;
+    let version = edited_and_limited(rt.alloc(), 63)?;
     assert_eq!(rt; version.next_call(63), 2);
     assert_eq!(rt; version.next_call(0), 2);
+    assert_eq!(rt; version.next_call(1), 1);
     Ok(())
 }
 
@@ -132,11 +144,11 @@ fn documents_are_in_order_of_their_ids(rt: HostRuntime) -> Result<(), Fail> {
     Ok(())
 }
 
-/// Whether there is a live document of the id.
-fn is_live(alloc: Global, version: &Version, id: &str) -> Result<bool, Fail> {
+/// Whether a document is live after the changes.
+fn is_live_after(alloc: Global, changes: &[Change], id: &str) -> Result<bool, Fail> {
     let id = DocId::new(alloc, id)?;
-    let record = version.record(&id);
-    Ok(record.is_some_and(|record| record.is_live()))
+    let version = changed(alloc, changes)?;
+    Ok(version.record(&id).is_some_and(Record::is_live))
 }
 
 #[test]
@@ -146,29 +158,39 @@ fn deleted_documents_are_not_live(rt: HostRuntime) -> Result<(), Fail> {
         Change::Edit("b", None),
         Change::Deletion("b", Some(FIRST)),
     ];
-    let version = changed(rt.alloc(), &changes)?;
-    assert!(&rt; is_live(rt.alloc(), &version, "a")?);
-    assert!(&rt; !is_live(rt.alloc(), &version, "b")?);
+    assert!(&rt; is_live_after(rt.alloc(), &changes, "a")?);
+    assert!(&rt; !is_live_after(rt.alloc(), &changes, "b")?);
     Ok(())
 }
 
-/// A command of two edits of one document, both with no revision named.
-fn two_edits(alloc: Global) -> Result<Command, Fail> {
-    let first = edit(alloc, "a", None, false)?;
-    let second = edit(alloc, "a", None, false)?;
-    let edits = Vec::from_array(alloc, [first, second])?;
+/// A command of edits of the document `a`, each with no revision named.
+fn edits_of_a(alloc: Global, count: u8) -> Result<Command, Fail> {
+    let mut edits = Vec::new(alloc);
+    for _ in 0..count {
+        edits.push(edit(alloc, "a", None, false)?)?;
+    }
     Ok(Command::edits(edits).ok_or("few")?)
+}
+
+/// After one command of two edits.
+fn edited_twice(alloc: Global) -> Result<Version, Fail> {
+    let edits = edits_of_a(alloc, 2)?;
+    acted(&Version::empty(alloc), 0, &edits)
+}
+
+/// What the second write of the first command was answered.
+fn second_answer(version: &Version) -> Option<Answer> {
+    match version.entry(1)?.reply.kind() {
+        ReplyKind::Wrote(writes) => first_answer(writes.get(1..)?),
+        _ => None,
+    }
 }
 
 #[test]
 fn writes_are_done_in_order(rt: HostRuntime) -> Result<(), Fail> {
-    let version = acted(&Version::empty(rt.alloc()), 0, &two_edits(rt.alloc())?)?;
-    let ReplyKind::Wrote(writes) = version.entry(1).ok_or("an entry")?.reply.kind() else {
-        return Err("writes".into());
-    };
-    assert_eq!(rt; writes.len(), 2);
-    assert_eq!(rt; first_answer(writes), revision(FIRST));
-    assert_eq!(rt; first_answer(&writes[1..]), refused(RefusalKind::Conflict));
+    let version = edited_twice(rt.alloc())?;
+    assert_eq!(rt; answer_at(&version, 1), revision(FIRST));
+    assert_eq!(rt; second_answer(&version), refused(RefusalKind::Conflict));
     assert_eq!(rt; version.update_seq(), 1);
     Ok(())
 }
