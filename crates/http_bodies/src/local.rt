@@ -114,9 +114,10 @@ fn counter_over(
 ///
 /// # Errors
 ///
-/// What is named and is no revision is refused by [`Reason::Revision`]. A body that is no JSON of the profile is refused as that, one that is no document by
-/// [`Reason::Shape`], a special member beside `_id` and `_rev` by [`Reason::Member`], another id by
-/// [`Reason::Id`], and a wrong or another revision by [`Reason::Revision`]. Memory may be refused.
+/// What is named and is no revision is refused by [`Reason::Revision`]. A body that is no JSON of
+/// the profile is refused as that, one that is no document by [`Reason::Shape`], a special member
+/// beside `_id` and `_rev` by [`Reason::Member`], another id by [`Reason::Id`], and a wrong or
+/// another revision by [`Reason::Revision`]. Memory may be refused.
 pub fn read_local_edit(
     alloc: Global,
     id: DocId,
