@@ -20,7 +20,7 @@ pub fn all_docs(alloc: Global, version: &Version) -> Result<Vec<(DocId, RevId)>,
     ensures documents { IfOk result (λ documents. documents.items ≡ live_documents (replay empty_database version.now)) }
 {
     let mut documents = Vec::new(alloc);
-    for (id, record) in version.records() {
+    for (id, record) in version.documents() {
         if let Some(document) = live_document(id, record.get())? {
             documents.push(document)?;
         }

@@ -1,5 +1,5 @@
 -- A step of a loop over a list.
-use Rattle.std.proofs.Common.{◌≡◌, ℕ, ◌+◌, ◌<◌, List, [], ◌∷◌, ◌++◌, All, take, drop, length, get_or, ap, sym, ◌∙◌, add-one, suc}
+use Rattle.std.proofs.Common.{◌≡◌, ℕ, ◌+◌, ◌<◌, List, [], ◌∷◌, All, take, drop, length, get_or, ap, sym, ◌∙◌, add-one, suc}
 use Rattle.std.proofs.Math.Seq.{drop-cons}
 use Rattle.std.proofs.lemmas.List.{take_more}
 use Rattle.std.proofs.lemmas.List.Elements.{All-append, All-cons, All-nil}

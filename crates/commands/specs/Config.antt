@@ -1,5 +1,4 @@
 -- A configuration's numbers in the words of the model.
-use Rattle.std.specs.Prelude.{ℕ}
 use Rattle.model.specs.World.{Config}
 use Rattle.commands.specs.declared.config.Limits.{Limits}
 

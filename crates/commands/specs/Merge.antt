@@ -1,5 +1,5 @@
 -- A merge of a path of revisions, newest first.
-use Rattle.std.specs.Prelude.{ℕ, List, [], ◌∷◌, Bool}
+use Rattle.std.specs.Prelude.{List, [], ◌∷◌, Bool}
 use Rattle.model.specs.Body.{Body}
 use Rattle.model.specs.Revision.{Rev}
 use Rattle.model.specs.Command.{Id, Merge}

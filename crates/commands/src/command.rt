@@ -2,18 +2,20 @@ ghost use Rattle.std.specs.Prelude.{◌≡◌, ◌↔◌, ◌≤◌, ◌<◌, le
 ghost use Rattle.std.specs.Arc.{arc_value};
 ghost use Rattle.model.specs.Command.{IsCommand, IsCounter, IsLimit, max_edits};
 ghost use Rattle.model.specs.Command as model;
+ghost use Rattle.model.specs.Map.{entries};
 ghost use Rattle.commands.specs.Command.{command_of};
 
 use crate::copied::{Copied, copy_all};
 use crate::edit::{Edit, read_all_limits};
 use crate::merge::{Merge, read_all_merges};
+use crate::named::{NamedRevisions, read_all_named};
 use document_id::DocId;
 use json_profile::Body;
 use std::alloc::{AllocError, Global};
 use std::marker::Model;
 use std::sync::Arc;
 
-/// The most edits or merges of a command.
+/// The most edits or merges of a command, and the most documents of a purge.
 pub const MAX_EDITS: usize = 1_048_576;
 
 /// What is asked, by its kind.
@@ -30,8 +32,12 @@ pub enum CommandKind {
         named: Option<u32>,
         body: Option<Arc<Body>>,
     },
+    /// Leaves to be removed for good.
+    Purge(NamedRevisions),
     /// How many revisions are kept above a leaf, itself among them.
     SetLimit(u32),
+    /// Each record stripped.
+    Compact,
 }
 
 /// What a session asks to be done, within the limits.
@@ -103,6 +109,29 @@ impl Command {
         })
     }
 
+    /// A purge of at most [`MAX_EDITS`] documents.
+    pub fn purge(named: NamedRevisions) -> Option<Command>
+        ensures few { IsSome result ↔ (length (entries named) ≤ max_edits) }
+        ensures command { IfSome result (λ command. command ≡ model.Purge named) }
+    {
+        if named.documents().len() > MAX_EDITS {
+            return None;
+        }
+        read_all_named(named.documents());
+        Some(Command {
+            kind: CommandKind::Purge(named),
+        })
+    }
+
+    /// A compaction.
+    pub fn compact() -> Command
+        ensures { result ≡ model.Compact }
+    {
+        Command {
+            kind: CommandKind::Compact,
+        }
+    }
+
     /// The limit of revisions, from 1.
     pub fn set_limit(limit: u32) -> Option<Command>
         ensures in_range { IsSome result ↔ IsLimit limit }
@@ -134,7 +163,9 @@ impl Copied for Command {
                 named: *named,
                 body: share_body(body)?,
             },
+            CommandKind::Purge(named) => CommandKind::Purge(named.copy(alloc)?),
             CommandKind::SetLimit(limit) => CommandKind::SetLimit(*limit),
+            CommandKind::Compact => CommandKind::Compact,
         };
         Ok(Command { kind })
     }

@@ -1,10 +1,13 @@
-ghost use Rattle.std.specs.Prelude.{◌≡◌, ◌↔◌, T, IsTrue, IsSome, IfSome};
+ghost use Rattle.std.specs.Prelude.{◌≡◌, ◌↔◌, T, All, IsTrue, IsSome, IfOk, IfSome};
 ghost use Rattle.std.specs.FinMap.Entries.{is_sorted};
-ghost use Rattle.model.specs.Command.{names};
+ghost use Rattle.model.specs.Command.{names, NamesRevs};
+ghost use Rattle.model.specs.Revision.{IsRev};
 ghost use Rattle.model.specs.Map.{entries};
 
+use crate::copied::{Copied, copy_all};
 use document_id::DocId;
 use revision_id::RevId;
+use std::alloc::{AllocError, Global};
 use std::marker::Model;
 
 /// A document, and revisions of it.
@@ -22,6 +25,16 @@ impl Model for AskedRevisions {
     ghost Value = { Id × List Rev };
 
     ghost view = { λ a. (a.id, a.revisions.items) };
+}
+
+impl AskedRevisions {
+    /// Reads the ranges that the id and the revisions keep.
+    fn read_ranges(&self)
+        ensures in_range { NamesRevs self.now }
+    {
+        let _text = self.id.as_str();
+        read_all_revs(&self.revisions);
+    }
 }
 
 /// Revisions of each document, in the byte order of the ids, each of which stands there once.
@@ -59,6 +72,40 @@ impl NamedRevisions {
         ensures entries { result.now ≡ entries self.now }
     {
         &self.documents
+    }
+}
+
+impl Copied for AskedRevisions {
+    fn copy(&self, alloc: Global) -> Result<AskedRevisions, AllocError> {
+        Ok(AskedRevisions {
+            id: self.id.share()?,
+            revisions: Vec::from_slice(alloc, &self.revisions)?,
+        })
+    }
+}
+
+impl Copied for NamedRevisions {
+    fn copy(&self, alloc: Global) -> Result<NamedRevisions, AllocError> {
+        let documents = copy_all(alloc, &self.documents)?;
+        Ok(NamedRevisions { documents })
+    }
+}
+
+/// Reads the ranges that all ids and revisions keep.
+pub(crate) fn read_all_named(documents: &[AskedRevisions])
+    ensures in_range { All NamesRevs documents.now }
+{
+    for document in documents {
+        document.read_ranges();
+    }
+}
+
+/// Reads the ranges that all revisions keep.
+fn read_all_revs(revisions: &[RevId])
+    ensures in_range { All IsRev revisions.now }
+{
+    for rev in revisions {
+        let _generation = rev.generation();
     }
 }
 

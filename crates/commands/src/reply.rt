@@ -2,6 +2,7 @@ ghost use Rattle.std.specs.Prelude.{◌≡◌, IfOk};
 ghost use Rattle.commands.specs.Reply.{reply_of};
 
 use crate::copied::Copied;
+use crate::named::NamedRevisions;
 use crate::refusal::Refusal;
 use revision_id::RevId;
 use std::alloc::{AllocError, Global};
@@ -14,6 +15,11 @@ pub enum ReplyKind {
     Wrote(Vec<Result<RevId, Refusal>>),
     /// The number of the local document's revision, 0 for a deletion.
     WroteLocal(Result<u32, Refusal>),
+    /// The last purge number, and of each document named the leaves removed.
+    Purged {
+        purge_seq: u64,
+        removed: NamedRevisions,
+    },
     Done,
 }
 
@@ -52,6 +58,10 @@ impl Copied for Reply {
         let kind = match &self.kind {
             ReplyKind::Wrote(writes) => ReplyKind::Wrote(Vec::from_slice(alloc, writes)?),
             ReplyKind::WroteLocal(write) => ReplyKind::WroteLocal(*write),
+            ReplyKind::Purged { purge_seq, removed } => ReplyKind::Purged {
+                purge_seq: *purge_seq,
+                removed: removed.copy(alloc)?,
+            },
             ReplyKind::Done => ReplyKind::Done,
         };
         Ok(Reply { kind })

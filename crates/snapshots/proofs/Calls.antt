@@ -1,14 +1,15 @@
 -- What a command leaves of the counts of calls, and how many update numbers it gives.
-use Rattle.std.specs.Prelude.{◌≡◌, ◌+◌, ◌≤◌, ◌<◌, ℕ, List, Option, None, Some, unwrap_or, length, filter, refl}
+use Rattle.std.specs.Prelude.{◌≡◌, ◌+◌, ◌≤◌, ℕ, List, unwrap_or, length, refl}
 use Rattle.std.proofs.Common.{ap, arith, sym, ◌∙◌}
 use Rattle.std.proofs.lemmas.List.Sums.{length-filter, count_by-le-length}
 use Rattle.std.specs.Ordering.{nat_cmp}
 use Rattle.std.specs.FinMap.Entries as listed
-use Rattle.model.specs.Map.{Map, get, put, from_list, get-from_list, entries, same_key}
+use Rattle.model.specs.Map.{Map, get, put, from_list, entries, same_key}
 use Rattle.model.specs.Local.{Local}
+use Rattle.model.specs.PurgeLog.{PurgeLog}
 use Rattle.model.specs.Command.{names, numbers, Command, Edits, Merges, PutLocal, Purge, SetLimit, Compact, Entry}
 use Rattle.model.specs.Database.{Database, calls_of, changed_by, counted, empty_database}
-use Rattle.model.specs.History.{replay, of_session}
+use Rattle.model.specs.History.{replay}
 use Rattle.model.proofs.RestLaws.{rest_of_edits, rest_of_merges, rest_of_purges}
 use Rattle.model.proofs.CallLaws.{calls-replay}
 use Rattle.snapshots.specs.Content.{content_of}
@@ -32,9 +33,9 @@ pub calls_of-few : (es : List Entry) (s : ℕ) → calls_of (replay empty_databa
 calls_of-few es s = omega (arith, calls-replay empty_database es s, length-filter (λ (e : Entry). same_key numbers s e.seat.session) es, count_by-le-length (λ (e : Entry). same_key numbers s e.seat.session) es)
 
 -- one more call of a session in the list that is kept
-pub content-counted : (documents : Listing) (locals : Map names Local) (limit : ℕ) (calls later : List (ℕ × ℕ)) (d : Database) (s n : ℕ) → content_of documents locals limit calls ≡ d → later ≡ listed.put nat_cmp s n calls → n ≡ calls_of d s + 1 → content_of documents locals limit later ≡ counted d s
-content-counted documents locals limit calls later d s n is put_call next =
-    ap (λ es. content_of documents locals limit es) put_call
-    ∙ ap (λ (m : Map numbers ℕ). record (content_of documents locals limit calls) { calls = m }) (from_list-put numbers s n calls)
-    ∙ ap (λ k. record (content_of documents locals limit calls) { calls = put {O = numbers} (from_list calls) s k }) (next ∙ ap (λ (e : Database). calls_of e s + 1) (sym is))
+pub content-counted : (documents : Listing) (locals : Map names Local) (purges : PurgeLog) (limit : ℕ) (calls later : List (ℕ × ℕ)) (d : Database) (s n : ℕ) → content_of documents locals purges limit calls ≡ d → later ≡ listed.put nat_cmp s n calls → n ≡ calls_of d s + 1 → content_of documents locals purges limit later ≡ counted d s
+content-counted documents locals purges limit calls later d s n is put_call next =
+    ap (λ es. content_of documents locals purges limit es) put_call
+    ∙ ap (λ (m : Map numbers ℕ). record (content_of documents locals purges limit calls) { calls = m }) (from_list-put numbers s n calls)
+    ∙ ap (λ k. record (content_of documents locals purges limit calls) { calls = put {O = numbers} (from_list calls) s k }) (next ∙ ap (λ (e : Database). calls_of e s + 1) (sym is))
     ∙ ap (λ (e : Database). counted e s) is

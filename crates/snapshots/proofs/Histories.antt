@@ -1,5 +1,5 @@
 -- A history with one more entry.
-use Rattle.std.specs.Prelude.{◌≡◌, ◌+◌, ◌<◌, ◌≤◌, ℕ, true, false, cond, List, [], ◌∷◌, ◌++◌, length, All, Option, Some, None, option_and_then, refl}
+use Rattle.std.specs.Prelude.{◌≡◌, ◌+◌, ◌<◌, ◌≤◌, ℕ, List, [], ◌∷◌, ◌++◌, length, Option, Some, None, option_and_then}
 use Rattle.std.proofs.Common.{ap, sym, subst, ◌∙◌, arith, length-append}
 use Rattle.std.proofs.lemmas.List.Elements.{All-nil, All-cons, All-append}
 use Rattle.model.specs.Map.{entries}
@@ -7,10 +7,11 @@ use Rattle.model.specs.Revision.{Rev}
 use Rattle.model.specs.Tree.{Tree}
 use Rattle.model.specs.TreeChange.{cut}
 use Rattle.model.specs.PurgeLog.{logged}
-use Rattle.model.specs.Command.{Id, Command, Edits, Merges, PutLocal, Purge, SetLimit, Compact, Reply, Seat, Entry, IsCommand, IsSeat, IsEntry, max_edits}
+use Rattle.model.specs.Command.{Id, Command, Edits, Merges, PutLocal, Purge, SetLimit, Compact, Reply, Done, Seat, Entry, IsCommand, IsSeat, IsEntry, max_edits}
 use Rattle.model.specs.Database.{Database, tree_at, leave, removed_of, purge_removed, after_purge, after_purges, changed_by, reply_to, act, calls_of, empty_database, IsDatabase}
-use Rattle.model.specs.History.{replay, IsLegal, entry_of}
+use Rattle.model.specs.History.{replay, entry_of}
 use Rattle.model.proofs.HistoryLaws.{replay-push, IsLegal-push, IsNext-entry_of}
+use Rattle.model.proofs.RestLaws.{rest_of_edits, rest_of_merges}
 use Rattle.model.proofs.KeptLaws.{IsDatabase-act}
 use Rattle.model.proofs.ReplyLaws.{FitsReply-reply_to}
 use Rattle.snapshots.specs.Version.{IsHistory, IsVersion, entries_of, placed_from}
@@ -43,6 +44,40 @@ few-act : (d : Database) (seat : Seat) (c : Command) → IsCommand c → (act d 
 unfolding act
 few-act d seat c is = few-changed_by d c is
 
+-- ---- purge numbers
+
+logged-purge_removed : (d : Database) (id : Id) (named rs : List Rev) → (purge_removed d id named rs).purges.purge_seq ≤ d.purges.purge_seq + 1
+logged-purge_removed d id named [] = omega arith
+logged-purge_removed d id named (r ∷ rs) = at (option_and_then (cut named) (tree_at d id))
+  where
+    at : (o : Option Tree) → (leave (record d { purges = logged d.purges id (r ∷ rs) }) id o).purges.purge_seq ≤ d.purges.purge_seq + 1
+    at (Some t) = omega arith
+    at None = omega arith
+
+pub logged-after_purge : (d : Database) (e : Id × List Rev) → (after_purge d e).purges.purge_seq ≤ d.purges.purge_seq + 1
+logged-after_purge d e = logged-purge_removed d e.0 e.1 (removed_of d e.0 e.1)
+
+pub few-after_purge : (d : Database) (e : Id × List Rev) → (after_purge d e).update_seq ≤ d.update_seq + 1
+few-after_purge d e = few-purge_removed d e.0 e.1 (removed_of d e.0 e.1)
+
+logged-after_purges : (d : Database) (es : List (Id × List Rev)) → (after_purges d es).purges.purge_seq ≤ d.purges.purge_seq + length es
+logged-after_purges d [] = omega arith
+logged-after_purges d (e ∷ es) = omega (arith, logged-after_purge d e, logged-after_purges (after_purge d e) es)
+
+-- a command logs at most as many purges as it may have documents
+logged-changed_by : (d : Database) (c : Command) → IsCommand c → (changed_by d c).purges.purge_seq ≤ d.purges.purge_seq + max_edits
+unfolding changed_by
+logged-changed_by d (Edits es) is = omega (arith, ap (λ (e : Database). e.purges.purge_seq) (rest_of_edits d es))
+logged-changed_by d (Merges ms) is = omega (arith, ap (λ (e : Database). e.purges.purge_seq) (rest_of_merges d ms))
+logged-changed_by d (PutLocal id named body) is = omega arith
+logged-changed_by d (Purge named) is = omega (arith, logged-after_purges d (entries named), is.0)
+logged-changed_by d (SetLimit n) is = omega arith
+logged-changed_by d Compact is = omega arith
+
+logged-act : (d : Database) (seat : Seat) (c : Command) → IsCommand c → (act d seat c).purges.purge_seq ≤ d.purges.purge_seq + max_edits
+unfolding act
+logged-act d seat c is = logged-changed_by d c is
+
 module _ (es : List Entry) (seat : Seat) (c : Command) (h : IsHistory es) (is_seat : IsSeat seat) (is_command : IsCommand c) (next : seat.call ≡ calls_of (replay empty_database es) seat.session + 1) (room : length es < 4294967295) where
   abbrev now : Database
   now = replay empty_database es
@@ -63,6 +98,7 @@ module _ (es : List Entry) (seat : Seat) (c : Command) (h : IsHistory es) (is_se
     database = subst IsDatabase (sym (replay-push empty_database es entry)) (IsDatabase-act now seat c is_command h.database);
     few = omega (arith, length-append es (entry ∷ []), room);
     numbers = omega (arith, length-append es (entry ∷ []), ap (λ (d : Database). d.update_seq) (replay-push empty_database es entry), few-act now seat c is_command, h.numbers);
+    purges = omega (arith, length-append es (entry ∷ []), ap (λ (d : Database). d.purges.purge_seq) (replay-push empty_database es entry), logged-act now seat c is_command, h.purges);
   }
 
   pub IsVersion-pushed : (later : Database) (placed : List (ℕ × Entry)) → later ≡ act now seat c → placed ≡ placed_from 1 longer → IsVersion later placed
@@ -73,6 +109,11 @@ module _ (es : List Entry) (seat : Seat) (c : Command) (h : IsHistory es) (is_se
         history = subst IsHistory (sym same) IsHistory-pushed;
         replayed = acted ∙ sym (replay-push empty_database es entry) ∙ ap (replay empty_database) (sym same);
       }
+
+-- the entry of a compaction
+pub compact_entry-is : (d : Database) (seat : Seat) (copy : Command) (r : Reply) → copy ≡ Compact → r ≡ Done → ◌≡◌ {A = Entry} (record { seat = seat; command = copy; reply = r }) (entry_of d seat Compact)
+unfolding reply_to
+compact_entry-is d seat copy r same answers = λ i. record { seat = seat; command = same i; reply = answers i }
 
 -- an entry with the answer
 pub entry_of-is : (d : Database) (seat : Seat) (c copy : Command) (r : Reply) → copy ≡ c → r ≡ reply_to d c → ◌≡◌ {A = Entry} (record { seat = seat; command = copy; reply = r }) (entry_of d seat c)

@@ -1,9 +1,13 @@
 pub mod MapLists
 pub mod Numbered
 pub mod Counted
+pub mod Few
+pub mod Taken
 pub mod Indexed
 pub mod Bulks
 pub mod Calls
 pub mod Places
 pub mod Histories
+pub mod Purges
 pub mod Shown
+pub mod TouchedCount

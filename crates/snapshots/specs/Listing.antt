@@ -1,10 +1,10 @@
 -- The documents of a database by their ids, with an index by their update numbers and a count.
-use Rattle.std.specs.Prelude.{◌≡◌, ◌≤◌, ◌+◌, ℕ, List, [], length, filter, T, Option, Some, None, if◌then◌else◌, refl}
+use Rattle.std.specs.Prelude.{◌≡◌, ◌≤◌, ◌+◌, ℕ, List, length, filter, T, Option, Some, None, if◌then◌else◌, refl}
 use Rattle.std.specs.Ordering.{nat_cmp}
 use Rattle.std.specs.Coded.{Coded, code_by, coded×, coded_ℕ}
 use Rattle.std.specs.FinMap.Entries.{is_sorted}
 use Rattle.cow_index.specs.Entries.{without}
-use Rattle.model.specs.Map.{Map, put, from_list}
+use Rattle.model.specs.Map.{Map, get, put, from_list}
 use Rattle.model.specs.Tree.{Tree}
 use Rattle.model.specs.Command.{Id, names}
 use Rattle.model.specs.Database.{Database, Record, IsNumbered, empty_database}
@@ -23,6 +23,14 @@ coded_listing = code_by (Map names Record × ℕ) (coded× coded_records coded_�
 -- a database of these documents and nothing else
 abbrev pub database_of : Listing → Database
 database_of l = record empty_database { docs = l.docs; update_seq = l.update_seq }
+
+-- with that record of a document, where no number is above n
+abbrev pub placed : Listing → Id → Record → ℕ → Listing
+placed l id r n = record { docs = put l.docs id r; update_seq = n }
+
+-- no other document has that number
+abbrev pub IsFree : Map names Record → Id → ℕ → Type 0
+IsFree docs id n = (other : Id) (r : Record) → get docs other ≡ Some r → r.seq ≡ n → other ≡ id
 
 -- with that tree of a document, at the next update number
 abbrev pub updated : Listing → Id → Tree → Listing

@@ -24,6 +24,7 @@ pub record IsHistory (es : List Entry) : Type 0 where
   pub database : IsDatabase (replay empty_database es)
   pub few : length es ≤ 4294967295
   pub numbers : (replay empty_database es).update_seq ≤ max_edits * length es
+  pub purges : (replay empty_database es).purges.purge_seq ≤ max_edits * length es
 
 pub record IsVersion (now : Database) (placed : List (ℕ × Entry)) : Type 0 where
   pub places : placed ≡ placed_from 1 (entries_of placed)

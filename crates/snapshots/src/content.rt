@@ -1,25 +1,30 @@
 //! What a version holds beside its history: a database.
-ghost use Rattle.std.specs.Prelude.{◌≡◌, ◌≤◌, ◌<◌, ◌+◌, ◌^◌, ℕ, length, IfOk, false, option_map, option_copied, unwrap_or};
+ghost use Rattle.std.specs.Prelude.{◌≡◌, ◌≤◌, ◌<◌, ◌+◌, ◌^◌, ℕ, length, map, IfOk, false, option_map, option_copied, unwrap_or};
 ghost use Rattle.std.specs.Arc.{arc_value};
 ghost use Rattle.std.specs.Map.Iter.{ShowsInOrder, deref_pair};
 ghost use Rattle.model.specs.Map.{entries, get};
 ghost use Rattle.model.specs.Changes.{every_id, changed_since as changed_above};
 ghost use Rattle.model.specs.Answers.{counts};
-ghost use Rattle.model.specs.Command.{Id, IsCommand, IsSeat, max_edits};
+ghost use Rattle.model.specs.Command.{Id, names, Compact, IsCommand, IsSeat, max_edits};
 ghost use Rattle.model.specs.Edit.{revision_written};
 ghost use Rattle.model.specs.Database as model;
-ghost use Rattle.model.specs.Database.{Record as Stored, empty_database, same_tree, tree_at, edit_in, merge_in, after_edit, after_merge, edit_replies, after_edits, merge_replies, after_merges, put_local_reply, after_put_local, reply_to, changed_by, calls_of, counted};
+ghost use Rattle.model.specs.Database.{Record as Stored, empty_database, same_tree, tree_at, edit_in, merge_in, after_edit, after_merge, edit_replies, after_edits, merge_replies, after_merges, put_local_reply, after_put_local, removed_of, after_purge, after_purges, purge_reply, compacted, reply_to, changed_by, calls_of, counted};
+ghost use Rattle.model.specs.PurgeLog.{PurgeInfo, logged, is_overrun, purges_since};
+ghost use Rattle.purge.specs.Log.{PurgedEntry, info_of};
+ghost use Rattle.cow_index.specs.Entries.{entries_from};
 
-use crate::documents::Documents;
 use crate::record::Record;
+use crate::records::Records;
 use crate::written::{Written, edited, merged};
 use commands::{
-    Command, CommandKind, Counts, Edit, Merge, Refusal, RefusalKind, Reply, ReplyKind, Seat,
+    AskedRevisions, Command, CommandKind, Counts, Edit, Merge, NamedRevisions, Refusal,
+    RefusalKind, Reply, ReplyKind, Seat,
 };
 use cow_index::{CowMap, Range, Shared};
 use document_id::DocId;
 use json_profile::Body;
 use local_docs::{LocalDoc, LocalFault, Locals};
+use purge::{PurgeLog, Purged, cut_document};
 use revision_id::RevId;
 use revision_tree::RevTree;
 use std::alloc::{AllocError, Global};
@@ -30,8 +35,9 @@ use tree_merge::is_same;
 #[derive(Drop)]
 pub(crate) struct Content {
     alloc: Global,
-    documents: Documents,
+    documents: Records,
     locals: Locals,
+    purges: PurgeLog,
     revs_limit: u32,
     /// Of each session, how many commands it has made.
     calls: CowMap<u16, u64>,
@@ -48,7 +54,7 @@ impl Model for Content {
 
     ghost coded = { Prim.hlevel (codes, coded_members) };
 
-    ghost view = { λ c. content_of c.documents c.locals c.revs_limit c.calls.entries };
+    ghost view = { λ c. content_of c.documents c.locals c.purges c.revs_limit c.calls.entries };
 
     ghost invariant = { λ c. 0 < c.revs_limit };
 }
@@ -59,8 +65,9 @@ impl Content {
     {
         Content {
             alloc,
-            documents: Documents::new(alloc),
+            documents: Records::new(alloc),
             locals: Locals::new(alloc),
+            purges: PurgeLog::new(alloc),
             revs_limit: 1000,
             calls: CowMap::new(alloc),
         }
@@ -74,6 +81,7 @@ impl Content {
             alloc: self.alloc,
             documents: self.documents.share()?,
             locals: self.locals.share()?,
+            purges: self.purges.share()?,
             revs_limit: self.revs_limit,
             calls: self.calls.share()?,
         })
@@ -106,7 +114,7 @@ impl Content {
     }
 
     /// The documents, in the order of their ids.
-    pub(crate) fn records(&self) -> Range<'_, DocId, Shared<Record>>
+    pub(crate) fn documents(&self) -> Range<'_, DocId, Shared<Record>>
         ensures rest { result ≡ entries self.now.docs }
         ensures fits { length result < 2 ^ 64 }
         ensures runs { ShowsInOrder (deref_pair {K = Id} {X = Stored}) }
@@ -141,7 +149,7 @@ impl Content {
             doc_count: self.documents.live(),
             doc_del_count: self.documents.deleted(),
             update_seq: self.documents.update_seq(),
-            purge_seq: 0,
+            purge_seq: self.purges.purge_seq(),
         }
     }
 
@@ -176,7 +184,8 @@ impl Content {
         requires room { self.old.update_seq < u64.MAX }
         ensures updated { IfOk result (λ _. self.new ≡ model.with_tree self.old id.now tree) }
     {
-        self.documents.update(self.alloc, id, tree)
+        self.documents = self.documents.update(self.alloc, id, tree)?;
+        Ok(())
     }
 
     /// Stores what was written, and answers its revision. A refused write changes nothing.
@@ -264,6 +273,144 @@ impl Content {
         }
     }
 
+    /// The last purge number that was given, from 0.
+    pub(crate) fn purge_seq(&self) -> u64
+        ensures { result ≡ self.now.purges.purge_seq }
+    {
+        self.purges.purge_seq()
+    }
+
+    /// Whether a purge above the mark was given a number and is no longer in the log.
+    pub(crate) fn is_overrun(&self, mark: u64) -> bool
+        ensures { result ≡ is_overrun self.now.purges mark }
+    {
+        self.purges.is_overrun(mark)
+    }
+
+    /// The logged purges above the mark, in the order of their numbers.
+    pub(crate) fn purges_above(&self, mark: u64) -> Range<'_, u64, Purged>
+        requires { self.now.purges.purge_seq < u64.MAX }
+        ensures rest { map info_of result ≡ purges_since self.now.purges mark }
+        ensures fits { length result < 2 ^ 64 }
+        ensures runs { ShowsInOrder (deref_pair {K = ℕ} {X = PurgedEntry}) }
+    {
+        self.purges.above(mark)
+    }
+
+    /// How many logged purges stand above the mark.
+    pub(crate) fn count_purges_above(&self, mark: u64) -> u64
+        requires { self.now.purges.purge_seq < u64.MAX }
+        ensures { result ≡ length (purges_since self.now.purges mark) }
+    {
+        self.purges.count_above(mark)
+    }
+
+    fn log(&mut self, id: &DocId, leaves: &[RevId]) -> Result<(), AllocError>
+        requires { self.old.purges.purge_seq < u64.MAX }
+        ensures { IfOk result (λ _. self.new ≡ record self.old { purges = logged self.old.purges id.now leaves.now }) }
+    {
+        let leaves = Vec::from_slice(self.alloc, leaves)?;
+        self.purges = self.purges.add(id, leaves)?;
+        Ok(())
+    }
+
+    /// Gives the document the tree that is left, or removes it.
+    fn leave(&mut self, id: &DocId, left: Option<RevTree>) -> Result<(), AllocError>
+        requires { self.old.update_seq < u64.MAX }
+        ensures { IfOk result (λ _. self.new ≡ model.leave self.old id.now left) }
+    {
+        match left {
+            Some(tree) => self.update(id, tree),
+            None => self.remove(id),
+        }
+    }
+
+    fn remove(&mut self, id: &DocId) -> Result<(), AllocError>
+        ensures { IfOk result (λ _. self.new ≡ model.without_document self.old id.now) }
+    {
+        self.documents = self.documents.remove(id)?;
+        Ok(())
+    }
+
+    /// Removes the named leaves for good, and answers those that there were.
+    fn purge(&mut self, id: &DocId, named: &[RevId]) -> Result<Vec<RevId>, AllocError>
+        requires room { self.old.update_seq < u64.MAX }
+        requires log_room { self.old.purges.purge_seq < u64.MAX }
+        ensures removed { IfOk result (λ revs. revs.items ≡ removed_of self.old id.now named.now) }
+        ensures after { IfOk result (λ _. self.new ≡ after_purge self.old (id.now, named.now)) }
+    {
+        let Some(tree) = self.tree(id) else {
+            return Ok(Vec::new(self.alloc));
+        };
+        let (removed, left) = cut_document(self.alloc, tree, named)?;
+        if removed.is_empty() {
+            return Ok(removed);
+        }
+        self.log(id, &removed)?;
+        self.leave(id, left)?;
+        Ok(removed)
+    }
+
+    /// One document after another, in the byte order of the ids.
+    fn purge_all(&mut self, named: &NamedRevisions) -> Result<NamedRevisions, AllocError>
+        requires room { self.old.update_seq + length (entries named.now) ≤ u64.MAX }
+        requires log_room { self.old.purges.purge_seq + length (entries named.now) ≤ u64.MAX }
+        ensures reply { IfOk result (λ removed. removed ≡ purge_reply self.old named.now) }
+        ensures after { IfOk result (λ _. self.new ≡ after_purges self.old (entries named.now)) }
+    {
+        let documents = named.documents();
+        let mut removed = Vec::with_capacity(self.alloc, documents.len())?;
+        for document in documents {
+            let revisions = self.purge(&document.id, &document.revisions)?;
+            removed.push(AskedRevisions {
+                id: document.id.share()?,
+                revisions,
+            })?;
+        }
+        let Some(removed) = NamedRevisions::new(removed) else {
+            unreachable!()
+        };
+        Ok(removed)
+    }
+
+    /// Strips each record.
+    fn compact(&mut self) -> Result<(), AllocError>
+        ensures { IfOk result (λ _. self.new ≡ compacted self.old) }
+    {
+        self.documents = self.documents.stripped(self.alloc)?;
+        Ok(())
+    }
+
+    /// With these documents in place of its own.
+    fn with_records(&mut self, records: Records)
+        requires { records.update_seq ≡ self.old.update_seq }
+        ensures { self.new ≡ record self.old { docs = records.docs } }
+    {
+        self.documents = records;
+    }
+
+    pub(crate) fn share_records(&self) -> Result<Records, AllocError>
+        ensures { IfOk result (λ r. r ≡ record { docs = self.now.docs; update_seq = self.now.update_seq }) }
+    {
+        self.documents.share()
+    }
+
+    /// The documents whose ids are not below `id`, in the order of their ids.
+    pub(crate) fn documents_from(&self, id: &DocId) -> Range<'_, DocId, Shared<Record>>
+        ensures rest { result ≡ entries_from names.cmp id.now (entries self.now.docs) }
+        ensures fits { length result < 2 ^ 64 }
+        ensures runs { ShowsInOrder (deref_pair {K = Id} {X = Stored}) }
+    {
+        self.documents.range_from(id)
+    }
+
+    /// How many documents there are.
+    pub(crate) fn len(&self) -> u64
+        ensures { result ≡ length (entries self.now.docs) }
+    {
+        self.documents.len()
+    }
+
     fn set_limit(&mut self, limit: u32)
         requires { 0 < limit }
         ensures { self.new ≡ record self.old { revs_limit = limit } }
@@ -275,6 +422,7 @@ impl Content {
     #[tactic(auto, unfolding(model::specs::Database::reply_to, model::specs::Database::changed_by))]
     fn change(&mut self, command: &Command) -> Result<Reply, AllocError>
         requires room { self.old.update_seq + max_edits ≤ u64.MAX }
+        requires log_room { self.old.purges.purge_seq + max_edits ≤ u64.MAX }
         ensures reply { IfOk result (λ r. r ≡ reply_to self.old command.now) }
         ensures after { IfOk result (λ _. self.new ≡ changed_by self.old command.now) }
         ensures limits { IfOk result (λ _. IsCommand command.now) }
@@ -292,11 +440,34 @@ impl Content {
                 let reply = self.put_local(id, *named, body.as_ref())?;
                 Ok(Reply::new(ReplyKind::WroteLocal(reply)))
             }
+            CommandKind::Purge(named) => {
+                let removed = self.purge_all(named)?;
+                let purge_seq = self.purge_seq();
+                Ok(Reply::new(ReplyKind::Purged { purge_seq, removed }))
+            }
+            CommandKind::Compact => {
+                self.compact()?;
+                Ok(Reply::new(ReplyKind::Done))
+            }
             CommandKind::SetLimit(limit) => {
                 self.set_limit(*limit);
                 Ok(Reply::new(ReplyKind::Done))
             }
         }
+    }
+
+    /// With these stripped documents in place of its own: a compaction, counted as a call of its
+    /// session.
+    #[tactic(auto, unfolding(model::specs::Database::act, model::specs::Database::changed_by))]
+    pub(crate) fn compact_with(&mut self, seat: Seat, records: Records) -> Result<(), AllocError>
+        requires next { seat.call ≡ calls_of self.old seat.session + 1 }
+        requires stripped { records ≡ record { docs = (compacted self.old).docs; update_seq = self.old.update_seq } }
+        ensures after { IfOk result (λ _. self.new ≡ model.act self.old seat Compact) }
+        ensures limits { IfOk result (λ _. IsSeat seat) }
+    {
+        self.with_records(records);
+        self.count_call(seat.session(), seat.call())?;
+        Ok(())
     }
 
     /// How many commands the session has made.
@@ -322,6 +493,7 @@ impl Content {
     pub(crate) fn act(&mut self, seat: Seat, command: &Command) -> Result<Reply, AllocError>
         requires next { seat.call ≡ calls_of self.old seat.session + 1 }
         requires room { self.old.update_seq + max_edits ≤ u64.MAX }
+        requires log_room { self.old.purges.purge_seq + max_edits ≤ u64.MAX }
         ensures reply { IfOk result (λ r. r ≡ reply_to self.old command.now) }
         ensures after { IfOk result (λ _. self.new ≡ model.act self.old seat command.now) }
         ensures limits { IfOk result (λ _. IsSeat seat × IsCommand command.now) }

@@ -2,12 +2,13 @@
 #![tactic(auto)]
 
 mod content;
-mod documents;
 mod record;
+mod records;
 #[cfg(test)]
 mod tests;
 mod version;
 mod written;
 
 pub use record::Record;
+pub use records::Records;
 pub use version::Version;

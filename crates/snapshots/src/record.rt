@@ -1,9 +1,12 @@
 //! A document as it is kept.
-ghost use Rattle.std.specs.Prelude.{◌≡◌};
+ghost use Rattle.std.specs.Prelude.{◌≡◌, IfOk};
 ghost use Rattle.model.specs.Answers.{is_live};
+ghost use Rattle.model.specs.Database.{stripped};
 
 use revision_tree::RevTree;
+use std::alloc::{AllocError, Global};
 use std::marker::Model;
+use tree_merge::strip;
 
 /// The revisions of a document, and the number of its last update.
 #[derive(Drop)]
@@ -41,6 +44,16 @@ impl Record {
         ensures { result ≡ self.now.seq }
     {
         self.seq
+    }
+
+    /// The same record with the bodies of its leaves alone.
+    pub fn stripped(&self, alloc: Global) -> Result<Record, AllocError>
+        ensures { IfOk result (λ r. r ≡ stripped self.now) }
+    {
+        Ok(Record {
+            tree: strip(alloc, &self.tree)?,
+            seq: self.seq,
+        })
     }
 
     /// Whether the document's winner is not deleted.

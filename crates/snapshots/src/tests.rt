@@ -219,6 +219,7 @@ fn answer_at(version: &Version, place: u64) -> Option<Answer> {
         ReplyKind::Wrote(writes) => first_answer(writes),
         ReplyKind::WroteLocal(Ok(counter)) => Some(Answer::Counter(*counter)),
         ReplyKind::WroteLocal(Err(refusal)) => refused(refusal.kind()),
+        ReplyKind::Purged { .. } => None,
         ReplyKind::Done => Some(Answer::Done),
     }
 }

@@ -1,20 +1,26 @@
 //! A version of the database.
-ghost use Rattle.std.specs.Prelude.{◌≡◌, ◌≤◌, ◌<◌, ◌+◌, ◌^◌, ◌∷◌, ◌++◌, [], ℕ, length, IfOk, option_copied};
+ghost use Rattle.std.specs.Prelude.{◌≡◌, ◌≤◌, ◌<◌, ◌+◌, ◌^◌, ◌∷◌, ◌++◌, [], ℕ, Some, None, length, map, IfOk, option_copied, if◌then◌else◌};
+ghost use Rattle.cow_index.specs.Entries.{entries_from};
+ghost use Rattle.model.specs.PurgeLog.{PurgeInfo, is_overrun, purges_since};
+ghost use Rattle.model.specs.Compaction.{touched};
+ghost use Rattle.purge.specs.Log.{PurgedEntry, info_of};
 ghost use Rattle.std.specs.Map.Iter.{ShowsInOrder, deref_pair};
 ghost use Rattle.model.specs.Map.{entries, get};
-ghost use Rattle.model.specs.Command.{Id};
+ghost use Rattle.model.specs.Command.{Id, names, Compact};
 ghost use Rattle.model.specs.Changes.{every_id, changed_since as changed_above};
 ghost use Rattle.model.specs.Answers.{counts};
-ghost use Rattle.model.specs.Database.{Record as Stored, empty_database, calls_of};
+ghost use Rattle.model.specs.Database.{Record as Stored, empty_database, calls_of, compacted};
 ghost use Rattle.model.specs.History.{replay, entry_of};
 ghost use Rattle.snapshots.specs.Version.{IsHistory, entry_at, placed_from};
 
 use crate::content::Content;
 use crate::record::Record;
-use commands::{Command, Copied, Counts, Entry, Seat};
+use crate::records::Records;
+use commands::{Command, Copied, Counts, Entry, Reply, ReplyKind, Seat};
 use cow_index::{CowMap, Range, Shared};
 use document_id::DocId;
 use local_docs::LocalDoc;
+use purge::Purged;
 use std::alloc::{AllocError, Global};
 use std::marker::Model;
 
@@ -90,6 +96,87 @@ impl Version {
         })
     }
 
+    /// The version after a compaction by that call, where these are its documents, stripped.
+    pub fn with_records(&self, seat: Seat, records: Records) -> Result<Version, AllocError>
+        requires stripped { records ≡ record { docs = (compacted (replay empty_database self.now)).docs; update_seq = (replay empty_database self.now).update_seq } }
+        requires next { seat.call ≡ calls_of (replay empty_database self.now) seat.session + 1 }
+        requires room { length self.now < 4294967295 }
+        ensures pushed { IfOk result (λ v. v ≡ self.now ++ entry_of (replay empty_database self.now) seat Compact ∷ []) }
+    {
+        let mut content = self.content.share()?;
+        content.compact_with(seat, records)?;
+        let history = self.pushed(Entry {
+            seat,
+            command: Command::compact(),
+            reply: Reply::new(ReplyKind::Done),
+        })?;
+        Ok(Version {
+            alloc: self.alloc,
+            content,
+            history,
+        })
+    }
+
+    /// The documents with their indexes, which share all nodes. It grows nothing.
+    pub fn records(&self) -> Result<Records, AllocError>
+        ensures records { IfOk result (λ r. r ≡ record { docs = (replay empty_database self.now).docs; update_seq = (replay empty_database self.now).update_seq }) }
+    {
+        self.content.share_records()
+    }
+
+    /// How many documents there are.
+    pub fn document_count(&self) -> u64
+        ensures { result ≡ length (entries (replay empty_database self.now).docs) }
+    {
+        self.content.len()
+    }
+
+    /// The documents whose ids are not below `id`, in the order of their ids.
+    pub fn documents_from(&self, id: &DocId) -> Range<'_, DocId, Shared<Record>>
+        ensures rest { result ≡ entries_from names.cmp id.now (entries (replay empty_database self.now).docs) }
+        ensures fits { length result < 2 ^ 64 }
+        ensures runs { ShowsInOrder (deref_pair {K = Id} {X = Stored}) }
+    {
+        self.content.documents_from(id)
+    }
+
+    /// The last purge number that was given, from 0.
+    pub fn purge_seq(&self) -> u64
+        ensures { result ≡ (replay empty_database self.now).purges.purge_seq }
+    {
+        self.content.purge_seq()
+    }
+
+    /// The logged purges above the mark, in the order of their numbers.
+    pub fn purges_above(&self, mark: u64) -> Range<'_, u64, Purged>
+        ensures rest { map info_of result ≡ purges_since (replay empty_database self.now).purges mark }
+        ensures fits { length result < 2 ^ 64 }
+        ensures runs { ShowsInOrder (deref_pair {K = ℕ} {X = PurgedEntry}) }
+    {
+        self.content.purges_above(mark)
+    }
+
+    /// How many logged purges stand above the mark.
+    pub fn count_purges_above(&self, mark: u64) -> u64
+        ensures { result ≡ length (purges_since (replay empty_database self.now).purges mark) }
+    {
+        self.content.count_purges_above(mark)
+    }
+
+    /// How many logged purges and updates lie above the marks; nothing where a purge above its mark
+    /// is no longer in the log.
+    pub fn touched_since(&self, update_mark: u64, purge_mark: u64) -> Option<u64>
+        ensures { result ≡ (if is_overrun (replay empty_database self.now).purges purge_mark then None
+            else Some (length (touched (replay empty_database self.now) (record { update = update_mark; purge = purge_mark })))) }
+    {
+        if self.content.is_overrun(purge_mark) {
+            return None;
+        }
+        let purges = self.content.count_purges_above(purge_mark);
+        let updates = self.content.count_changed_since(update_mark);
+        Some(purges + updates)
+    }
+
     /// The history with one more entry, at the next place.
     fn pushed(&self, entry: Entry) -> Result<CowMap<u64, Entry>, AllocError>
         ensures { IfOk result (λ m. m.entries ≡ placed_from 1 (self.now ++ entry ∷ [])) }
@@ -142,12 +229,12 @@ impl Version {
     }
 
     /// The documents, in the order of their ids.
-    pub fn records(&self) -> Range<'_, DocId, Shared<Record>>
+    pub fn documents(&self) -> Range<'_, DocId, Shared<Record>>
         ensures rest { result ≡ entries (replay empty_database self.now).docs }
         ensures fits { length result < 2 ^ 64 }
         ensures runs { ShowsInOrder (deref_pair {K = Id} {X = Stored}) }
     {
-        self.content.records()
+        self.content.documents()
     }
 
     /// The documents with an update number above `since`, in the order of these numbers.

@@ -133,8 +133,8 @@ fn changes_are_counted(rt: HostRuntime) -> Result<(), Fail> {
 
 /// The id of the first document and how many there are.
 fn first_of(version: &Version) -> Option<(&str, usize)> {
-    let (id, _) = version.records().next()?;
-    Some((id.as_str(), version.records().count()))
+    let (id, _) = version.documents().next()?;
+    Some((id.as_str(), version.documents().count()))
 }
 
 #[test]

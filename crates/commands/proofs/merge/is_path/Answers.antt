@@ -1,4 +1,4 @@
-use Rattle.std.proofs.Common.{◌≡◌, ◌+◌, ◌<◌, [], ◌∷◌, All, arith, drop, rules, subst, sym}
+use Rattle.std.proofs.Common.{◌+◌, ◌<◌, [], ◌∷◌, All, arith, drop, rules, subst, sym}
 use Rattle.std.proofs.lemmas.List.{drop_all}
 use Rattle.std.proofs.lemmas.List.Elements.{All-cons, All-nil}
 use Rattle.model.specs.Revision.{IsRev}

@@ -1,4 +1,4 @@
-use Rattle.std.proofs.Common.{◌≡◌, ◌+◌, ◌∷◌, T, arith, drop, rules, subst, sym}
+use Rattle.std.proofs.Common.{◌≡◌, ◌∷◌, T, arith, rules, subst, sym}
 use Rattle.std.specs.FinMap.Entries.{is_sorted}
 use Rattle.std.specs.declared.cmp.Ordering.TheVariants.{Less}
 use Rattle.model.specs.Command.{names}

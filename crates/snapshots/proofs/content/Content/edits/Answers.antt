@@ -1,4 +1,4 @@
-use Rattle.std.specs.Prelude.{◌≡◌, ◌+◌, ◌∷◌, [], ◌++◌}
+use Rattle.std.specs.Prelude.{◌+◌, ◌++◌}
 use Rattle.std.proofs.Common.{arith, ap, ◌∙◌, drop}
 use Rattle.model.specs.Database.{Database, edit_replies}
 use Rattle.snapshots.proofs.Bulks.{few-after_edit, after_edits-next, edit_replies-next}

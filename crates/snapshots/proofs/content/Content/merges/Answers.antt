@@ -1,4 +1,4 @@
-use Rattle.std.specs.Prelude.{◌≡◌, ◌+◌, ◌∷◌, [], ◌++◌}
+use Rattle.std.specs.Prelude.{◌+◌, ◌++◌}
 use Rattle.std.proofs.Common.{arith, ap, ◌∙◌, drop}
 use Rattle.model.specs.Database.{Database, merge_replies}
 use Rattle.snapshots.proofs.Bulks.{few-after_merge, after_merges-next, merge_replies-next}

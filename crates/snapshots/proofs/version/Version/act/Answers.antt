@@ -16,6 +16,7 @@ act-requires c =
     record {
       next = c.requires.next ∙ ap (λ (d : Database). calls_of d c.args.seat.session + 1) (sym content);
       room = omega (arith, ap (λ (d : Database). d.update_seq) content, history.numbers, c.requires.room);
+      log_room = omega (arith, ap (λ (d : Database). d.purges.purge_seq) content, history.purges, c.requires.room);
     }
 
 pub invariant_of-result : goal.invariant_of-result

@@ -1,5 +1,4 @@
-use Rattle.std.specs.Prelude.{length}
-use Rattle.std.proofs.Common.{ap, ◌∙◌, arith}
+use Rattle.std.proofs.Common.{ap, arith}
 use Rattle.model.specs.Database.{Database, calls_of}
 use Rattle.snapshots.specs.Version.{entries_of}
 use Rattle.snapshots.proofs.Calls.{calls_of-few}

@@ -1,0 +1,3 @@
+pub mod FirstTouched
+pub mod Sliced
+pub mod Copies

@@ -1,0 +1,44 @@
+//! A purge as it is kept.
+ghost use Rattle.std.specs.Prelude.{◌≡◌};
+
+use document_id::DocId;
+use revision_id::RevId;
+use std::marker::Model;
+
+/// A document that was purged, and the leaves that it lost.
+#[derive(Drop)]
+pub struct Purged {
+    id: DocId,
+    leaves: Vec<RevId>,
+}
+
+impl Model for Purged {
+    ghost use Rattle.std.specs.Prelude.{List};
+    ghost use Rattle.model.specs.Command.{Id};
+    ghost use Rattle.model.specs.Revision.{Rev};
+
+    ghost Value = { Id × List Rev };
+
+    ghost view = { λ p. (p.id, p.leaves.items) };
+}
+
+impl Purged {
+    pub(crate) fn new(id: DocId, leaves: Vec<RevId>) -> Purged
+        ensures { result ≡ (id, leaves.items) }
+    {
+        Purged { id, leaves }
+    }
+
+    pub fn id(&self) -> &DocId
+        ensures { result.now ≡ self.now.0 }
+    {
+        &self.id
+    }
+
+    /// The leaves that the document lost, in the order in which they were named.
+    pub fn leaves(&self) -> &[RevId]
+        ensures { result.now ≡ self.now.1 }
+    {
+        &self.leaves
+    }
+}

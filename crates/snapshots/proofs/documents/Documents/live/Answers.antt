@@ -1,6 +1,0 @@
-use Rattle.std.proofs.Common.{ap, sym, ◌∙◌, arith}
-use Rattle.snapshots.proofs.Shown.{changed-since, entries-listed, live-counted, both-counted}
-use Rattle.snapshots.proofs.documents.Documents.live.Goals as goal
-
-pub returns : goal.returns
-returns c = live-counted c.self.inside.by_id.entries c.self.inside.by_number.entries c.self.inside.live c.self.inside.update_seq c.args.self.now c.self.invariant c.self.view_is
