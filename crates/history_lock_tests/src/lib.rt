@@ -1,0 +1,5 @@
+//! Sessions at work.
+#![tactic(auto)]
+
+#[cfg(test)]
+mod tests;
