@@ -1,5 +1,5 @@
 ghost use Rattle.std.specs.Prelude.{◌≡◌, ◌↔◌, ◌<◌, IsSome, IfSome};
-ghost use Rattle.model.specs.Command.{IsSeat, IsCounter};
+ghost use Rattle.model.specs.Command.{IsSeat};
 
 use std::marker::Model;
 
@@ -23,12 +23,12 @@ impl Model for Seat {
 }
 
 impl Seat {
-    /// The seat of a session's call, where the session is 0 to 63 and the call 1 to 4,294,967,295.
+    /// The seat of a session's call, where the session is 0 to 63 and the call is not 0.
     pub fn new(session: u16, call: u64) -> Option<Seat>
-        ensures in_range { IsSome result ↔ ((session < 64) × IsCounter call) }
+        ensures in_range { IsSome result ↔ ((session < 64) × (0 < call)) }
         ensures seat { IfSome result (λ seat. seat ≡ record { session = session; call = call }) }
     {
-        if session >= 64 || call == 0 || call > u32::MAX as u64 {
+        if session >= 64 || call == 0 {
             return None;
         }
         Some(Seat { session, call })

@@ -34,12 +34,11 @@ fn revisions(alloc: Global, texts: &[&str]) -> Result<Vec<RevId>, Fail> {
 
 #[test]
 fn seats_are_in_range(rt: HostRuntime) -> Result<(), Fail> {
-    let seat = Seat::new(63, 4_294_967_295).ok_or("in range")?;
+    let seat = Seat::new(63, u64::MAX).ok_or("in range")?;
     assert_eq!(rt; seat.session(), 63);
-    assert_eq!(rt; seat.call(), 4_294_967_295);
+    assert_eq!(rt; seat.call(), u64::MAX);
     assert!(&rt; Seat::new(64, 1).is_none());
     assert!(&rt; Seat::new(0, 0).is_none());
-    assert!(&rt; Seat::new(0, 4_294_967_296).is_none());
     Ok(())
 }
 

@@ -3,10 +3,9 @@ use Rattle.std.proofs.Common.{◌≡◌, ℕ, ◌+◌, ◌<◌, List, [], ◌∷
 use Rattle.std.proofs.lemmas.Bool.{cond-true}
 use Rattle.std.proofs.lemmas.List.Elements.{filter-append}
 use Rattle.model.specs.Map.{same_key, same_key_itself}
-use Rattle.model.specs.Command.{Command, Reply, Seat, Entry, IsCounter, numbers}
+use Rattle.model.specs.Command.{Command, Reply, Seat, Entry, numbers}
 use Rattle.model.specs.Database.{empty_database, calls_of, reply_to}
 use Rattle.model.specs.History.{IsLegal, replay, entry_of, of_session}
-use Rattle.model.proofs.CallLaws.{calls-replay}
 use Rattle.model.proofs.HistoryLaws.{IsLegal-push, IsNext-entry_of}
 use Rattle.model.proofs.TellLaws.{Tells-last, slice_get-push}
 use Rattle.snapshots.specs.Version.{entry_at}
@@ -19,20 +18,6 @@ of_session-append session xs ys = filter-append (λ e. same_key numbers session 
 -- an entry of the session
 pub of_session-own : (session : ℕ) (entry : Entry) → entry.seat.session ≡ session → of_session session (entry ∷ []) ≡ entry ∷ []
 of_session-own session entry own = cond-true _ _ _ (ap (same_key numbers session) own ∙ same_key_itself numbers session)
-
--- all entries are calls of the session
-calls_of-alone : (session : ℕ) (history : List Entry) → IsAlone session history → calls_of (replay empty_database history) session ≡ length history
-calls_of-alone session history alone = calls-replay empty_database history session ∙ none (length (of_session session history)) ∙ ap length alone.own
-  where
-    none : (n : ℕ) → 0 + n ≡ n
-    none n = omega arith
-
--- so its next call has a number
-pub IsCounter-next : (session : ℕ) (history : List Entry) (call : ℕ) → IsAlone session history → length history < max_places
-    → call ≡ calls_of (replay empty_database history) session + 1 → IsCounter call
-IsCounter-next session history call alone room next =
-    let calls = calls_of-alone session history alone in
-    (omega (arith, next), omega (arith, next, calls, room))
 
 module _ (session : ℕ) (old : List Entry) (seat : Seat) (command : Command) (own : seat.session ≡ session) where
   -- the history with the call

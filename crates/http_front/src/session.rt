@@ -147,8 +147,6 @@ fn next_version(
 
 /// The seat of the session's next call.
 fn next_seat(version: &Version) -> Seat
-    requires alone { IsAlone 0 version.now }
-    requires room { length version.now < max_places }
     ensures { result ≡ record {
       session = 0;
       call = calls_of (replay empty_database version.now) 0 + 1;

@@ -13,5 +13,5 @@ Keeps d = (d ≡ object (members_in d)) × IsBody (members_in d)
 
 pub body_of : (m : BTreeMap (String Global) Value) → ArePlain (members_view m.entries) → members_depth (members_view m.entries) ≤ 63 → Keeps (view (Object m))
 body_of m plain nests =
-    let kept : IsBody (members_view m.entries) = record { whole = plain.whole; ordered = plain.ordered; nests = omega arith; plain = plain.plain } in
+    let kept : IsBody (members_view m.entries) = record { whole = plain.whole; utf8 = plain.utf8; ordered = plain.ordered; nests = omega arith; plain = plain.plain } in
     subst Keeps (sym (view-Object m)) (refl, kept)

@@ -5,3 +5,4 @@ pub mod Parts
 pub mod Sameness
 pub mod Specials
 pub mod Taken
+pub mod Texts

@@ -1,7 +1,7 @@
 -- What is read stands in order, and stays so without the special members.
-use Rattle.std.proofs.Common.{◌≡◌, ℕ, List, Bool, true, ◌&&◌, Option, Some, None, option_map, option_and_then, Ordering, Less, Equal, Greater, nat_cmp, true≢false, refl, sym, ap, ◌∙◌, subst}
+use Rattle.std.proofs.Common.{◌≡◌, ℕ, List, Bool, true, ◌&&◌, Option, Some, None, option_map, option_and_then, Ordering, Less, Equal, Greater, nat_cmp, refl, ap, ◌∙◌, subst}
 use Rattle.std.specs.Prelude.{⊤}
-use Rattle.std.proofs.lemmas.Bool.{and_parts, and_from}
+use Rattle.std.proofs.lemmas.Bool.{and_from}
 use Rattle.std.proofs.lemmas.Cmp.{nat_list_cmp_total}
 use Rattle.std.specs.Ordering.{is_lt, match_ordering, ordering_reverse}
 use Rattle.std.specs.Cmp.Lexicographic.{slice_cmp}
@@ -10,13 +10,9 @@ use Rattle.json.specs.Json as json
 use Rattle.serde_json.specs.Data.{Data, item, number, object, array, Members, no_members, member, put}
 use Rattle.serde_json.specs.Read.{read, of_json, of_items, of_members, number_of, max_depth}
 use Rattle.model.specs.Profile.{is_before, is_ordered, items_ordered, members_ordered}
+use Rattle.model.proofs.ProfileLaws.{first_of, value_of, rest_of}
 
 -- ---- a member that is put into its place
-
-lt : (o : Ordering) → is_lt o ≡ true → o ≡ Less
-lt Less h = refl
-lt Equal h = absurd (true≢false (sym h))
-lt Greater h = absurd (true≢false (sym h))
 
 is_before-put_at : (o : Ordering) (l k m : List ℕ) (d e : Data) (ms : Members) → is_lt (slice_cmp nat_cmp l k) ≡ true → is_lt (slice_cmp nat_cmp l m) ≡ true
     → is_before l (match_ordering o (member k d (member m e ms)) (member m d ms) (member m e (put k d ms))) ≡ true
@@ -27,15 +23,6 @@ is_before-put_at Greater l k m d e ms new old = old
 is_before-put : (l k : List ℕ) (d : Data) (ms : Members) → is_lt (slice_cmp nat_cmp l k) ≡ true → is_before l ms ≡ true → is_before l (put k d ms) ≡ true
 is_before-put l k d no_members new old = new
 is_before-put l k d (member m e ms) new old = is_before-put_at (slice_cmp nat_cmp k m) l k m d e ms new old
-
-pub first_of : (k : List ℕ) (d : Data) (ms : Members) → members_ordered (member k d ms) ≡ true → is_before k ms ≡ true
-first_of k d ms h = (and_parts (is_before k ms) (is_ordered d) (and_parts (is_before k ms && is_ordered d) (members_ordered ms) h).0).0
-
-pub value_of : (k : List ℕ) (d : Data) (ms : Members) → members_ordered (member k d ms) ≡ true → is_ordered d ≡ true
-value_of k d ms h = (and_parts (is_before k ms) (is_ordered d) (and_parts (is_before k ms && is_ordered d) (members_ordered ms) h).0).1
-
-pub rest_of : (k : List ℕ) (d : Data) (ms : Members) → members_ordered (member k d ms) ≡ true → members_ordered ms ≡ true
-rest_of k d ms h = (and_parts (is_before k ms && is_ordered d) (members_ordered ms) h).1
 
 pub ordered_from : (k : List ℕ) (d : Data) (ms : Members) → is_before k ms ≡ true → is_ordered d ≡ true → members_ordered ms ≡ true → members_ordered (member k d ms) ≡ true
 ordered_from k d ms p q r = and_from (is_before k ms && is_ordered d) (members_ordered ms) (and_from (is_before k ms) (is_ordered d) p q) r
@@ -52,10 +39,6 @@ members_ordered-put_at Greater k l d e ms is new old later =
 pub members_ordered-put : (k : List ℕ) (d : Data) (ms : Members) → is_ordered d ≡ true → members_ordered ms ≡ true → members_ordered (put k d ms) ≡ true
 members_ordered-put k d no_members new old = ordered_from k d no_members refl new refl
 members_ordered-put k d (member l e ms) new old = members_ordered-put_at _ k l d e ms refl new old (members_ordered-put k d ms new (rest_of l e ms old))
-
-pub is_before-trans : (k l : List ℕ) (ms : Members) → is_lt (slice_cmp nat_cmp k l) ≡ true → is_before l ms ≡ true → is_before k ms ≡ true
-is_before-trans k l no_members low h = refl
-is_before-trans k l (member m e ms) low h = ap is_lt (nat_list_cmp_total.trans k l m (lt _ low) (lt _ h))
 
 -- ---- a text is read in order
 

@@ -1,5 +1,5 @@
 -- Values of whole numbers are compared rightly.
-use Rattle.std.proofs.Common.{◌≡◌, ◌↔◌, ℤ, Bool, true, ◌&&◌, nat_eq, Option, Some, None, is_some, true≢false, refl, sym, ap, ◌∙◌, subst}
+use Rattle.std.proofs.Common.{◌≡◌, ◌↔◌, ℤ, Bool, true, ◌&&◌, nat_eq, Option, Some, None, true≢false, refl, sym, ap, ◌∙◌, subst}
 use Rattle.std.specs.Option.{option_eq}
 use Rattle.std.specs.Ordering.{int_eq}
 use Rattle.std.specs.Cmp.Lexicographic.{pointwise}
@@ -9,7 +9,7 @@ use Rattle.std.proofs.lemmas.Bool.Decides.{Decides-eqb, Decides-int_eq}
 use Rattle.std.proofs.lemmas.Slice.Eq.{bytes_eq-Decides}
 use Rattle.serde_json.specs.Data.{Num, unsigned, negative, float, Data, null, boolean, number, string, array, object, Items, no_items, item, Members, no_members, member}
 use Rattle.serde_json.specs.Find.{as_i64, as_u64}
-use Rattle.model.specs.Profile.{is_whole, items_whole, members_whole}
+use Rattle.model.specs.Profile.{is_whole_number, is_whole, items_whole, members_whole}
 use Rattle.json_profile.specs.Same.{same_num, same_data, same_items, same_members}
 
 -- ---- what is found the same is the same
@@ -17,7 +17,7 @@ use Rattle.json_profile.specs.Same.{same_num, same_data, same_items, same_member
 num_parts : (m n : Num) → same_num m n ≡ true → (option_eq nat_eq (as_u64 m) (as_u64 n) ≡ true) × (option_eq int_eq (as_i64 m) (as_i64 n) ≡ true)
 num_parts m n h = and_parts (option_eq nat_eq (as_u64 m) (as_u64 n)) (option_eq int_eq (as_i64 m) (as_i64 n)) h
 
-num_equal : (m n : Num) → is_some (as_i64 m) ≡ true → same_num m n ≡ true → m ≡ n
+num_equal : (m n : Num) → is_whole_number m ≡ true → same_num m n ≡ true → m ≡ n
 num_equal (unsigned a) (unsigned b) whole h = ap unsigned ((Decides-eqb a b).0 (num_parts (unsigned a) (unsigned b) h).0)
 num_equal (unsigned a) (negative z) whole h = absurd (true≢false (sym (num_parts (unsigned a) (negative z) h).0))
 num_equal (unsigned a) (float x) whole h = absurd (true≢false (sym (num_parts (unsigned a) (float x) h).0))

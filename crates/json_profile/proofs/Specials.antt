@@ -10,10 +10,12 @@ use Rattle.std.specs.Ordering.{is_lt, ordering_reverse}
 use Rattle.serde_json.specs.Data.{Data, object, Members, no_members, member, put}
 use Rattle.serde_json.specs.View.{view, members_view}
 use Rattle.serde_json.proofs.Views.{Entry}
-use Rattle.model.specs.Profile.{is_special, without_specials, is_whole, members_whole, is_before, members_ordered}
+use Rattle.model.specs.Profile.{is_special, without_specials, is_whole, members_whole, members_have_utf8, is_before, members_ordered}
 use Rattle.json_profile.specs.Objects.{has_special}
 use Rattle.json_profile.specs.Profiled.{IsProfiled, ArePlain}
-use Rattle.json_profile.proofs.Order.{is_before-trans, first_of, value_of, rest_of, ordered_from}
+use Rattle.model.proofs.ProfileLaws.{is_before-trans, first_of, value_of, rest_of}
+use Rattle.json_profile.proofs.Order.{ordered_from}
+use Rattle.json_profile.proofs.Texts.{utf8_name, utf8_of, utf8_after, utf8_from}
 
 -- ---- the walk over an object's members
 
@@ -56,6 +58,16 @@ without_specials-whole no_members h = refl
 without_specials-whole (member k d ms) h =
     whole_if (is_special k) (members_whole ms) k d _ h (without_specials-whole ms (and_parts (is_whole d) (members_whole ms) h).1)
 
+utf8_if : (b : Bool) (k : List ℕ) (d : Data) (ms : Members) → members_have_utf8 ms ≡ true → members_have_utf8 (member k d ms) ≡ true → members_have_utf8 (cond b ms (member k d ms)) ≡ true
+utf8_if true k d ms rest all = rest
+utf8_if false k d ms rest all = all
+
+pub without_specials-utf8 : (ms : Members) → members_have_utf8 ms ≡ true → members_have_utf8 (without_specials ms) ≡ true
+without_specials-utf8 no_members h = refl
+without_specials-utf8 (member k d ms) h =
+    let later = without_specials-utf8 ms (utf8_after k d ms h) in
+    utf8_if (is_special k) k d (without_specials ms) later (utf8_from k d (without_specials ms) (utf8_name k d ms h) (utf8_of k d ms h) later)
+
 plain_if : (b : Bool) (k : List ℕ) (d : Data) (ms : Members) → is_special k ≡ b → without_specials ms ≡ ms
     → without_specials (cond b ms (member k d ms)) ≡ cond b ms (member k d ms)
 plain_if true k d ms is h = h
@@ -86,7 +98,7 @@ without_specials-ordered (member k d ms) h =
     (ordered_from k d (without_specials ms) (is_before-without k ms (first_of k d ms h) (rest_of k d ms h)) (value_of k d ms h) later)
 
 pub plain_rest : (ms : Members) → IsProfiled (object ms) → ArePlain (without_specials ms)
-plain_rest ms h = record { whole = without_specials-whole ms h.whole; ordered = without_specials-ordered ms h.ordered; plain = without_specials-twice ms }
+plain_rest ms h = record { whole = without_specials-whole ms h.whole; utf8 = without_specials-utf8 ms h.utf8; ordered = without_specials-ordered ms h.ordered; plain = without_specials-twice ms }
 
 -- ---- the entries whose names are plain
 

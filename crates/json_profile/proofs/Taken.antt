@@ -11,10 +11,12 @@ use Rattle.serde_json.specs.Data.{Data, object, Members, no_members, member, dep
 use Rattle.serde_json.specs.Find.{get_member}
 use Rattle.serde_json.specs.View.{view, members_view}
 use Rattle.serde_json.proofs.Views.{Entry}
-use Rattle.model.specs.Profile.{is_special, without_specials, max_nesting, is_whole, members_whole, is_before, members_ordered}
+use Rattle.model.specs.Profile.{is_special, without_specials, max_nesting, is_whole, members_whole, members_have_utf8, is_before, members_ordered}
 use Rattle.json_profile.specs.Objects.{without}
 use Rattle.json_profile.specs.Profiled.{IsProfiled}
-use Rattle.json_profile.proofs.Order.{is_before-trans, first_of, value_of, rest_of, ordered_from}
+use Rattle.model.proofs.ProfileLaws.{is_before-trans, first_of, value_of, rest_of}
+use Rattle.json_profile.proofs.Order.{ordered_from}
+use Rattle.json_profile.proofs.Texts.{utf8_name, utf8_of, utf8_after, utf8_from}
 use Rattle.json_profile.proofs.Parts.{first_member, later_members}
 
 -- ---- the one that goes out
@@ -55,6 +57,12 @@ without-whole name (member k d ms) h =
     either (λ ns. members_whole ns ≡ true) (is_eq (slice_cmp nat_cmp name k)) ms (member k d (without name ms)) parts.1
     (and_from (is_whole d) (members_whole (without name ms)) parts.0 (without-whole name ms parts.1))
 
+without-utf8 : (name : List ℕ) (ms : Members) → members_have_utf8 ms ≡ true → members_have_utf8 (without name ms) ≡ true
+without-utf8 name no_members h = refl
+without-utf8 name (member k d ms) h =
+    either (λ ns. members_have_utf8 ns ≡ true) (is_eq (slice_cmp nat_cmp name k)) ms (member k d (without name ms)) (utf8_after k d ms h)
+    (utf8_from k d (without name ms) (utf8_name k d ms h) (utf8_of k d ms h) (without-utf8 name ms (utf8_after k d ms h)))
+
 without-nests : (name : List ℕ) (ms : Members) (n : ℕ) → members_depth ms ≤ n → members_depth (without name ms) ≤ n
 without-nests name no_members n h = h
 without-nests name (member k d ms) n h =
@@ -66,7 +74,7 @@ profiled_others name ms h =
     let deep : depth (object ms) ≤ max_nesting = h.nests in
     let low : members_depth ms ≤ 71 = omega (arith, deep) in
     let left : members_depth (without name ms) ≤ 71 = without-nests name ms 71 low in
-    record { whole = without-whole name ms h.whole; ordered = without-ordered name ms h.ordered; nests = omega (arith, left) }
+    record { whole = without-whole name ms h.whole; utf8 = without-utf8 name ms h.utf8; ordered = without-ordered name ms h.ordered; nests = omega (arith, left) }
 
 -- ---- in the map
 

@@ -41,7 +41,7 @@ impl Model for Json {
 
 /// Reads a JSON text that nests at most `deepest` deep. A text that is not JSON is `Malformed`, then
 /// a number that is not whole `Number`, then one level too many `Depth`.
-#[tactic(auto, using(crate::proofs::Order::read_in_order))]
+#[tactic(auto, using(crate::proofs::Order::read_in_order, crate::proofs::Texts::has_utf8_view))]
 pub fn read(alloc: Global, bytes: &[u8], deepest: u8) -> Result<Json, JsonFault>
     requires { deepest ≤ max_nesting }
     ensures value { IfOk result (λ d. IsTextOf d bytes.now × (every_number_whole d ≡ true) × (nesting d ≤ deepest)) }

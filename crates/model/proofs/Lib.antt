@@ -1,3 +1,5 @@
+pub mod ProfileLaws
+pub mod BodyLaws
 pub mod ListLaws
 pub mod MapLaws
 pub mod TreeLaws

@@ -1,5 +1,5 @@
 -- Each reply of a valid database to a valid command has the form of an answer to it.
-use Rattle.std.specs.Prelude.{◌≡◌, ℕ, ◌+◌, ◌==◌, nat_lt, List, [], ◌∷◌, All, Contains, Option, Some, None, Result, Ok, Err, refl}
+use Rattle.std.specs.Prelude.{◌≡◌, ◌≤◌, ℕ, ◌+◌, ◌==◌, nat_lt, List, [], ◌∷◌, All, Contains, Option, Some, None, Result, Ok, Err, refl}
 use Rattle.std.specs.Option.{option_eq}
 use Rattle.std.proofs.Common.{subst, arith}
 use Rattle.std.proofs.lemmas.Bool.{cond_both, ltb-true}
@@ -7,10 +7,10 @@ use Rattle.std.proofs.lemmas.List.Elements.{All-nil, All-cons, All-head, All-tai
 use Rattle.model.specs.Map.{Map, entries, get}
 use Rattle.model.specs.Body.{Body}
 use Rattle.model.specs.Revision.{Rev, IsRev}
-use Rattle.model.specs.Command.{Id, names, Edit, Merge, Command, Edits, Merges, PutLocal, Purge, SetLimit, Compact, Refusal, Conflict, BadHistory, GenerationLimit, IsEdit, IsMerge, NamesRevs, IsCommand, FitsEdit, FitsMerge, FitsLocal, FitsReply, last_counter}
+use Rattle.model.specs.Command.{Id, names, Edit, Merge, Command, Edits, Merges, PutLocal, Purge, SetLimit, Compact, Refusal, Conflict, BadHistory, GenerationLimit, IsEdit, IsMerge, NamesRevs, IsCommand, FitsEdit, FitsMerge, FitsLocal, FitsReply, last_counter, last_purge}
 use Rattle.model.specs.Edit.{Written, revision_written}
 use Rattle.model.specs.Local.{Local, next_counter, local_written}
-use Rattle.model.specs.Database.{Database, tree_at, edit_in, merge_in, after_edit, after_merge, edit_replies, merge_replies, removed_of, purge_reply, reply_to, IsDatabase}
+use Rattle.model.specs.Database.{Database, tree_at, edit_in, merge_in, after_edit, after_merge, edit_replies, merge_replies, removed_of, purge_reply, reply_to, changed_by, IsDatabase}
 use Rattle.model.proofs.MapLaws.{Contains-entries}
 use Rattle.model.proofs.LookupLaws.{refined-some}
 use Rattle.model.proofs.EditLaws.{merged-refused}
@@ -66,11 +66,11 @@ NamesRevs-reply d named all h = All-weaker (Contains (entries (purge_reply d nam
         let is = All-contains NamesRevs (entries named) (e.0, s.0) all ((Contains-entries names named e.0 s.0).1 s.1) in
         (is.0, subst (All IsRev) s.2 (removed_revs d e.0 s.0 is.0 h))
 
-pub FitsReply-reply_to : (d : Database) (c : Command) → IsCommand c → IsDatabase d → FitsReply c (reply_to d c)
-unfolding reply_to
-FitsReply-reply_to d (Edits es) is h = FitsEdit-replies d es is.1 h
-FitsReply-reply_to d (Merges ms) is h = FitsMerge-replies d ms is.1 h
-FitsReply-reply_to d (PutLocal id named body) is h = FitsLocal-written (get d.locals id) named body
-FitsReply-reply_to d (Purge named) is h = NamesRevs-reply d named is.1 h
-FitsReply-reply_to d (SetLimit n) is h = tt
-FitsReply-reply_to d Compact is h = tt
+pub FitsReply-reply_to : (d : Database) (c : Command) → IsCommand c → IsDatabase d → (changed_by d c).purges.purge_seq ≤ last_purge → FitsReply c (reply_to d c)
+unfolding reply_to changed_by
+FitsReply-reply_to d (Edits es) is h fits = FitsEdit-replies d es is.1 h
+FitsReply-reply_to d (Merges ms) is h fits = FitsMerge-replies d ms is.1 h
+FitsReply-reply_to d (PutLocal id named body) is h fits = FitsLocal-written (get d.locals id) named body
+FitsReply-reply_to d (Purge named) is h fits = (fits, NamesRevs-reply d named is.1 h)
+FitsReply-reply_to d (SetLimit n) is h fits = tt
+FitsReply-reply_to d Compact is h fits = tt

@@ -5,7 +5,7 @@ use base.Stored.{Gv, gnil, gnum, gcons}
 use Rattle.serde_json.specs.Data.{Members, object, depth}
 use Rattle.serde_json.specs.Written.{compact_text}
 use Rattle.model.specs.JsonCode.{members_code, coded_members}
-use Rattle.model.specs.Profile.{members_whole, members_ordered, without_specials, max_body_nesting}
+use Rattle.model.specs.Profile.{members_whole, members_have_utf8, members_ordered, without_specials, max_body_nesting}
 
 abbrev pub Body : Type 0
 Body = Members
@@ -13,9 +13,11 @@ Body = Members
 abbrev pub coded_body : Coded Body
 coded_body = coded_members
 
--- what a document can have as its body: numbers of the profile, members in order, no name that begins with `_`
+-- what a document can have as its body: numbers of the profile, texts and names in UTF-8, members in order, no name that
+-- begins with `_`. So its text reads back as the body, and no two bodies have one text.
 pub record IsBody (body : Body) : Type 0 where
   pub whole : members_whole body ≡ true
+  pub utf8 : members_have_utf8 body ≡ true
   pub ordered : members_ordered body ≡ true
   pub plain : without_specials body ≡ body
   pub nests : depth (object body) ≤ max_body_nesting

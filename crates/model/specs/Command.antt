@@ -1,5 +1,5 @@
 -- What a session can ask the database to do, and what it is answered.
-use Rattle.std.specs.Prelude.{◌≡◌, ◌<◌, ◌≤◌, ℕ, Bool, List, ◌∷◌, length, All, ⊤, Option, IfSome, Result, Ok, Err, IsUtf8}
+use Rattle.std.specs.Prelude.{◌≡◌, ◌<◌, ◌≤◌, ◌^◌, ℕ, Bool, List, ◌∷◌, length, All, ⊤, Option, IfSome, Result, Ok, Err, IsUtf8}
 use Rattle.std.specs.Cmp.{nat_cmp_total}
 use Rattle.std.specs.Ordering.{nat_cmp}
 use Rattle.std.specs.Cmp.Lexicographic.{slice_cmp, nat_list_cmp_total}
@@ -91,6 +91,10 @@ last_counter = 4294967295
 abbrev pub largest_limit : ℕ
 largest_limit = 4294967295
 
+-- the last purge number that a reply tells, the largest whole number of `i64`
+abbrev pub last_purge : ℕ
+last_purge = 9223372036854775807
+
 pub record IsEdit (e : Edit) : Type 0 where
   pub id : IsId e.id
   pub named : IfSome e.named IsRev
@@ -140,14 +144,15 @@ abbrev pub FitsReply : Command → Reply → Type 0
 FitsReply (Edits es) (Wrote rs) = All FitsEdit rs
 FitsReply (Merges ms) (Wrote rs) = All FitsMerge rs
 FitsReply (PutLocal id named body) (WroteLocal r) = FitsLocal r
-FitsReply (Purge named) (Purged n removed) = All NamesRevs (entries removed)
+FitsReply (Purge named) (Purged n removed) = (n ≤ last_purge) × All NamesRevs (entries removed)
 FitsReply (SetLimit n) Done = ⊤
 FitsReply Compact Done = ⊤
 FitsReply c r = ⊥
 
+-- a session has any number of calls that 64 bits count
 pub record IsSeat (s : Seat) : Type 0 where
   pub session : s.session < 64
-  pub call : IsCounter s.call
+  pub call : (0 < s.call) × (s.call < 2 ^ 64)
 
 pub record IsEntry (e : Entry) : Type 0 where
   pub seat : IsSeat e.seat

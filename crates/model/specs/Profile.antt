@@ -1,17 +1,26 @@
--- The profile of JSON: values whose numbers are whole numbers of `i64`, and objects whose members stand in order.
-use Rattle.std.specs.Prelude.{◌≡◌, ◌&&◌, ◌==◌, ℕ, List, [], ◌∷◌, Bool, true, false, Some, is_some, IsUtf8, if◌then◌else◌}
+-- The profile of JSON: values whose numbers are whole numbers of `i64`, whose names and texts are UTF-8, and whose objects
+-- have their members in order.
+use Rattle.std.specs.Prelude.{◌≡◌, ◌&&◌, ◌==◌, ◌^◌, ℕ, pos, negsuc, nat_lt, List, [], ◌∷◌, Bool, true, false, Some, IsUtf8, if◌then◌else◌}
 use Rattle.std.specs.Ordering.{is_lt, nat_cmp}
+use Rattle.std.specs.Str.{is_utf8}
 use Rattle.std.specs.Cmp.Lexicographic.{slice_cmp}
-use Rattle.serde_json.specs.Data.{Data, null, boolean, number, string, array, object, Items, no_items, item, Members, no_members, member}
-use Rattle.serde_json.specs.Find.{as_i64}
+use Rattle.serde_json.specs.Data.{Num, unsigned, negative, float, Data, null, boolean, number, string, array, object, Items, no_items, item, Members, no_members, member}
 use Rattle.serde_json.specs.Read.{read}
 
--- every number in the value is a whole number of `i64`
+-- a whole number of `i64`, in the one form that its text is read as: `unsigned` from 0 on, `negative` below, where
+-- `negsuc n` is -(n + 1)
+abbrev pub is_whole_number : Num → Bool
+is_whole_number (unsigned n) = nat_lt n (2 ^ 63)
+is_whole_number (negative (pos n)) = false
+is_whole_number (negative (negsuc n)) = nat_lt n (2 ^ 63)
+is_whole_number (float x) = false
+
+-- every number in the value is such a number
 abbrev mutual
   pub is_whole : Data → Bool
   is_whole null = true
   is_whole (boolean b) = true
-  is_whole (number n) = is_some (as_i64 n)
+  is_whole (number n) = is_whole_number n
   is_whole (string s) = true
   is_whole (array ds) = items_whole ds
   is_whole (object ms) = members_whole ms
@@ -23,6 +32,24 @@ abbrev mutual
   pub members_whole : Members → Bool
   members_whole no_members = true
   members_whole (member k d ms) = is_whole d && members_whole ms
+
+-- every text in the value is UTF-8, and every name
+abbrev mutual
+  pub has_utf8 : Data → Bool
+  has_utf8 null = true
+  has_utf8 (boolean b) = true
+  has_utf8 (number n) = true
+  has_utf8 (string s) = is_utf8 s
+  has_utf8 (array ds) = items_have_utf8 ds
+  has_utf8 (object ms) = members_have_utf8 ms
+
+  pub items_have_utf8 : Items → Bool
+  items_have_utf8 no_items = true
+  items_have_utf8 (item d ds) = has_utf8 d && items_have_utf8 ds
+
+  pub members_have_utf8 : Members → Bool
+  members_have_utf8 no_members = true
+  members_have_utf8 (member k d ms) = is_utf8 k && has_utf8 d && members_have_utf8 ms
 
 -- the name stands before the first of the members
 abbrev pub is_before : List ℕ → Members → Bool

@@ -7,12 +7,12 @@ ghost use Rattle.model.specs.Body.{Body};
 ghost use Rattle.model.specs.Revision.{Rev, IsRev, child, generation_after, last_generation};
 ghost use Rattle.model.specs.Tree.{Tree, Leaf, body_of, is_leaf, winner};
 ghost use Rattle.model.specs.TreeChange.{Contradicts, cut, graft, stem};
-ghost use Rattle.model.specs.Command.{Id, IsId, names, numbers, Edit, Merge, Command, PutLocal, Purge, SetLimit, Compact, Purged, Refusal, BadHistory, Missing, Deleted, GenerationLimit, Seat, Entry, IsCommand, FitsReply};
+ghost use Rattle.model.specs.Command.{Id, IsId, names, numbers, Edit, Merge, Command, PutLocal, Purge, SetLimit, Compact, Purged, Refusal, BadHistory, Missing, Deleted, GenerationLimit, Seat, Entry, IsCommand, FitsReply, last_purge};
 ghost use Rattle.model.specs.Query.{Options, Style, RevsDiff, AllDocuments, Info, GetLocal, RevsLimit};
 ghost use Rattle.model.specs.PurgeLog.{PurgeInfo, PurgeLog, AreNumbered, IsLog, has_number, is_overrun, logged, purges_since};
 ghost use Rattle.model.specs.Edit.{Written, parent_for, parent_path};
 ghost use Rattle.model.specs.Local.{store_local};
-ghost use Rattle.model.specs.Database.{Database, Record, IsDatabase, IsNumbered, act, after_edit, after_edits, after_merge, after_merges, after_purge, after_purges, after_put_local, calls_of, edit_in, edit_replies, empty_database, merge_in, merge_replies, purge_reply, put_local_reply, removed_of, reply_to, tree_at, with_tree};
+ghost use Rattle.model.specs.Database.{Database, Record, IsDatabase, IsNumbered, act, after_edit, after_edits, after_merge, after_merges, after_purge, after_purges, after_put_local, calls_of, changed_by, edit_in, edit_replies, empty_database, merge_in, merge_replies, purge_reply, put_local_reply, removed_of, reply_to, tree_at, with_tree};
 ghost use Rattle.model.specs.History.{replay};
 ghost use Rattle.model.specs.Changes.{at_numbers, by_seq, changes_page};
 ghost use Rattle.model.specs.Documents.{found, opened};
@@ -211,14 +211,15 @@ pub fn children_are_in_range()
         generation_after parent ≤ last_generation → IsRev (child parent deleted body) }
 {}
 
-/// The empty database is valid, and a valid command leaves a valid database valid and is answered in the form of its row.
-/// So each document has a winner, whose body is there.
+/// The empty database is valid, and a valid command leaves a valid database valid and is answered in the form of its row,
+/// as long as purge numbers fit an answer. So each document has a winner, whose body is there.
 pub fn databases_stay_valid()
     ensures start { IsDatabase empty_database }
     ensures kept { (d : Database) (seat : Seat) (c : Command) → IsCommand c → IsDatabase d → IsDatabase (act d seat c) }
     ensures history { (d : Database) (es : List Entry) →
         All (λ e. IsCommand e.command) es → IsDatabase d → IsDatabase (replay d es) }
-    ensures reply { (d : Database) (c : Command) → IsCommand c → IsDatabase d → FitsReply c (reply_to d c) }
+    ensures reply { (d : Database) (c : Command) → IsCommand c → IsDatabase d →
+        (changed_by d c).purges.purge_seq ≤ last_purge → FitsReply c (reply_to d c) }
     ensures winner { (d : Database) (id : Id) (t : Tree) → IsDatabase d → tree_at d id ≡ Some t →
         (w : Leaf) × (winner t ≡ Some w) × (body : Body) × (body_of t w.rev ≡ Some body) }
 {}

@@ -89,7 +89,7 @@ module _ (es : List Entry) (seat : Seat) (c : Command) (h : IsHistory es) (is_se
   longer = es ++ entry ∷ []
 
   is_entry : IsEntry entry
-  is_entry = record { seat = is_seat; command = is_command; reply = FitsReply-reply_to now c is_command h.database }
+  is_entry = record { seat = is_seat; command = is_command; reply = FitsReply-reply_to now c is_command h.database (omega (arith, logged-changed_by now c is_command, h.purges, room)) }
 
   IsHistory-pushed : IsHistory longer
   IsHistory-pushed = record {
