@@ -1,4 +1,4 @@
-ghost use Rattle.std.specs.Prelude.{◌≡◌, ◌↔◌, ◌≤◌, ◌<◌, length, Some, IsSome, IfSome, IfOk, option_map};
+ghost use Rattle.std.specs.Prelude.{◌≡◌, ◌↔◌, ◌≤◌, ◌<◌, length, Some, IsTrue, IsSome, IfSome, IfOk, option_map};
 ghost use Rattle.std.specs.Arc.{arc_value};
 ghost use Rattle.model.specs.Command.{IsCommand, IsCounter, IsLimit, max_edits};
 ghost use Rattle.model.specs.Command as model;
@@ -9,6 +9,7 @@ use crate::copied::{Copied, copy_all};
 use crate::edit::{Edit, read_all_limits};
 use crate::merge::{Merge, read_all_merges};
 use crate::named::{NamedRevisions, read_all_named};
+use crate::same::{Same, are_same, is_same_body, is_same_id};
 use document_id::DocId;
 use json_profile::Body;
 use std::alloc::{AllocError, Global};
@@ -151,6 +152,13 @@ impl Command {
     {
         &self.kind
     }
+
+    /// Whether the two are one command. Takes no memory.
+    pub fn is_same(&self, other: &Command) -> bool
+        ensures same { IsTrue result ↔ (self.now ≡ other.now) }
+    {
+        is_same_kind(&self.kind, &other.kind)
+    }
 }
 
 impl Copied for Command {
@@ -178,5 +186,27 @@ fn share_body(body: &Option<Arc<Body>>) -> Result<Option<Arc<Body>>, AllocError>
     match body {
         Some(body) => Ok(Some(body.clone()?)),
         None => Ok(None),
+    }
+}
+
+/// Whether the two are of one kind and ask for the same.
+fn is_same_kind(one: &CommandKind, other: &CommandKind) -> bool
+    ensures same { IsTrue result ↔ (command_of one.now ≡ command_of other.now) }
+{
+    match (one, other) {
+        (CommandKind::Edits(one), CommandKind::Edits(other)) => are_same(one, other),
+        (CommandKind::Merges(one), CommandKind::Merges(other)) => are_same(one, other),
+        (
+            CommandKind::PutLocal { id, named, body },
+            CommandKind::PutLocal {
+                id: other_id,
+                named: other_named,
+                body: other_body,
+            },
+        ) => { is_same_id(id, other_id) && named == other_named && is_same_body(body, other_body) }
+        (CommandKind::Purge(one), CommandKind::Purge(other)) => one.is_same(other),
+        (CommandKind::SetLimit(one), CommandKind::SetLimit(other)) => one == other,
+        (CommandKind::Compact, CommandKind::Compact) => true,
+        _ => false,
     }
 }

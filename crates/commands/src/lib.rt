@@ -18,6 +18,7 @@ mod page;
 mod query;
 mod refusal;
 mod reply;
+mod same;
 mod seat;
 mod status;
 mod style;

@@ -161,13 +161,13 @@ fn entries_are_copied(rt: HostRuntime) -> Result<(), Fail> {
     Ok(())
 }
 
-/// Revisions of documents of these ids, none of each.
-fn named(alloc: Global, ids: &[&str]) -> Result<Option<NamedRevisions>, Fail> {
+/// The revisions of these texts of each of these documents.
+fn named(alloc: Global, ids: &[&str], texts: &[&str]) -> Result<Option<NamedRevisions>, Fail> {
     let mut documents = Vec::new(alloc);
     for id in ids {
         documents.push(AskedRevisions {
             id: DocId::new(alloc, id)?,
-            revisions: Vec::new(alloc),
+            revisions: revisions(alloc, texts)?,
         })?;
     }
     Ok(NamedRevisions::new(documents))
@@ -175,20 +175,62 @@ fn named(alloc: Global, ids: &[&str]) -> Result<Option<NamedRevisions>, Fail> {
 
 #[test]
 fn named_ids_rise(rt: HostRuntime) -> Result<(), Fail> {
-    assert!(&rt; named(rt.alloc(), &["b", "a"])?.is_none());
-    assert!(&rt; named(rt.alloc(), &["a", "a"])?.is_none());
-    assert!(&rt; named(rt.alloc(), &[])?.is_some());
+    assert!(&rt; named(rt.alloc(), &["b", "a"], &[])?.is_none());
+    assert!(&rt; named(rt.alloc(), &["a", "a"], &[])?.is_none());
+    assert!(&rt; named(rt.alloc(), &[], &[])?.is_some());
     Ok(())
 }
 
 #[test]
 fn a_difference_is_asked_of_named_revisions(rt: HostRuntime) -> Result<(), Fail> {
-    let named = named(rt.alloc(), &["a", "b"])?.ok_or("rising")?;
+    let named = named(rt.alloc(), &["a", "b"], &[FIRST])?.ok_or("rising")?;
     let query = Query::new(QueryKind::RevsDiff(named));
     let QueryKind::RevsDiff(named) = query.kind() else {
         return Err("a difference".into());
     };
     assert_eq!(rt; named.documents().len(), 2);
+    Ok(())
+}
+
+/// A purge of the revisions of these texts in one document.
+fn purge(alloc: Global, texts: &[&str]) -> Result<Option<Command>, Fail> {
+    let named = named(alloc, &["a"], texts)?.ok_or("rising")?;
+    Ok(Command::purge(named))
+}
+
+#[test]
+fn purges_are_copied(rt: HostRuntime) -> Result<(), Fail> {
+    let purge = purge(rt.alloc(), &[SECOND, FIRST])?.ok_or("few")?;
+    let purge = purge.copy(rt.alloc())?;
+    let CommandKind::Purge(named) = purge.kind() else {
+        return Err("a purge".into());
+    };
+    assert_eq!(rt; named.documents().len(), 1);
+    let document = &named.documents()[0];
+    assert_eq!(rt; document.revisions.len(), 2);
+    Ok(())
+}
+
+#[test]
+fn a_compaction_is_copied(rt: HostRuntime) -> Result<(), Fail> {
+    let compaction = Command::compact().copy(rt.alloc())?;
+    assert!(&rt; matches!(compaction.kind(), CommandKind::Compact));
+    Ok(())
+}
+
+#[test]
+fn replies_to_purges_are_copied(rt: HostRuntime) -> Result<(), Fail> {
+    let removed = named(rt.alloc(), &["a", "b"], &[FIRST])?.ok_or("rising")?;
+    let reply = Reply::new(ReplyKind::Purged {
+        purge_seq: 7,
+        removed,
+    });
+    let reply = reply.copy(rt.alloc())?;
+    let ReplyKind::Purged { purge_seq, removed } = reply.kind() else {
+        return Err("a purge's reply".into());
+    };
+    assert_eq!(rt; *purge_seq, 7);
+    assert_eq!(rt; removed.documents().len(), 2);
     Ok(())
 }
 
@@ -257,5 +299,53 @@ fn configurations_are_in_range(rt: HostRuntime) -> Result<(), Fail> {
             ..LARGEST
         })
     );
+    Ok(())
+}
+
+fn add(commands: &mut Vec<Command>, command: Option<Command>) -> Result<(), Fail> {
+    commands.push(command.ok_or("within the limits")?)?;
+    Ok(())
+}
+
+fn put_local(alloc: Global, named: Option<u32>) -> Result<Option<Command>, Fail> {
+    Ok(Command::put_local(id(alloc)?, named, Some(body(alloc)?)))
+}
+
+/// A deletion of a local document over its first revision.
+fn delete_local(alloc: Global) -> Result<Option<Command>, Fail> {
+    Ok(Command::put_local(id(alloc)?, Some(1), None))
+}
+
+/// No two of these are one.
+fn add_all(alloc: Global, commands: &mut Vec<Command>) -> Result<(), Fail> {
+    add(commands, edits(alloc)?)?;
+    add(commands, Command::edits(Vec::new(alloc)))?;
+    add(commands, Command::merges(Vec::new(alloc)))?;
+    add(commands, merges(alloc)?)?;
+    add(commands, put_local(alloc, None)?)?;
+    add(commands, put_local(alloc, Some(1))?)?;
+    add(commands, delete_local(alloc)?)?;
+    add(commands, purge(alloc, &[])?)?;
+    add(commands, purge(alloc, &[FIRST, SECOND])?)?;
+    add(commands, purge(alloc, &[SECOND, FIRST])?)?;
+    add(commands, Command::set_limit(1))?;
+    add(commands, Command::set_limit(2))?;
+    add(commands, Some(Command::compact()))
+}
+
+#[test]
+fn commands_are_told_apart(rt: HostRuntime) -> Result<(), Fail> {
+    let mut commands = Vec::new(rt.alloc());
+    let mut others = Vec::new(rt.alloc());
+    add_all(rt.alloc(), &mut commands)?;
+    add_all(rt.alloc(), &mut others)?;
+    for (place, command) in commands.iter().enumerate() {
+        for (other_place, other) in others.iter().enumerate() {
+            assert!(&rt;
+                command.is_same(other) == (place == other_place),
+                "{place}, {other_place}"
+            );
+        }
+    }
     Ok(())
 }

@@ -1,0 +1,98 @@
+//! Whether two things that are asked are one, told without memory.
+ghost use Rattle.std.specs.Prelude.{◌≡◌, ◌↔◌, IsTrue, option_map};
+ghost use Rattle.std.specs.Arc.{arc_value};
+
+use crate::edit::Edit;
+use crate::merge::Merge;
+use crate::named::{AskedRevisions, NamedRevisions};
+use document_id::DocId;
+use json_profile::Body;
+use revision_id::RevId;
+use std::sync::Arc;
+
+/// What can be told from another of its kind.
+pub(crate) trait Same: Drop {
+    /// Whether the two are equal.
+    fn is_same(&self, other: &Self) -> bool
+        ensures same { IsTrue result ↔ (self.now ≡ other.now) };
+}
+
+/// Whether the two have the same items, in order.
+pub(crate) fn are_same<T: Same>(mine: &[T], theirs: &[T]) -> bool
+    ensures same { IsTrue result ↔ (mine.now ≡ theirs.now) }
+{
+    if mine.len() != theirs.len() {
+        return false;
+    }
+    for place in 0..mine.len() {
+        if !mine[place].is_same(&theirs[place]) {
+            return false;
+        }
+    }
+    true
+}
+
+impl Same for RevId {
+    fn is_same(&self, other: &RevId) -> bool {
+        *self == *other
+    }
+}
+
+impl Same for Edit {
+    fn is_same(&self, other: &Edit) -> bool {
+        is_same_id(&self.id, &other.id)
+            && is_same_rev(self.named, other.named)
+            && self.deleted == other.deleted
+            && self.body.is_same(&other.body)
+    }
+}
+
+impl Same for Merge {
+    fn is_same(&self, other: &Merge) -> bool {
+        is_same_id(self.id(), other.id())
+            && are_same(self.path(), other.path())
+            && self.deleted() == other.deleted()
+            && self.body().is_same(other.body())
+    }
+}
+
+impl Same for AskedRevisions {
+    fn is_same(&self, other: &AskedRevisions) -> bool {
+        is_same_id(&self.id, &other.id) && are_same(&self.revisions, &other.revisions)
+    }
+}
+
+impl Same for NamedRevisions {
+    fn is_same(&self, other: &NamedRevisions) -> bool {
+        are_same(self.documents(), other.documents())
+    }
+}
+
+/// Whether the two have one text.
+pub(crate) fn is_same_id(one: &DocId, other: &DocId) -> bool
+    ensures same { IsTrue result ↔ (one.now ≡ other.now) }
+{
+    one.as_str() == other.as_str()
+}
+
+/// Whether both name one revision, or none.
+fn is_same_rev(one: Option<RevId>, other: Option<RevId>) -> bool
+    ensures same { IsTrue result ↔ (one ≡ other) }
+{
+    match (one, other) {
+        (Some(one), Some(other)) => one.is_same(&other),
+        (None, None) => true,
+        _ => false,
+    }
+}
+
+/// Whether both have one body, or none.
+pub(crate) fn is_same_body(one: &Option<Arc<Body>>, other: &Option<Arc<Body>>) -> bool
+    ensures same { IsTrue result ↔ (option_map arc_value one.now ≡ option_map arc_value other.now) }
+{
+    match (one, other) {
+        (Some(one), Some(other)) => one.is_same(other),
+        (None, None) => true,
+        _ => false,
+    }
+}
