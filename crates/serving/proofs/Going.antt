@@ -159,8 +159,9 @@ module _ {T : Type 0} {answers : T → Turn → T → Type 0} where
   pub served-read_fault : {before now later : Streams} {old state : T} {n : ℕ} {turns : List Turn} {rest : List ℕ} (piece : List ℕ)
       → Going answers before now old state n turns rest → Consumes now.left later.left piece
       → CountRose now.failed_reads later.failed_reads → later.taken ≡ now.taken → later.failed_writes ≡ now.failed_writes
+      → IsUnfinished (rest ++ piece)
       → Served answers before later old state (record { answered = n; cause = cause.ReadFault })
-  served-read_fault {before = before} {now = now} {later = later} {turns = turns} {rest = rest} piece going consumes rose taken writes = record {
+  served-read_fault {before = before} {now = now} {later = later} {turns = turns} {rest = rest} piece going consumes rose taken writes part = record {
     read = going.read ++ piece;
     turns = turns;
     cut = None;
@@ -172,7 +173,7 @@ module _ {T : Type 0} {answers : T → Turn → T → Type 0} where
     writes = subst (λ (t : Option (List ℕ)). Appends before.taken t (responses_of turns ++ [])) (sym taken) (subst (Appends before.taken now.taken) (sym (append-nil _)) going.writes);
     is_part = refl;
     answered = going.count;
-    ends = (going.goes_on, refl);
+    ends = (going.goes_on, refl, part);
     failed_reads = subst (λ (k : ℕ). CountRose k later.failed_reads) going.failed_reads rose;
     failed_writes = writes ∙ going.failed_writes;
   }

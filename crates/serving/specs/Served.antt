@@ -42,7 +42,7 @@ abbrev pub EndsBy : Cause → List Turn → Option Turn → List ℕ → Option 
 EndsBy cause.AtEnd turns cut rest left = GoesOn turns × IsNone cut × (rest ≡ []) × IsAtEnd left
 EndsBy cause.InRequest turns cut rest left = GoesOn turns × IsNone cut × (0 < length rest) × IsUnfinished rest × IsAtEnd left
 EndsBy cause.Closed turns cut rest left = ClosesAtLast turns × IsNone cut
-EndsBy cause.ReadFault turns cut rest left = GoesOn turns × IsNone cut
+EndsBy cause.ReadFault turns cut rest left = GoesOn turns × IsNone cut × IsUnfinished rest
 EndsBy cause.WriteFault turns cut rest left = GoesOn turns × IsSome cut
 EndsBy cause.Memory turns cut rest left = (turns ≡ []) × IsNone cut × (rest ≡ [])
 

@@ -69,6 +69,7 @@ impl Window {
         ensures enough { result ≡ Ok true → length self.old.bytes + more ≤ length self.new.bytes }
         ensures end { result ≡ Ok false
             → (length self.new.bytes < length self.old.bytes + more) × IsAtEnd (R.left reader.new) }
+        ensures part { OnErr result (length self.new.bytes < length self.old.bytes + more) }
         ensures budget { OnOk result (R.budget reader.new + length self.new.bytes
             ≤ R.budget reader.old + length self.old.bytes) }
         ensures failures { CountsFailure (R.failed_reads reader.old)

@@ -1,4 +1,5 @@
 use Rattle.std.proofs.Common.{ℕ, [], ◌∷◌, ◌++◌, length, drop, refl, ap, sym, ◌∙◌, subst, arith, rules, Ok}
+use Rattle.http_framing.specs.Input.{IsUnfinished}
 use Rattle.serving.specs.Served.{EndsInput}
 use Rattle.serving.proofs.Fronts.{begins-request, begins-refused, length-after, unfinished}
 use Rattle.serving.proofs.Going.{going-start, going-on, going-more, served-nothing, served-closed, served-cut, served-ended, served-read_fault}
@@ -49,7 +50,9 @@ returns-in-Refused g c =
 pub returns-in_default-fill : goal.returns-in_default-fill
 returns-in_default-fill g c =
     let grows = c.in_default-fill.ensures.grows in
-    rw c.after-in_default-fill.ensures (served-read_fault grows.0 c.turns.invariant.1 grows.2 c.in_default-fill.ensures.failures.1 refl refl)
+    rw c.after-in_default-fill.ensures
+    (served-read_fault grows.0 c.turns.invariant.1 grows.2 c.in_default-fill.ensures.failures.1 refl refl
+    (subst IsUnfinished grows.1 (unfinished c.turns.window.bytes grows.0 c.in-More.ensures c.bytes.ensures grows.1 c.in_default-fill.ensures.part)))
 
 pub returns-then-not-enough : goal.returns-then-not-enough
 returns-then-not-enough g c =
