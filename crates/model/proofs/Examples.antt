@@ -1,5 +1,6 @@
 -- The definitions, computed: small histories, what is answered and what is left.
 mod Fixtures
+mod Limits
 mod Digests
 mod Edits
 mod Merges

@@ -1,8 +1,8 @@
 -- Queries on documents: the winner, its conflicts, open revisions, and differences.
-use Rattle.std.specs.Prelude.{◌≡◌, true, List, [], ◌∷◌, Some, None, Ok, Err, refl}
+use Rattle.std.specs.Prelude.{◌≡◌, true, List, [], ◌∷◌, ◌++◌, Some, None, Ok, Err, refl}
 use Rattle.model.specs.Map.{empty, put}
-use Rattle.model.specs.Command.{Command, Merges, SetLimit}
-use Rattle.model.specs.Query.{Get, OpenRevs, RevsDiff, AllDocuments, Info, RevsLimit, Available, NoBody, IsMissing, WasDeleted, Found, Opened, Differences, Documents, Counted, Limit}
+use Rattle.model.specs.Command.{Command, Merges, SetLimit, Compact}
+use Rattle.model.specs.Query.{Get, OpenRevs, RevsDiff, AllDocuments, Info, RevsLimit, Available, IsDeleted, NoBody, IsMissing, WasDeleted, Found, Opened, Differences, Documents, Counted, Limit}
 use Rattle.model.proofs.Examples.Fixtures.{computed, answer, plain, shown, braces, counting, rev, put_new, put_over, delete, path, merge, of, a, b, c, d, a1, a2, a3, x2}
 
 -- ---- the winner
@@ -22,6 +22,10 @@ the_greater_hash_wins_and_the_other_is_a_conflict : answer (Merges (path d (rev 
 unfolding computed
 the_greater_hash_wins_and_the_other_is_a_conflict = refl
 
+a_live_loser_is_no_deleted_conflict : answer (Merges (record (path d (rev 2 0xff) []) { deleted = true } ∷ path d (rev 1 0) [] ∷ path d (rev 1 0xbb) [] ∷ []) ∷ []) (Get d None (record plain { conflicts = true; deleted_conflicts = true })) ≡ Found (Ok (record (shown d (rev 1 0xbb) braces) { conflicts = rev 1 0 ∷ []; deleted_conflicts = rev 2 0xff ∷ [] }))
+unfolding computed
+a_live_loser_is_no_deleted_conflict = refl
+
 an_unknown_document_is_missing : answer [] (Get d None plain) ≡ Found (Err IsMissing)
 unfolding computed
 an_unknown_document_is_missing = refl
@@ -30,6 +34,14 @@ a_path_is_shown_newest_first : answer (merge d (rev 2 0xbb) [] ∷ merge d (rev 
     ≡ Found (Ok (record (shown d (rev 3 0xcc) braces) { revisions = Some (rev 3 0xcc ∷ rev 2 0xbb ∷ rev 1 0xaa ∷ []); revs_info = Some ((rev 3 0xcc, Available) ∷ (rev 2 0xbb, Available) ∷ (rev 1 0xaa, NoBody) ∷ []) }))
 unfolding computed
 a_path_is_shown_newest_first = refl
+
+what_is_listed_of_an_unknown_document_is_missing : answer [] (OpenRevs d (Some (rev 1 0xaa ∷ [])) plain) ≡ Opened (Err (rev 1 0xaa) ∷ [])
+unfolding computed
+what_is_listed_of_an_unknown_document_is_missing = refl
+
+an_unknown_document_has_no_leaves : answer [] (OpenRevs d None plain) ≡ Opened []
+unfolding computed
+an_unknown_document_has_no_leaves = refl
 
 -- ---- two branches of unequal length
 
@@ -52,6 +64,10 @@ the_latest_of_an_ancestor_is_got : answer uneven (Get d (Some (rev 2 0xdd)) (rec
 unfolding computed
 the_latest_of_an_ancestor_is_got = refl
 
+of_two_leaves_below_the_first_in_the_order_of_the_winner_is_the_latest : answer uneven (Get d (Some (rev 1 0xaa)) (record plain { latest = true })) ≡ Found (Ok (shown d (rev 3 0xcc) braces))
+unfolding computed
+of_two_leaves_below_the_first_in_the_order_of_the_winner_is_the_latest = refl
+
 an_ancestor_without_body_is_missing : answer uneven (Get d (Some (rev 2 0xdd)) plain) ≡ Found (Err IsMissing)
 unfolding computed
 an_ancestor_without_body_is_missing = refl
@@ -59,6 +75,22 @@ an_ancestor_without_body_is_missing = refl
 leaves_below_the_largest_missing_generation_may_be_ancestors : answer uneven (RevsDiff (of d (rev 3 0xcc ∷ rev 3 0xee ∷ rev 2 0xff ∷ []))) ≡ Differences (put empty d (record { missing = rev 3 0xee ∷ rev 2 0xff ∷ []; possible_ancestors = rev 2 0xbb ∷ [] }))
 unfolding computed
 leaves_below_the_largest_missing_generation_may_be_ancestors = refl
+
+the_largest_missing_generation_may_stand_last : answer uneven (RevsDiff (of d (rev 2 0xff ∷ rev 3 0xee ∷ []))) ≡ Differences (put empty d (record { missing = rev 2 0xff ∷ rev 3 0xee ∷ []; possible_ancestors = rev 2 0xbb ∷ [] }))
+unfolding computed
+the_largest_missing_generation_may_stand_last = refl
+
+possible_ancestors_stand_in_rising_order : answer uneven (RevsDiff (of d (rev 4 0xee ∷ []))) ≡ Differences (put empty d (record { missing = rev 4 0xee ∷ []; possible_ancestors = rev 2 0xbb ∷ rev 3 0xcc ∷ [] }))
+unfolding computed
+possible_ancestors_stand_in_rising_order = refl
+
+a_revision_that_is_asked_for_twice_is_missing_once : answer uneven (RevsDiff (of d (rev 3 0xee ∷ rev 3 0xee ∷ []))) ≡ Differences (put empty d (record { missing = rev 3 0xee ∷ []; possible_ancestors = rev 2 0xbb ∷ [] }))
+unfolding computed
+a_revision_that_is_asked_for_twice_is_missing_once = refl
+
+of_an_unknown_document_all_is_missing_and_nothing_an_ancestor : answer [] (RevsDiff (of d (rev 3 0xee ∷ rev 1 0xaa ∷ []))) ≡ Differences (put empty d (record { missing = rev 3 0xee ∷ rev 1 0xaa ∷ []; possible_ancestors = [] }))
+unfolding computed
+of_an_unknown_document_all_is_missing_and_nothing_an_ancestor = refl
 
 what_lacks_nothing_is_left_out : answer uneven (RevsDiff (of d (rev 3 0xcc ∷ rev 1 0xaa ∷ []))) ≡ Differences empty
 unfolding computed
@@ -101,3 +133,16 @@ live_documents_are_listed_by_their_ids = refl
 live_and_deleted_documents_are_counted : answer one_of_three_deleted Info ≡ Counted (record { doc_count = 2; doc_del_count = 1; update_seq = 4; purge_seq = 0 })
 unfolding computed
 live_and_deleted_documents_are_counted = refl
+
+-- ---- a deletion above a leaf
+
+abbrev born_dead : List Command
+born_dead = Merges (record (path d (rev 1 0xaa) []) { deleted = true } ∷ path d (rev 2 0xbb) (rev 1 0xaa ∷ []) ∷ []) ∷ []
+
+an_inner_deletion_has_its_body : answer born_dead (Get d None (record plain { revs_info = true })) ≡ Found (Ok (record (shown d (rev 2 0xbb) braces) { revs_info = Some ((rev 2 0xbb, Available) ∷ (rev 1 0xaa, IsDeleted) ∷ []) }))
+unfolding computed
+an_inner_deletion_has_its_body = refl
+
+until_a_compaction_takes_it : answer (born_dead ++ Compact ∷ []) (Get d None (record plain { revs_info = true })) ≡ Found (Ok (record (shown d (rev 2 0xbb) braces) { revs_info = Some ((rev 2 0xbb, Available) ∷ (rev 1 0xaa, NoBody) ∷ []) }))
+unfolding computed
+until_a_compaction_takes_it = refl
