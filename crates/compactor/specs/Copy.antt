@@ -1,9 +1,9 @@
 -- A compaction's copy.
 use Rattle.std.specs.Prelude.{◌≡◌, ◌-◌, ◌<◌, ◌≤◌, ℕ, zero, suc, List, [], ◌∷◌, length, take, Option, Some, None}
 use Rattle.model.specs.Map.{Map, entries, empty, get}
-use Rattle.model.specs.Command.{Id, names, Entry}
-use Rattle.model.specs.Database.{Database, Record, compacted, empty_database}
-use Rattle.model.specs.History.{replay}
+use Rattle.model.specs.Command.{Id, names}
+use Rattle.model.specs.Database.{Database, Record, compacted}
+use Rattle.model.specs.History.{Chronicle, now}
 use Rattle.model.specs.Compaction.{Marks, marks_of, Agrees}
 use Rattle.snapshots.specs.Listing.{Listing}
 use Rattle.snapshots.specs.Taken.{taken_all, IsCoherent, ids_of}
@@ -12,17 +12,17 @@ use Rattle.snapshots.specs.Taken.{taken_all, IsCoherent, ids_of}
 -- has of it (of a record that is yet to be stripped, its strip), the marks up to which it has taken all over, and how
 -- many records the last call looked up
 pub record CopyView : Type 0 where
-  pub seen : List Entry
+  pub seen : Chronicle
   pub left : ℕ
   pub docs : Map names Record
   pub marks : Marks
   pub visited : ℕ
 
-abbrev pub copied : ℕ → Map names Record → List Entry → Map names Record
+abbrev pub copied : ℕ → Map names Record → Chronicle → Map names Record
 copied zero docs seen = docs
-copied (suc n) docs seen = (compacted (replay empty_database seen)).docs
+copied (suc n) docs seen = (compacted (now seen)).docs
 
-abbrev pub copy_of : List Entry → ℕ → Map names Record → ℕ → ℕ → ℕ → CopyView
+abbrev pub copy_of : Chronicle → ℕ → Map names Record → ℕ → ℕ → ℕ → CopyView
 copy_of seen left docs update purge visited = record { seen = seen; left = left; docs = copied left docs seen; marks = record { update = update; purge = purge }; visited = visited }
 
 -- the last of them, or the one before them

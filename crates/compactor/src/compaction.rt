@@ -3,8 +3,8 @@ ghost use Rattle.std.specs.Prelude.{◌≡◌, ◌≢◌, ◌↔◌, ◌+◌, �
 ghost use Rattle.model.specs.Map.{entries, get};
 ghost use Rattle.model.specs.Command.{Id, Entry, Compact};
 ghost use Rattle.model.specs.PurgeLog.{is_overrun};
-ghost use Rattle.model.specs.Database.{calls_of, compacted, empty_database};
-ghost use Rattle.model.specs.History.{replay, entry_of, Extends};
+ghost use Rattle.model.specs.Database.{calls_of, compacted};
+ghost use Rattle.model.specs.History.{now, extended, entry_of, Extends};
 ghost use Rattle.model.specs.Compaction.{Agrees, marks_of, passed, taken_over, touched, touched_id};
 ghost use Rattle.snapshots.specs.Taken.{taken_all, ids_of, IsCoherent};
 ghost use Rattle.compactor.specs.Copy.{CopyView, last_id};
@@ -38,8 +38,7 @@ pub struct Compaction {
 impl Model for Compaction {
     ghost use Rattle.std.specs.Coded.{codes};
     ghost use Rattle.model.specs.JsonCode.{coded_members};
-    ghost use Rattle.model.specs.Database.{empty_database};
-    ghost use Rattle.model.specs.History.{replay};
+    ghost use Rattle.model.specs.History.{now};
     ghost use Rattle.compactor.specs.Copy.{CopyView, copy_of, IsCopy};
 
     ghost Value = { CopyView };
@@ -48,7 +47,7 @@ impl Model for Compaction {
 
     ghost view = { λ c. copy_of c.seen c.left c.records.docs c.update_mark c.purge_mark c.visited };
 
-    ghost invariant = { λ c. IsCopy (replay empty_database c.seen) c.last c.left c.records (record { update = c.update_mark; purge = c.purge_mark }) };
+    ghost invariant = { λ c. IsCopy (now c.seen) c.last c.left c.records (record { update = c.update_mark; purge = c.purge_mark }) };
 }
 
 impl Compaction {
@@ -56,9 +55,9 @@ impl Compaction {
     pub fn start(alloc: Global, version: &Version) -> Result<Compaction, CopyFault>
         ensures started { IfOk result (λ c. c ≡ record {
           seen = version.now;
-          left = length (entries (replay empty_database version.now).docs);
-          docs = (compacted (replay empty_database version.now)).docs;
-          marks = marks_of (replay empty_database version.now);
+          left = length (entries (now version.now).docs);
+          docs = (compacted (now version.now)).docs;
+          marks = marks_of (now version.now);
           visited = 0;
         }) }
         ensures memory { IfErr result (λ f. f ≡ Memory) }
@@ -87,7 +86,7 @@ impl Compaction {
     /// How many records are yet to be stripped.
     pub fn left(&self) -> u64
         ensures left { result ≡ self.now.left }
-        ensures agrees { Agrees (get self.now.docs) self.now.marks (replay empty_database self.now.seen) }
+        ensures agrees { Agrees (get self.now.docs) self.now.marks (now self.now.seen) }
     {
         self.left
     }
@@ -126,15 +125,15 @@ impl Compaction {
     /// of them are left.
     pub fn catch_up(&mut self, version: &Version, n: u64) -> Result<u64, CopyFault>
         requires sliced { self.old.left ≡ 0 }
-        requires follows { Extends (record { base = empty_database; entries = version.now }) (record { base = empty_database; entries = self.old.seen }) }
-        ensures left { IfOk result (λ left. left ≡ length (touched (replay empty_database version.now) self.old.marks) - n) }
+        requires follows { Extends version.now self.old.seen }
+        ensures left { IfOk result (λ left. left ≡ length (touched (now version.now) self.old.marks) - n) }
         ensures seen { IfOk result (λ _. (self.new.seen ≡ version.now) × (self.new.left ≡ 0)) }
-        ensures passed { IfOk result (λ _. self.new.marks ≡ passed self.old.marks (take n (touched (replay empty_database version.now) self.old.marks))) }
+        ensures passed { IfOk result (λ _. self.new.marks ≡ passed self.old.marks (take n (touched (now version.now) self.old.marks))) }
         ensures taken { IfOk result (λ _. (id : Id) → get self.new.docs id
-            ≡ taken_over (get self.old.docs) (replay empty_database version.now) (map touched_id (take n (touched (replay empty_database version.now) self.old.marks))) id) }
+            ≡ taken_over (get self.old.docs) (now version.now) (map touched_id (take n (touched (now version.now) self.old.marks))) id) }
         ensures visits { self.new.visited ≤ n }
-        ensures visited { IfOk result (λ _. self.new.visited ≡ length (take n (touched (replay empty_database version.now) self.old.marks))) }
-        ensures overrun { (result ≡ Err Overrun) ↔ (is_overrun (replay empty_database version.now).purges self.old.marks.purge ≡ true) }
+        ensures visited { IfOk result (λ _. self.new.visited ≡ length (take n (touched (now version.now) self.old.marks))) }
+        ensures overrun { (result ≡ Err Overrun) ↔ (is_overrun (now version.now).purges self.old.marks.purge ≡ true) }
         ensures fault { IfErr result (λ f. (f ≢ Behind) × (self.new ≡ record self.old { visited = self.new.visited })) }
     {
         let _seen = self.seen.place();
@@ -170,15 +169,15 @@ impl Compaction {
         slack: u64,
     ) -> Result<Version, CopyFault>
         requires sliced { self.old.left ≡ 0 }
-        requires follows { Extends (record { base = empty_database; entries = version.now }) (record { base = empty_database; entries = self.old.seen }) }
-        requires next { seat.call ≡ calls_of (replay empty_database version.now) seat.session + 1 }
-        requires room { length version.now < 4294967295 }
-        ensures compacted { IfOk result (λ v. v ≡ version.now ++ entry_of (replay empty_database version.now) seat Compact ∷ []) }
+        requires follows { Extends version.now self.old.seen }
+        requires next { seat.call ≡ calls_of (now version.now) seat.session + 1 }
+        requires room { length version.now.entries < 4294967295 }
+        ensures compacted { IfOk result (λ v. v ≡ extended version.now (entry_of (now version.now) seat Compact ∷ [])) }
         ensures visits { self.new.visited ≤ slack }
-        ensures visited { IfOk result (λ _. self.new.visited ≡ length (touched (replay empty_database version.now) self.old.marks)) }
-        ensures overrun { (result ≡ Err Overrun) ↔ (is_overrun (replay empty_database version.now).purges self.old.marks.purge ≡ true) }
-        ensures behind { (result ≡ Err Behind) ↔ ((is_overrun (replay empty_database version.now).purges self.old.marks.purge ≡ false)
-            × (slack < length (touched (replay empty_database version.now) self.old.marks))) }
+        ensures visited { IfOk result (λ _. self.new.visited ≡ length (touched (now version.now) self.old.marks)) }
+        ensures overrun { (result ≡ Err Overrun) ↔ (is_overrun (now version.now).purges self.old.marks.purge ≡ true) }
+        ensures behind { (result ≡ Err Behind) ↔ ((is_overrun (now version.now).purges self.old.marks.purge ≡ false)
+            × (slack < length (touched (now version.now) self.old.marks))) }
         ensures kept { self.new ≡ record self.old { visited = self.new.visited } }
     {
         let _seen = self.seen.place();
@@ -216,16 +215,16 @@ fn next_part(
     n: u64,
 ) -> Result<Part, AllocError>
     requires count { visited.old + n ≤ u64.MAX }
-    requires coherent { IsCoherent records.now.docs (replay empty_database version.now) }
-    requires upto { records.now.update_seq ≡ (replay empty_database version.now).update_seq }
-    ensures docs { IfOk result (λ r. (k : ℕ) → k ≤ length (entries (replay empty_database version.now).docs) → last.now ≡ last_id None (take k (ids_of (replay empty_database version.now).docs))
-        → r.records ≡ record records.now { docs = taken_all records.now.docs (replay empty_database version.now) (take n (drop k (ids_of (replay empty_database version.now).docs))) }) }
-    ensures last { IfOk result (λ r. (k : ℕ) → k ≤ length (entries (replay empty_database version.now).docs) → last.now ≡ last_id None (take k (ids_of (replay empty_database version.now).docs))
-        → r.last ≡ last_id None (take (k + n) (ids_of (replay empty_database version.now).docs))) }
-    ensures coherent { IfOk result (λ r. IsCoherent r.records.docs (replay empty_database version.now)) }
+    requires coherent { IsCoherent records.now.docs (now version.now) }
+    requires upto { records.now.update_seq ≡ (now version.now).update_seq }
+    ensures docs { IfOk result (λ r. (k : ℕ) → k ≤ length (entries (now version.now).docs) → last.now ≡ last_id None (take k (ids_of (now version.now).docs))
+        → r.records ≡ record records.now { docs = taken_all records.now.docs (now version.now) (take n (drop k (ids_of (now version.now).docs))) }) }
+    ensures last { IfOk result (λ r. (k : ℕ) → k ≤ length (entries (now version.now).docs) → last.now ≡ last_id None (take k (ids_of (now version.now).docs))
+        → r.last ≡ last_id None (take (k + n) (ids_of (now version.now).docs))) }
+    ensures coherent { IfOk result (λ r. IsCoherent r.records.docs (now version.now)) }
     ensures visits { visited.new ≤ visited.old + n }
-    ensures visited { IfOk result (λ _. (k : ℕ) → k ≤ length (entries (replay empty_database version.now).docs) → last.now ≡ last_id None (take k (ids_of (replay empty_database version.now).docs))
-        → visited.new ≡ visited.old + length (take n (drop k (ids_of (replay empty_database version.now).docs)))) }
+    ensures visited { IfOk result (λ _. (k : ℕ) → k ≤ length (entries (now version.now).docs) → last.now ≡ last_id None (take k (ids_of (now version.now).docs))
+        → visited.new ≡ visited.old + length (take n (drop k (ids_of (now version.now).docs)))) }
 {
     let records = records.share()?;
     let last = share_id(last)?;
@@ -252,17 +251,17 @@ fn taken_from(
     n: u64,
 ) -> Result<Taken, AllocError>
     requires count { visited.old + n ≤ u64.MAX }
-    requires coherent { IsCoherent records.now.docs (replay empty_database version.now) }
-    requires upto { records.now.update_seq ≤ (replay empty_database version.now).update_seq }
+    requires coherent { IsCoherent records.now.docs (now version.now) }
+    requires upto { records.now.update_seq ≤ (now version.now).update_seq }
     ensures taken { IfOk result (λ r. r.records ≡ record {
-      docs = taken_all records.now.docs (replay empty_database version.now) (map touched_id (take n (touched (replay empty_database version.now) (record { update = marks.0; purge = marks.1 }))));
-      update_seq = (replay empty_database version.now).update_seq;
+      docs = taken_all records.now.docs (now version.now) (map touched_id (take n (touched (now version.now) (record { update = marks.0; purge = marks.1 }))));
+      update_seq = (now version.now).update_seq;
     }) }
     ensures marks { IfOk result (λ r. record { update = r.update_mark; purge = r.purge_mark }
-        ≡ passed (record { update = marks.0; purge = marks.1 }) (take n (touched (replay empty_database version.now) (record { update = marks.0; purge = marks.1 })))) }
-    ensures coherent { IfOk result (λ r. IsCoherent r.records.docs (replay empty_database version.now)) }
+        ≡ passed (record { update = marks.0; purge = marks.1 }) (take n (touched (now version.now) (record { update = marks.0; purge = marks.1 })))) }
+    ensures coherent { IfOk result (λ r. IsCoherent r.records.docs (now version.now)) }
     ensures visits { visited.new ≤ visited.old + n }
-    ensures visited { IfOk result (λ _. visited.new ≡ visited.old + length (take n (touched (replay empty_database version.now) (record { update = marks.0; purge = marks.1 })))) }
+    ensures visited { IfOk result (λ _. visited.new ≡ visited.old + length (take n (touched (now version.now) (record { update = marks.0; purge = marks.1 })))) }
 {
     let records = records.share()?;
     let records = records.up_to(version.update_seq());
@@ -285,18 +284,18 @@ fn caught_up(
     n: u64,
 ) -> Result<(Taken, Version), AllocError>
     requires count { visited.old + n ≤ u64.MAX }
-    requires coherent { IsCoherent records.now.docs (replay empty_database version.now) }
-    requires upto { records.now.update_seq ≤ (replay empty_database version.now).update_seq }
+    requires coherent { IsCoherent records.now.docs (now version.now) }
+    requires upto { records.now.update_seq ≤ (now version.now).update_seq }
     ensures taken { IfOk result (λ r. r.0.records ≡ record {
-      docs = taken_all records.now.docs (replay empty_database version.now) (map touched_id (take n (touched (replay empty_database version.now) (record { update = marks.0; purge = marks.1 }))));
-      update_seq = (replay empty_database version.now).update_seq;
+      docs = taken_all records.now.docs (now version.now) (map touched_id (take n (touched (now version.now) (record { update = marks.0; purge = marks.1 }))));
+      update_seq = (now version.now).update_seq;
     }) }
     ensures marks { IfOk result (λ r. record { update = r.0.update_mark; purge = r.0.purge_mark }
-        ≡ passed (record { update = marks.0; purge = marks.1 }) (take n (touched (replay empty_database version.now) (record { update = marks.0; purge = marks.1 })))) }
-    ensures coherent { IfOk result (λ r. IsCoherent r.0.records.docs (replay empty_database version.now)) }
+        ≡ passed (record { update = marks.0; purge = marks.1 }) (take n (touched (now version.now) (record { update = marks.0; purge = marks.1 })))) }
+    ensures coherent { IfOk result (λ r. IsCoherent r.0.records.docs (now version.now)) }
     ensures seen { IfOk result (λ r. r.1 ≡ version.now) }
     ensures visits { visited.new ≤ visited.old + n }
-    ensures visited { IfOk result (λ _. visited.new ≡ visited.old + length (take n (touched (replay empty_database version.now) (record { update = marks.0; purge = marks.1 })))) }
+    ensures visited { IfOk result (λ _. visited.new ≡ visited.old + length (take n (touched (now version.now) (record { update = marks.0; purge = marks.1 })))) }
 {
     let taken = taken_from(alloc, visited, version, records, marks, n)?;
     let seen = version.share()?;

@@ -1,8 +1,7 @@
 //! The slices in which a copy is made.
 ghost use Rattle.std.specs.Prelude.{◌≡◌, ◌+◌, ◌^◌, ◌<◌, ◌≤◌, ◌∷◌, ◌++◌, ℕ, None, length, map, take, drop, IfOk, option_copied};
 ghost use Rattle.model.specs.Map.{empty, entries};
-ghost use Rattle.model.specs.Database.{empty_database};
-ghost use Rattle.model.specs.History.{replay};
+ghost use Rattle.model.specs.History.{now};
 ghost use Rattle.snapshots.specs.Taken.{taken_all, IsCoherent, ids_of};
 ghost use Rattle.compactor.specs.Copy.{last_id};
 
@@ -21,8 +20,8 @@ pub(crate) struct Part {
 
 /// The documents after that one, or all.
 fn rest<'a>(version: &'a Version, last: &Option<DocId>) -> Range<'a, DocId, Shared<Record>>
-    ensures rest { (k : ℕ) → k ≤ length (entries (replay empty_database version.now).docs) → last.now ≡ last_id None (take k (ids_of (replay empty_database version.now).docs))
-        → result ≡ drop k (entries (replay empty_database version.now).docs) }
+    ensures rest { (k : ℕ) → k ≤ length (entries (now version.now).docs) → last.now ≡ last_id None (take k (ids_of (now version.now).docs))
+        → result ≡ drop k (entries (now version.now).docs) }
     ensures fits { length result < 2 ^ 64 }
 {
     let Some(last) = last else {
@@ -42,16 +41,16 @@ pub(crate) fn sliced(
     n: u64,
 ) -> Result<Part, AllocError>
     requires count { visited.old + n ≤ u64.MAX }
-    requires coherent { IsCoherent part.records.docs (replay empty_database version.now) }
-    requires upto { part.records.update_seq ≡ (replay empty_database version.now).update_seq }
-    ensures docs { IfOk result (λ r. (k : ℕ) → k ≤ length (entries (replay empty_database version.now).docs) → part.last ≡ last_id None (take k (ids_of (replay empty_database version.now).docs))
-        → r.records ≡ record part.records { docs = taken_all part.records.docs (replay empty_database version.now) (take n (drop k (ids_of (replay empty_database version.now).docs))) }) }
-    ensures last { IfOk result (λ r. (k : ℕ) → k ≤ length (entries (replay empty_database version.now).docs) → part.last ≡ last_id None (take k (ids_of (replay empty_database version.now).docs))
-        → r.last ≡ last_id None (take (k + n) (ids_of (replay empty_database version.now).docs))) }
-    ensures coherent { IfOk result (λ r. IsCoherent r.records.docs (replay empty_database version.now)) }
+    requires coherent { IsCoherent part.records.docs (now version.now) }
+    requires upto { part.records.update_seq ≡ (now version.now).update_seq }
+    ensures docs { IfOk result (λ r. (k : ℕ) → k ≤ length (entries (now version.now).docs) → part.last ≡ last_id None (take k (ids_of (now version.now).docs))
+        → r.records ≡ record part.records { docs = taken_all part.records.docs (now version.now) (take n (drop k (ids_of (now version.now).docs))) }) }
+    ensures last { IfOk result (λ r. (k : ℕ) → k ≤ length (entries (now version.now).docs) → part.last ≡ last_id None (take k (ids_of (now version.now).docs))
+        → r.last ≡ last_id None (take (k + n) (ids_of (now version.now).docs))) }
+    ensures coherent { IfOk result (λ r. IsCoherent r.records.docs (now version.now)) }
     ensures visits { visited.new ≤ visited.old + n }
-    ensures visited { IfOk result (λ _. (k : ℕ) → k ≤ length (entries (replay empty_database version.now).docs) → part.last ≡ last_id None (take k (ids_of (replay empty_database version.now).docs))
-        → visited.new ≡ visited.old + length (take n (drop k (ids_of (replay empty_database version.now).docs)))) }
+    ensures visited { IfOk result (λ _. (k : ℕ) → k ≤ length (entries (now version.now).docs) → part.last ≡ last_id None (take k (ids_of (now version.now).docs))
+        → visited.new ≡ visited.old + length (take n (drop k (ids_of (now version.now).docs)))) }
 {
     let _place = version.place();
     let Part {

@@ -1,11 +1,12 @@
 //! What a copy takes over from a version.
 ghost use Rattle.std.specs.Prelude.{◌≡◌, ◌+◌, ◌-◌, ◌<◌, ◌≤◌, length, map, take, IfOk, option_copied};
-ghost use Rattle.model.specs.Map.{get};
+ghost use Rattle.model.specs.Map.{get, put};
 ghost use Rattle.model.specs.PurgeLog.{purges_since};
-ghost use Rattle.model.specs.Database.{empty_database};
-ghost use Rattle.model.specs.History.{replay};
+ghost use Rattle.model.specs.Database.{stripped};
+ghost use Rattle.model.specs.History.{now};
 ghost use Rattle.model.specs.Changes.{every_id, changed_since};
 ghost use Rattle.model.specs.Compaction.{of_purge, of_update, passed, touched, touched_id};
+ghost use Rattle.snapshots.specs.Listing.{IsFree};
 ghost use Rattle.snapshots.specs.Taken.{taken_one as taken_in, taken_all, IsCoherent};
 
 use document_id::DocId;
@@ -23,7 +24,7 @@ pub(crate) struct Taken {
 /// The one look-up of a version's record, which counts.
 fn look_up<'a>(visited: &mut u64, version: &'a Version, id: &DocId) -> Option<&'a Record>
     requires { visited.old < u64.MAX }
-    ensures stored { option_copied result ≡ get (replay empty_database version.now).docs id.now }
+    ensures stored { option_copied result ≡ get (now version.now).docs id.now }
     ensures counted { visited.new ≡ visited.old + 1 }
 {
     *visited += 1;
@@ -39,9 +40,9 @@ pub(crate) fn taken_one(
     id: &DocId,
 ) -> Result<Records, AllocError>
     requires count { visited.old < u64.MAX }
-    requires coherent { IsCoherent records.now.docs (replay empty_database version.now) }
-    requires upto { records.now.update_seq ≡ (replay empty_database version.now).update_seq }
-    ensures taken { IfOk result (λ r. r ≡ record records.now { docs = taken_in records.now.docs (replay empty_database version.now) id.now }) }
+    requires coherent { IsCoherent records.now.docs (now version.now) }
+    requires upto { records.now.update_seq ≡ (now version.now).update_seq }
+    ensures taken { IfOk result (λ r. r ≡ record records.now { docs = taken_in records.now.docs (now version.now) id.now }) }
     ensures counted { visited.new ≡ visited.old + 1 }
 {
     let _place = version.place();
@@ -49,9 +50,24 @@ pub(crate) fn taken_one(
         let fewer = records.remove(id)?;
         return Ok(fewer);
     };
-    let stripped = stored.stripped(alloc)?;
-    let more = records.put(alloc, id, stripped)?;
+    let more = with_strip(alloc, records, id, stored)?;
     Ok(more)
+}
+
+/// With the strip of this record of the document, in place of what was there.
+fn with_strip(
+    alloc: Global,
+    records: &Records,
+    id: &DocId,
+    stored: &Record,
+) -> Result<Records, AllocError>
+    requires number { (0 < stored.now.seq) × (stored.now.seq ≤ records.now.update_seq) }
+    requires free { IsFree records.now.docs id.now stored.now.seq }
+    ensures { IfOk result (λ r. r ≡ record records.now { docs = put records.now.docs id.now (stripped stored.now) }) }
+{
+    let stripped = stored.stripped(alloc)?;
+    let placed = records.put(alloc, id, stripped)?;
+    Ok(placed)
 }
 
 /// With the first `n` documents that were purged above the mark, and the last of their numbers.
@@ -63,17 +79,17 @@ fn taken_purged(
     n: u64,
 ) -> Result<Taken, AllocError>
     requires count { visited.old + n ≤ u64.MAX }
-    requires coherent { IsCoherent taken.records.docs (replay empty_database version.now) }
-    requires upto { taken.records.update_seq ≡ (replay empty_database version.now).update_seq }
+    requires coherent { IsCoherent taken.records.docs (now version.now) }
+    requires upto { taken.records.update_seq ≡ (now version.now).update_seq }
     ensures taken { IfOk result (λ r. r.records ≡ record taken.records {
-      docs = taken_all taken.records.docs (replay empty_database version.now)
-          (map touched_id (map of_purge (take n (purges_since (replay empty_database version.now).purges taken.purge_mark))));
+      docs = taken_all taken.records.docs (now version.now)
+          (map touched_id (map of_purge (take n (purges_since (now version.now).purges taken.purge_mark))));
     }) }
     ensures marks { IfOk result (λ r. record { update = r.update_mark; purge = r.purge_mark }
-        ≡ passed (record { update = taken.update_mark; purge = taken.purge_mark }) (map of_purge (take n (purges_since (replay empty_database version.now).purges taken.purge_mark)))) }
-    ensures coherent { IfOk result (λ r. IsCoherent r.records.docs (replay empty_database version.now)) }
-    ensures visits { visited.new ≤ visited.old + length (take n (purges_since (replay empty_database version.now).purges taken.purge_mark)) }
-    ensures visited { IfOk result (λ _. visited.new ≡ visited.old + length (take n (purges_since (replay empty_database version.now).purges taken.purge_mark))) }
+        ≡ passed (record { update = taken.update_mark; purge = taken.purge_mark }) (map of_purge (take n (purges_since (now version.now).purges taken.purge_mark)))) }
+    ensures coherent { IfOk result (λ r. IsCoherent r.records.docs (now version.now)) }
+    ensures visits { visited.new ≤ visited.old + length (take n (purges_since (now version.now).purges taken.purge_mark)) }
+    ensures visited { IfOk result (λ _. visited.new ≡ visited.old + length (take n (purges_since (now version.now).purges taken.purge_mark))) }
 {
     let _place = version.place();
     let mut records = taken.records;
@@ -98,17 +114,17 @@ fn taken_updated(
     n: u64,
 ) -> Result<Taken, AllocError>
     requires count { visited.old + n ≤ u64.MAX }
-    requires coherent { IsCoherent taken.records.docs (replay empty_database version.now) }
-    requires upto { taken.records.update_seq ≡ (replay empty_database version.now).update_seq }
+    requires coherent { IsCoherent taken.records.docs (now version.now) }
+    requires upto { taken.records.update_seq ≡ (now version.now).update_seq }
     ensures taken { IfOk result (λ r. r.records ≡ record taken.records {
-      docs = taken_all taken.records.docs (replay empty_database version.now)
-          (map touched_id (map of_update (take n (changed_since every_id (replay empty_database version.now) taken.update_mark))));
+      docs = taken_all taken.records.docs (now version.now)
+          (map touched_id (map of_update (take n (changed_since every_id (now version.now) taken.update_mark))));
     }) }
     ensures marks { IfOk result (λ r. record { update = r.update_mark; purge = r.purge_mark }
-        ≡ passed (record { update = taken.update_mark; purge = taken.purge_mark }) (map of_update (take n (changed_since every_id (replay empty_database version.now) taken.update_mark)))) }
-    ensures coherent { IfOk result (λ r. IsCoherent r.records.docs (replay empty_database version.now)) }
+        ≡ passed (record { update = taken.update_mark; purge = taken.purge_mark }) (map of_update (take n (changed_since every_id (now version.now) taken.update_mark)))) }
+    ensures coherent { IfOk result (λ r. IsCoherent r.records.docs (now version.now)) }
     ensures visits { visited.new ≤ visited.old + n }
-    ensures visited { IfOk result (λ _. visited.new ≡ visited.old + length (take n (changed_since every_id (replay empty_database version.now) taken.update_mark))) }
+    ensures visited { IfOk result (λ _. visited.new ≡ visited.old + length (take n (changed_since every_id (now version.now) taken.update_mark))) }
 {
     let _place = version.place();
     let mut records = taken.records;
@@ -133,17 +149,17 @@ pub(crate) fn taken_touched(
     n: u64,
 ) -> Result<Taken, AllocError>
     requires count { visited.old + n ≤ u64.MAX }
-    requires coherent { IsCoherent taken.records.docs (replay empty_database version.now) }
-    requires upto { taken.records.update_seq ≡ (replay empty_database version.now).update_seq }
+    requires coherent { IsCoherent taken.records.docs (now version.now) }
+    requires upto { taken.records.update_seq ≡ (now version.now).update_seq }
     ensures taken { IfOk result (λ r. r.records ≡ record taken.records {
-      docs = taken_all taken.records.docs (replay empty_database version.now)
-          (map touched_id (take n (touched (replay empty_database version.now) (record { update = taken.update_mark; purge = taken.purge_mark }))));
+      docs = taken_all taken.records.docs (now version.now)
+          (map touched_id (take n (touched (now version.now) (record { update = taken.update_mark; purge = taken.purge_mark }))));
     }) }
     ensures marks { IfOk result (λ r. record { update = r.update_mark; purge = r.purge_mark }
-        ≡ passed (record { update = taken.update_mark; purge = taken.purge_mark }) (take n (touched (replay empty_database version.now) (record { update = taken.update_mark; purge = taken.purge_mark })))) }
-    ensures coherent { IfOk result (λ r. IsCoherent r.records.docs (replay empty_database version.now)) }
+        ≡ passed (record { update = taken.update_mark; purge = taken.purge_mark }) (take n (touched (now version.now) (record { update = taken.update_mark; purge = taken.purge_mark })))) }
+    ensures coherent { IfOk result (λ r. IsCoherent r.records.docs (now version.now)) }
     ensures visits { visited.new ≤ visited.old + n }
-    ensures visited { IfOk result (λ _. visited.new ≡ visited.old + length (take n (touched (replay empty_database version.now) (record { update = taken.update_mark; purge = taken.purge_mark })))) }
+    ensures visited { IfOk result (λ _. visited.new ≡ visited.old + length (take n (touched (now version.now) (record { update = taken.update_mark; purge = taken.purge_mark })))) }
 {
     let purges = version.count_purges_above(taken.purge_mark);
     let taken = taken_purged(alloc, visited, version, taken, n)?;

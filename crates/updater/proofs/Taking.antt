@@ -1,11 +1,10 @@
 -- A batch with one job more.
-use Rattle.std.proofs.Common.{◌≡◌, ◌≢◌, ℕ, ◌+◌, ◌<◌, Bool, true, false, List, [], ◌∷◌, ◌++◌, length, take, get_or, refl, sym, ap, ◌∙◌, subst}
+use Rattle.std.proofs.Common.{◌≡◌, ◌≢◌, ℕ, ◌+◌, ◌<◌, false, List, [], ◌∷◌, ◌++◌, length, take, get_or, sym, ap, ◌∙◌, subst}
 use Rattle.std.proofs.lemmas.List.{take_more}
 use Rattle.std.proofs.lemmas.Bool.{false_from_ne_true}
 use Rattle.model.specs.Map.{same_key, same_key-equal}
 use Rattle.model.specs.Command.{numbers, Job}
 use Rattle.model.specs.Database.{Database, act, calls_of}
-use Rattle.model.specs.History.{replay, entry_of, batch_entries}
 use Rattle.model.proofs.CallLaws.{calls-other}
 use Rattle.updater.specs.Batches.{MayFollow, NoneOf}
 

@@ -1,9 +1,8 @@
 //! Batches of jobs: all in listed order, or nothing.
 #![tactic(auto)]
 
-ghost use Rattle.std.specs.Prelude.{◌≡◌, ◌+◌, ◌≤◌, ◌++◌, length, IfOk, MatchBool};
-ghost use Rattle.model.specs.Database.{empty_database};
-ghost use Rattle.model.specs.History.{replay, batch_entries};
+ghost use Rattle.std.specs.Prelude.{◌≡◌, ◌+◌, ◌≤◌, length, IfOk, MatchBool};
+ghost use Rattle.model.specs.History.{now, extended, batch_entries};
 ghost use Rattle.updater.specs.Batches.{MayFollow, NoneOf};
 
 use commands::Job;
@@ -12,9 +11,9 @@ use std::alloc::AllocError;
 
 /// The version after these jobs, in their order. Each is its session's next call after those before it.
 pub fn apply_batch(version: &Version, jobs: &[Job]) -> Result<Version, AllocError>
-    requires next { MayFollow (replay empty_database version.now) jobs.now }
-    requires room { length version.now + length jobs.now ≤ 4294967295 }
-    ensures all { IfOk result (λ v. v ≡ version.now ++ batch_entries (replay empty_database version.now) jobs.now) }
+    requires next { MayFollow (now version.now) jobs.now }
+    requires room { length version.now.entries + length jobs.now ≤ 4294967295 }
+    ensures all { IfOk result (λ v. v ≡ extended version.now (batch_entries (now version.now) jobs.now)) }
 {
     let mut next = version.share()?;
     for job in jobs {

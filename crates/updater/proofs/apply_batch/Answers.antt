@@ -1,5 +1,5 @@
-use Rattle.std.proofs.Common.{rules, ◌≡◌, ◌+◌, ap, sym, ◌∙◌, subst, arith, refl, drop}
-use Rattle.updater.proofs.Steps.{Goes, goes_step}
+use Rattle.std.proofs.Common.{rules}
+use Rattle.updater.proofs.Steps.{goes_step}
 use Rattle.updater.proofs.apply_batch.Goals as goal
 
 pub loop-job-preserved : goal.loop-job-preserved

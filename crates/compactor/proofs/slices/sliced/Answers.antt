@@ -7,8 +7,8 @@ use Rattle.std.proofs.lemmas.Iterator.{YieldsList-from_take}
 use Rattle.std.proofs.lemmas.Iterator.Consumers.{YieldsList-from_rest, YieldsList-end}
 use Rattle.model.specs.Map.{entries}
 use Rattle.model.specs.Command.{Id}
-use Rattle.model.specs.Database.{Database, Record, empty_database}
-use Rattle.model.specs.History.{replay}
+use Rattle.model.specs.Database.{Database, Record}
+use Rattle.model.specs.History.{now}
 use Rattle.snapshots.specs.Listing.{Listing}
 use Rattle.snapshots.specs.Taken.{taken_all, ids_of, IsCoherent}
 use Rattle.snapshots.proofs.Taken.{IsCoherent-taken, map-push}
@@ -18,7 +18,7 @@ use Rattle.compactor.proofs.slices.sliced.Goals as goal
 
 pub loop-id-preserved : goal.loop-id-preserved
 loop-id-preserved c =
-    let d : Database = replay empty_database c.args.version.now in
+    let d : Database = now c.args.version.now in
     let ids : List Id = map (λ e. e.0) (map deref_pair c.loop-id.yielded) in
     let more = map-push (λ (e : Id × Record). e.0) deref_pair c.loop-id.yielded (c.in-Some.id, c.in-Some._stored) in
     record {
@@ -30,14 +30,14 @@ loop-id-preserved c =
 
 pub returns-clause-docs : goal.returns-clause-docs
 returns-clause-docs c k le is =
-    let d : Database = replay empty_database c.args.version.now in
+    let d : Database = now c.args.version.now in
     let t = YieldsList-end (YieldsList-from_take {s = c.into_iter-id-iterator.result} c.args.n (YieldsList-from_rest {shows = deref_pair} c.rest.result cc) cc) c.loop-id.yielded _ c.loop-id.yielded_by _ _ c.in-None.is c.next.ensures.steps in
     let ids = ap (λ (es : List (Id × Record)). map (λ e. e.0) es) t.0 ∙ ids-walked k c.args.n (entries d.docs) c.rest.result (c.rest.ensures.rest k le is) in
     c.loop-id.invariant.taken ∙ ap (λ is. record c.args.part.records { docs = taken_all c.args.part.records.docs d is }) ids
 
 pub returns-clause-last : goal.returns-clause-last
 returns-clause-last c k le is =
-    let d : Database = replay empty_database c.args.version.now in
+    let d : Database = now c.args.version.now in
     let t = YieldsList-end (YieldsList-from_take {s = c.into_iter-id-iterator.result} c.args.n (YieldsList-from_rest {shows = deref_pair} c.rest.result cc) cc) c.loop-id.yielded _ c.loop-id.yielded_by _ _ c.in-None.is c.next.ensures.steps in
     let ids = ap (λ (es : List (Id × Record)). map (λ e. e.0) es) t.0 ∙ ids-walked k c.args.n (entries d.docs) c.rest.result (c.rest.ensures.rest k le is) in
     c.loop-id.invariant.last
@@ -48,7 +48,7 @@ returns-clause-last c k le is =
 
 pub returns-clause-visited : goal.returns-clause-visited
 returns-clause-visited c k le is =
-    let d : Database = replay empty_database c.args.version.now in
+    let d : Database = now c.args.version.now in
     let t = YieldsList-end (YieldsList-from_take {s = c.into_iter-id-iterator.result} c.args.n (YieldsList-from_rest {shows = deref_pair} c.rest.result cc) cc) c.loop-id.yielded _ c.loop-id.yielded_by _ _ c.in-None.is c.next.ensures.steps in
     let ids = ids-walked k c.args.n (entries d.docs) c.rest.result (c.rest.ensures.rest k le is) in
     omega (arith, c.loop-id.invariant.visits, t.1, ap length ids, length-map (take c.args.n c.rest.result) (λ (e : Id × Record). e.0))

@@ -1,15 +1,14 @@
 use Rattle.std.specs.Prelude.{◌≡◌, Some}
 use Rattle.std.proofs.Common.{ap, sym, ◌∙◌}
-use Rattle.model.specs.Map.{Map, get, put}
+use Rattle.model.specs.Map.{Map, get}
 use Rattle.model.specs.Command.{names}
-use Rattle.model.specs.Database.{Database, Record, empty_database}
-use Rattle.model.specs.History.{replay}
+use Rattle.model.specs.Database.{Database, Record}
+use Rattle.model.specs.History.{now}
 use Rattle.snapshots.proofs.Taken.{taken-there}
 use Rattle.compactor.proofs.taking.taken_one.Goals as goal
 
 pub returns-clause-taken : goal.returns-clause-taken
 returns-clause-taken c =
-    let d : Database = replay empty_database c.args.version.now in
+    let d : Database = now c.args.version.now in
     let there : get d.docs c.args.id.now ≡ Some c.in-Some.stored.now = sym c.in-Some.ensures.stored in
-    c.in_ok-more.ensures
-    ∙ ap (λ (docs : Map names Record). record c.args.records.now { docs = docs }) (ap (λ (r : Record). put c.args.records.now.docs c.args.id.now r) c.in_ok-stripped.ensures ∙ sym (taken-there c.args.records.now.docs d c.args.id.now c.in-Some.stored.now there))
+    c.in_ok-more.ensures ∙ ap (λ (docs : Map names Record). record c.args.records.now { docs = docs }) (sym (taken-there c.args.records.now.docs d c.args.id.now c.in-Some.stored.now there))

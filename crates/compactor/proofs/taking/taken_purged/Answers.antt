@@ -4,8 +4,8 @@ use Rattle.std.proofs.Common.{ap, sym, ◌∙◌, arith, subst}
 use Rattle.std.proofs.lemmas.List.{length_push}
 use Rattle.std.proofs.lemmas.Iterator.{YieldsList-from_take}
 use Rattle.std.proofs.lemmas.Iterator.Consumers.{YieldsList-from_rest, YieldsList-end}
-use Rattle.model.specs.Database.{Database, empty_database}
-use Rattle.model.specs.History.{replay}
+use Rattle.model.specs.Database.{Database}
+use Rattle.model.specs.History.{now}
 use Rattle.model.specs.PurgeLog.{purges_since}
 use Rattle.model.specs.Compaction.{Marks, Touched, WasPurged, of_purge, passed, touched_id}
 use Rattle.purge.specs.Log.{PurgedEntry, info_of}
@@ -17,7 +17,7 @@ use Rattle.compactor.proofs.taking.taken_purged.Goals as goal
 
 pub loop-number-preserved : goal.loop-number-preserved
 loop-number-preserved c =
-    let d : Database = replay empty_database c.args.version.now in
+    let d : Database = now c.args.version.now in
     let ts : List Touched = map of_purge (map info_of (map deref_pair c.loop-number.yielded)) in
     let t : Touched = WasPurged c.in-Some.number.now c.in-Some.purged.now.0 in
     let more = purges-push deref_pair c.loop-number.yielded (c.in-Some.number, c.in-Some.purged) in
@@ -31,7 +31,7 @@ loop-number-preserved c =
 
 pub returns-clause-taken : goal.returns-clause-taken
 returns-clause-taken c =
-    let d : Database = replay empty_database c.args.version.now in
+    let d : Database = now c.args.version.now in
     let t = YieldsList-end (YieldsList-from_take {s = c.into_iter-number-iterator.result} c.args.n (YieldsList-from_rest {shows = deref_pair} c.purges_above.result cc) cc) c.loop-number.yielded _ c.loop-number.yielded_by _ _ c.in-None.is c.next.ensures.steps in
     c.loop-number.invariant.taken
     ∙ ap (λ (ts : List Touched). record c.args.taken.records { docs = taken_all c.args.taken.records.docs d (map touched_id ts) })
@@ -39,7 +39,7 @@ returns-clause-taken c =
 
 pub returns-clause-marks : goal.returns-clause-marks
 returns-clause-marks c =
-    let d : Database = replay empty_database c.args.version.now in
+    let d : Database = now c.args.version.now in
     let t = YieldsList-end (YieldsList-from_take {s = c.into_iter-number-iterator.result} c.args.n (YieldsList-from_rest {shows = deref_pair} c.purges_above.result cc) cc) c.loop-number.yielded _ c.loop-number.yielded_by _ _ c.in-None.is c.next.ensures.steps in
     let m : Marks = record { update = c.args.taken.update_mark; purge = c.args.taken.purge_mark } in
     c.loop-number.invariant.marks

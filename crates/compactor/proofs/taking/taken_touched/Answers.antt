@@ -1,7 +1,7 @@
 use Rattle.std.specs.Prelude.{◌≡◌, ◌-◌, map, take, length}
 use Rattle.std.proofs.Common.{ap, ◌∙◌, arith}
-use Rattle.model.specs.Database.{Database, empty_database}
-use Rattle.model.specs.History.{replay}
+use Rattle.model.specs.Database.{Database}
+use Rattle.model.specs.History.{now}
 use Rattle.model.specs.PurgeLog.{purges_since}
 use Rattle.model.specs.Changes.{every_id, changed_since}
 use Rattle.model.specs.Compaction.{Marks, of_update, passed, touched_id}
@@ -11,7 +11,7 @@ use Rattle.compactor.proofs.taking.taken_touched.Goals as goal
 
 pub returns-clause-taken : goal.returns-clause-taken
 returns-clause-taken c =
-    let d : Database = replay empty_database c.args.version.now in
+    let d : Database = now c.args.version.now in
     let m : Marks = record { update = c.args.taken.update_mark; purge = c.args.taken.purge_mark } in
     let ps = take c.args.n (purges_since d.purges m.purge) in
     let same : c.in_ok-taken.taken.update_mark ≡ m.update = ap (λ (k : Marks). k.update) c.in_ok-taken.ensures.marks ∙ same-update m ps in
@@ -21,7 +21,7 @@ returns-clause-taken c =
 
 pub returns-clause-marks : goal.returns-clause-marks
 returns-clause-marks c =
-    let d : Database = replay empty_database c.args.version.now in
+    let d : Database = now c.args.version.now in
     let m : Marks = record { update = c.args.taken.update_mark; purge = c.args.taken.purge_mark } in
     let ps = take c.args.n (purges_since d.purges m.purge) in
     let same : c.in_ok-taken.taken.update_mark ≡ m.update = ap (λ (k : Marks). k.update) c.in_ok-taken.ensures.marks ∙ same-update m ps in
@@ -32,7 +32,7 @@ returns-clause-marks c =
 
 pub returns-clause-visited : goal.returns-clause-visited
 returns-clause-visited c =
-    let d : Database = replay empty_database c.args.version.now in
+    let d : Database = now c.args.version.now in
     let m : Marks = record { update = c.args.taken.update_mark; purge = c.args.taken.purge_mark } in
     let ps = take c.args.n (purges_since d.purges m.purge) in
     let same : c.in_ok-taken.taken.update_mark ≡ m.update = ap (λ (k : Marks). k.update) c.in_ok-taken.ensures.marks ∙ same-update m ps in

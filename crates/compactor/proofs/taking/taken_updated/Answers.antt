@@ -5,8 +5,8 @@ use Rattle.std.proofs.lemmas.List.{length_push}
 use Rattle.std.proofs.lemmas.Iterator.{YieldsList-from_take}
 use Rattle.std.proofs.lemmas.Iterator.Consumers.{YieldsList-from_rest, YieldsList-end}
 use Rattle.model.specs.Command.{Id}
-use Rattle.model.specs.Database.{Database, Record, empty_database}
-use Rattle.model.specs.History.{replay}
+use Rattle.model.specs.Database.{Database, Record}
+use Rattle.model.specs.History.{now}
 use Rattle.model.specs.Changes.{every_id, changed_since}
 use Rattle.model.specs.Compaction.{Marks, Touched, WasUpdated, of_update, passed, touched_id}
 use Rattle.snapshots.specs.Listing.{Listing}
@@ -17,7 +17,7 @@ use Rattle.compactor.proofs.taking.taken_updated.Goals as goal
 
 pub loop-number-preserved : goal.loop-number-preserved
 loop-number-preserved c =
-    let d : Database = replay empty_database c.args.version.now in
+    let d : Database = now c.args.version.now in
     let ts : List Touched = map of_update (map deref_pair c.loop-number.yielded) in
     let t : Touched = WasUpdated c.in-Some.number.now c.in-Some.changed.now.0 in
     let more = updates-push deref_pair c.loop-number.yielded (c.in-Some.number, c.in-Some.changed) in
@@ -31,7 +31,7 @@ loop-number-preserved c =
 
 pub returns-clause-taken : goal.returns-clause-taken
 returns-clause-taken c =
-    let d : Database = replay empty_database c.args.version.now in
+    let d : Database = now c.args.version.now in
     let all = changed_since every_id d c.args.taken.update_mark in
     let t = YieldsList-end (YieldsList-from_take {s = c.into_iter-number-iterator.result} c.args.n (YieldsList-from_rest {shows = deref_pair} all cc) cc) c.loop-number.yielded _ c.loop-number.yielded_by _ _ c.in-None.is c.next.ensures.steps in
     c.loop-number.invariant.taken
@@ -39,7 +39,7 @@ returns-clause-taken c =
 
 pub returns-clause-marks : goal.returns-clause-marks
 returns-clause-marks c =
-    let d : Database = replay empty_database c.args.version.now in
+    let d : Database = now c.args.version.now in
     let all = changed_since every_id d c.args.taken.update_mark in
     let t = YieldsList-end (YieldsList-from_take {s = c.into_iter-number-iterator.result} c.args.n (YieldsList-from_rest {shows = deref_pair} all cc) cc) c.loop-number.yielded _ c.loop-number.yielded_by _ _ c.in-None.is c.next.ensures.steps in
     let m : Marks = record { update = c.args.taken.update_mark; purge = c.args.taken.purge_mark } in

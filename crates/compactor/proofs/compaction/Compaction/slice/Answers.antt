@@ -2,8 +2,8 @@ use Rattle.std.specs.Prelude.{◌-◌, ◌<◌, ◌≤◌, length}
 use Rattle.std.proofs.Common.{ap, ◌∙◌, arith}
 use Rattle.std.proofs.lemmas.Bool.Decides.{nat_tests}
 use Rattle.model.specs.Map.{entries}
-use Rattle.model.specs.Database.{Database, empty_database}
-use Rattle.model.specs.History.{replay}
+use Rattle.model.specs.Database.{Database}
+use Rattle.model.specs.History.{now}
 use Rattle.model.specs.Compaction.{Marks}
 use Rattle.compactor.specs.Copy.{CopyView}
 use Rattle.compactor.proofs.Copies.{few-done, last-done, IsCopy-sliced, copied-sliced}
@@ -11,7 +11,7 @@ use Rattle.compactor.proofs.compaction.Compaction.slice.Goals as goal
 
 pub invariant_of-self-2 : goal.invariant_of-self-2
 invariant_of-self-2 c =
-    let d : Database = replay empty_database c.self.inside.seen in
+    let d : Database = now c.self.inside.seen in
     let m : Marks = record { update = c.self.inside.update_mark; purge = c.self.inside.purge_mark } in
     let some : 0 < c.min-n.result = grind (arith, nat_tests, c.if-n-eq0.false) in
     let le : c.min-n.result ≤ c.self.inside.left = omega (arith, c.min-n.ensures) in
@@ -23,7 +23,7 @@ invariant_of-self-2 c =
 
 pub returns-clause-sliced : goal.returns-clause-sliced
 returns-clause-sliced c =
-    let d : Database = replay empty_database c.self.inside.seen in
+    let d : Database = now c.self.inside.seen in
     let m : Marks = record { update = c.self.inside.update_mark; purge = c.self.inside.purge_mark } in
     let some : 0 < c.min-n.result = grind (arith, nat_tests, c.if-n-eq0.false) in
     let le : c.min-n.result ≤ c.self.inside.left = omega (arith, c.min-n.ensures) in
