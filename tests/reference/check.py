@@ -31,6 +31,8 @@ A2 = "2-" + md5("0," + A1 + ',{"n":1}')
 A3 = "3-" + md5("0," + A2 + ',{"n":2}')
 X2 = "2-" + md5("1," + A1 + ",{}")
 X3 = "3-" + md5("0," + X2 + ",{}")
+LOWEST = "1-" + md5('0,,{"n":-9223372036854775808}')
+NAMES = "1-" + md5('0,,{"":4,"^":3,"`":2,"a_":1}')
 
 CONFLICT = '{"error":"conflict","reason":"Document update conflict."}'
 MISSING = '{"error":"not_found","reason":"missing"}'
@@ -38,7 +40,7 @@ DELETED = '{"error":"not_found","reason":"deleted"}'
 NUMBER = '{"error":"bad_request","reason":"number"}'
 DEPTH = '{"error":"bad_request","reason":"depth"}'
 JSON = '{"error":"bad_request","reason":"json"}'
-SHAPE = '{"error":"bad_request","reason":"shape"}'
+MEMBER = '{"error":"bad_request","reason":"member"}'
 
 
 def written(id, rev):
@@ -173,6 +175,57 @@ WORKED = {
         (200, 4, changes(3, 1, ROW_B, ROW_C)),
         (200, 4, changes(4, 0, ROW_A)),
         (200, 4, changes(4, 0)),
+    ],
+    "3-queries/differences-of-a-repeated-revision": [
+        (201, 1, "[]"),
+        (201, 2, "[]"),
+        (200, 2, '{"d":{"missing":["%s"],"possible_ancestors":["%s"]}}' % (h("3-e*"), h("2-b*"))),
+    ],
+    "3-queries/differences-with-the-largest-generation-last": [
+        (201, 1, "[]"),
+        (201, 2, "[]"),
+        (200, 2, '{"d":{"missing":["%s","%s"],"possible_ancestors":["%s"]}}' % (h("2-f*"), h("3-e*"), h("2-b*"))),
+    ],
+    "3-queries/differences-with-ancestors-in-order": [
+        (201, 1, "[]"),
+        (201, 2, "[]"),
+        (200, 2, '{"d":{"missing":["%s"],"possible_ancestors":["%s","%s"]}}' % (h("4-e*"), h("2-b*"), h("3-c*"))),
+    ],
+    "3-queries/differences-of-an-unknown-document": [
+        (201, 1, "[]"),
+        (201, 2, "[]"),
+        (200, 2, '{"no":{"missing":["%s","%s"]}}' % (h("3-e*"), h("1-a*"))),
+    ],
+    "3-queries/latest-of-two-leaves": [(201, 1, "[]"), (201, 2, "[]"), (200, 2, '{"_id":"d","_rev":"%s"}' % h("3-c*"))],
+    "3-queries/open-listed-of-an-unknown-document": [
+        (200, 0, '[{"missing":"%s"}]' % h("1-a*")),
+        (200, 0, '[{"missing":"%s"}]' % h("1-a*")),
+        (200, 0, "[]"),
+    ],
+    "3-queries/live-and-deleted-losers": [
+        (201, 1, "[]"),
+        (200, 1, '{"_conflicts":["%s"],"_deleted_conflicts":["%s"],"_id":"d","_rev":"%s"}' % (h("1-0*"), h("2-f*"), h("1-b*"))),
+        (200, 1, '{"_deleted_conflicts":["%s"],"_id":"d","_rev":"%s"}' % (h("2-f*"), h("1-b*"))),
+    ],
+    "3-queries/status-of-an-inner-deletion": [
+        (201, 1, "[]"),
+        (201, 2, "[]"),
+        (
+            200,
+            2,
+            '{"_id":"d","_rev":"%s","_revs_info":[{"rev":"%s","status":"available"},{"rev":"%s","status":"deleted"}]}'
+            % (h("2-b*"), h("2-b*"), h("1-a*")),
+        ),
+    ],
+    "3-queries/number-below-i64": [
+        (201, 1, written("a", LOWEST)),
+        (200, 1, '{"_id":"a","_rev":"%s","n":-9223372036854775808}' % LOWEST),
+        (400, 1, NUMBER),
+    ],
+    "3-queries/names-beside-the-underscore": [
+        (201, 1, written("a", NAMES)),
+        (200, 1, '{"":4,"^":3,"_id":"a","_rev":"%s","`":2,"a_":1}' % NAMES),
+        (400, 1, MEMBER),
     ],
 }
 

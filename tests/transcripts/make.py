@@ -14,7 +14,7 @@ HERE = os.path.dirname(os.path.abspath(__file__))
 TESTS = os.path.dirname(HERE)
 sys.path[:0] = [TESTS, HERE]
 
-from cases import conflicts, examples, first_path, queries  # noqa: E402
+from cases import conflicts, edges, examples, first_path, queries  # noqa: E402
 from reference import once  # noqa: E402
 
 ALWAYS = once.LAST_STAGE
@@ -25,7 +25,7 @@ FOLDERS = [
     ("1-not-yet", 1, 1, first_path.NOT_YET),
     ("2-conflicts", 2, ALWAYS, conflicts.CASES),
     ("2-not-yet", 2, 2, conflicts.NOT_YET),
-    ("3-queries", 3, ALWAYS, queries.CASES),
+    ("3-queries", 3, ALWAYS, {**queries.CASES, **edges.CASES}),
     ("3-not-yet", 3, 3, queries.NOT_YET),
     ("until-broken-input", 1, ALWAYS, first_path.UNTIL_BROKEN_INPUT),
 ]

@@ -96,6 +96,14 @@ def diff(asked):
     return post("/db/_revs_diff", asked)
 
 
+def opened(id, revs, more=""):
+    return get("/db/%s?open_revs=%s%s" % (id, quote(revs, safe=""), more))
+
+
+def listed(*revs):
+    return "[%s]" % ",".join('"%s"' % text for text in revs)
+
+
 def nested(levels):
     """So many arrays in one another."""
     return "[" * levels + "]" * levels

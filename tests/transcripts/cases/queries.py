@@ -1,17 +1,9 @@
 """Queries: the whole database, changes, local documents, a document with all its parameters, and curl's own bytes."""
 from .building import *  # noqa: F403
-from .building import A1, A2, EXPECT, JSON, X2, at, bulk, child, curl, delete, diff, get, merge, nested, nested_body, put, quote, request, rev
+from .building import A1, A2, EXPECT, JSON, X2, at, bulk, child, curl, delete, diff, get, listed, merge, nested, nested_body, opened, put, quote, request, rev
 
 TWO_PATHS = [merge(at("d", rev(2, "b"), rev(1, "a"))), merge(at("d", rev(3, "c"), rev(2, "d"), rev(1, "a")))]
 THREE_AND_A_DELETION = [put("/db/" + id, {}) for id in "abc"] + [delete("/db/a?rev=" + A1)]
-
-
-def opened(id, revs, more=""):
-    return get("/db/%s?open_revs=%s%s" % (id, quote(revs, safe=""), more))
-
-
-def listed(*revs):
-    return "[%s]" % ",".join('"%s"' % text for text in revs)
 
 
 def each(front, texts):
