@@ -8,7 +8,7 @@ use Rattle.std.proofs.lemmas.Option.{none-some}
 use Rattle.cow_index.specs.Entries.{without}
 use Rattle.model.specs.Map.{Map, put, without as without_key, get-from_list}
 use Rattle.model.specs.Command.{Id, names}
-use Rattle.model.specs.Database.{Database, Record, IsNumbered, empty_database}
+use Rattle.model.specs.Database.{Database, Record, IsNumbered}
 use Rattle.model.specs.Changes.{by_seq}
 use Rattle.snapshots.specs.Listing.{Listing, IsFree, IsIndexed, database_of, listing_of, live_count, live_in, placed, without_number}
 use Rattle.snapshots.proofs.MapLists.{entries-from_list, from_list-put, from_list-without}
@@ -35,7 +35,7 @@ module _ (es : List (Id × Record)) (n : ℕ) (id : Id) (r : Record) (m : ℕ) w
   before = database_of (listing_of es n)
 
   same_database : database_of (listing_of (listed.put names.cmp id r es) m) ≡ record before { docs = put before.docs id r; update_seq = m }
-  same_database = ap (λ (docs : Map names Record). record empty_database { docs = docs; update_seq = m }) (from_list-put names id r es)
+  same_database = ap (λ (docs : Map names Record). database_of (record { docs = docs; update_seq = m })) (from_list-put names id r es)
 
   pub listing-placed : (l : Listing) (later : List (Id × Record)) → listing_of es n ≡ l → later ≡ listed.put names.cmp id r es → listing_of later m ≡ placed l id r m
   listing-placed l later is new =
@@ -80,7 +80,7 @@ module _ (es : List (Id × Record)) (n : ℕ) (id : Id) where
   had = database_of (listing_of es n)
 
   database-removed : database_of (listing_of (without names.cmp id es) n) ≡ record had { docs = without_key had.docs id }
-  database-removed = ap (λ (docs : Map names Record). record empty_database { docs = docs; update_seq = n }) (from_list-without names id es)
+  database-removed = ap (λ (docs : Map names Record). database_of (record { docs = docs; update_seq = n })) (from_list-without names id es)
 
   pub listing-removed : (l : Listing) (later : List (Id × Record)) → listing_of es n ≡ l → later ≡ without names.cmp id es → listing_of later n ≡ record l { docs = without_key l.docs id }
   listing-removed l later is fewer =

@@ -1,36 +1,30 @@
 //! What a version holds beside its history: a database.
-ghost use Rattle.std.specs.Prelude.{◌≡◌, ◌≤◌, ◌<◌, ◌+◌, ◌^◌, ℕ, length, map, IfOk, false, option_map, option_copied, unwrap_or};
+ghost use Rattle.std.specs.Prelude.{◌≡◌, ◌≤◌, ◌<◌, ◌+◌, ◌^◌, ℕ, length, IfOk, option_map, option_copied};
 ghost use Rattle.std.specs.Arc.{arc_value};
 ghost use Rattle.std.specs.Map.Iter.{ShowsInOrder, deref_pair};
 ghost use Rattle.model.specs.Map.{entries, get};
 ghost use Rattle.model.specs.Changes.{every_id, changed_since as changed_above};
 ghost use Rattle.model.specs.Answers.{counts};
 ghost use Rattle.model.specs.Command.{Id, names, Compact, IsCommand, IsSeat, max_edits};
-ghost use Rattle.model.specs.Edit.{revision_written};
 ghost use Rattle.model.specs.Database as model;
-ghost use Rattle.model.specs.Database.{Record as Stored, empty_database, same_tree, tree_at, edit_in, merge_in, after_edit, after_merge, edit_replies, after_edits, merge_replies, after_merges, put_local_reply, after_put_local, removed_of, after_purge, after_purges, purge_reply, compacted, reply_to, changed_by, calls_of, counted};
-ghost use Rattle.model.specs.PurgeLog.{PurgeInfo, logged, is_overrun, purges_since};
-ghost use Rattle.purge.specs.Log.{PurgedEntry, info_of};
+ghost use Rattle.model.specs.Database.{Record as Stored, empty_database, tree_at, put_local_reply, after_put_local, compacted, reply_to, changed_by, calls_of, counted};
 ghost use Rattle.cow_index.specs.Entries.{entries_from};
+
+mod edits;
+mod purges;
 
 use crate::record::Record;
 use crate::records::Records;
-use crate::written::{Written, edited, merged};
-use commands::{
-    AskedRevisions, Command, CommandKind, Counts, Edit, Merge, NamedRevisions, Refusal,
-    RefusalKind, Reply, ReplyKind, Seat,
-};
+use commands::{Command, CommandKind, Counts, Refusal, RefusalKind, Reply, ReplyKind, Seat};
 use cow_index::{CowMap, Range, Shared};
 use document_id::DocId;
 use json_profile::Body;
 use local_docs::{LocalDoc, LocalFault, Locals};
-use purge::{PurgeLog, Purged, cut_document};
-use revision_id::RevId;
+use purge::PurgeLog;
 use revision_tree::RevTree;
 use std::alloc::{AllocError, Global};
 use std::marker::Model;
 use std::sync::Arc;
-use tree_merge::is_same;
 
 #[derive(Drop)]
 pub(crate) struct Content {
@@ -159,96 +153,12 @@ impl Content {
         self.locals.get(id)
     }
 
-    fn holds(&self, id: &DocId, tree: &RevTree) -> bool
-        ensures { result ≡ unwrap_or (option_map (same_tree tree.now) (tree_at self.now id.now)) false }
-    {
-        match self.tree(id) {
-            Some(held) => is_same(tree, held),
-            None => false,
-        }
-    }
-
-    /// Gives the document this tree, at the next update number, unless it has it already.
-    #[tactic(auto, unfolding(model::specs::Database::store))]
-    fn store(&mut self, id: &DocId, tree: RevTree) -> Result<(), AllocError>
-        requires room { self.old.update_seq < u64.MAX }
-        ensures stored { IfOk result (λ _. self.new ≡ model.store self.old id.now tree) }
-    {
-        if self.holds(id, &tree) {
-            return Ok(());
-        }
-        self.update(id, tree)
-    }
-
     fn update(&mut self, id: &DocId, tree: RevTree) -> Result<(), AllocError>
         requires room { self.old.update_seq < u64.MAX }
         ensures updated { IfOk result (λ _. self.new ≡ model.with_tree self.old id.now tree) }
     {
         self.documents = self.documents.update(self.alloc, id, tree)?;
         Ok(())
-    }
-
-    /// Stores what was written, and answers its revision. A refused write changes nothing.
-    fn store_written(
-        &mut self,
-        id: &DocId,
-        outcome: Result<Written, Refusal>,
-    ) -> Result<Result<RevId, Refusal>, AllocError>
-        requires room { self.old.update_seq < u64.MAX }
-        ensures reply { IfOk result (λ r. r ≡ revision_written outcome) }
-        ensures after { IfOk result (λ _. self.new ≡ model.store_written self.old id.now outcome) }
-    {
-        match outcome {
-            Ok(written) => {
-                self.store(id, written.tree)?;
-                Ok(Ok(written.rev))
-            }
-            Err(refusal) => Ok(Err(refusal)),
-        }
-    }
-
-    fn edit(&mut self, edit: &Edit) -> Result<Result<RevId, Refusal>, AllocError>
-        requires room { self.old.update_seq < u64.MAX }
-        ensures reply { IfOk result (λ r. r ≡ revision_written (edit_in self.old edit.now)) }
-        ensures after { IfOk result (λ _. self.new ≡ after_edit self.old edit.now) }
-    {
-        let outcome = edited(self.alloc, self.revs_limit(), self.tree(&edit.id), edit)?;
-        self.store_written(&edit.id, outcome)
-    }
-
-    fn merge(&mut self, merge: &Merge) -> Result<Result<RevId, Refusal>, AllocError>
-        requires room { self.old.update_seq < u64.MAX }
-        ensures reply { IfOk result (λ r. r ≡ revision_written (merge_in self.old merge.now)) }
-        ensures after { IfOk result (λ _. self.new ≡ after_merge self.old merge.now) }
-    {
-        let outcome = merged(self.alloc, self.revs_limit(), self.tree(merge.id()), merge)?;
-        self.store_written(merge.id(), outcome)
-    }
-
-    /// One after another, in the order listed.
-    fn edits(&mut self, edits: &[Edit]) -> Result<Vec<Result<RevId, Refusal>>, AllocError>
-        requires room { self.old.update_seq + length edits.now ≤ u64.MAX }
-        ensures replies { IfOk result (λ rs. rs.items ≡ edit_replies self.old edits.now) }
-        ensures after { IfOk result (λ _. self.new ≡ after_edits self.old edits.now) }
-    {
-        let mut replies = Vec::with_capacity(self.alloc, edits.len())?;
-        for edit in edits {
-            replies.push(self.edit(edit)?)?;
-        }
-        Ok(replies)
-    }
-
-    /// One after another, in the order listed.
-    fn merges(&mut self, merges: &[Merge]) -> Result<Vec<Result<RevId, Refusal>>, AllocError>
-        requires room { self.old.update_seq + length merges.now ≤ u64.MAX }
-        ensures replies { IfOk result (λ rs. rs.items ≡ merge_replies self.old merges.now) }
-        ensures after { IfOk result (λ _. self.new ≡ after_merges self.old merges.now) }
-    {
-        let mut replies = Vec::with_capacity(self.alloc, merges.len())?;
-        for merge in merges {
-            replies.push(self.merge(merge)?)?;
-        }
-        Ok(replies)
     }
 
     /// Writes a local document, or with no body deletes it.
@@ -273,104 +183,11 @@ impl Content {
         }
     }
 
-    /// The last purge number that was given, from 0.
-    pub(crate) fn purge_seq(&self) -> u64
-        ensures { result ≡ self.now.purges.purge_seq }
-    {
-        self.purges.purge_seq()
-    }
-
-    /// Whether a purge above the mark was given a number and is no longer in the log.
-    pub(crate) fn is_overrun(&self, mark: u64) -> bool
-        ensures { result ≡ is_overrun self.now.purges mark }
-    {
-        self.purges.is_overrun(mark)
-    }
-
-    /// The logged purges above the mark, in the order of their numbers.
-    pub(crate) fn purges_above(&self, mark: u64) -> Range<'_, u64, Purged>
-        requires { self.now.purges.purge_seq < u64.MAX }
-        ensures rest { map info_of result ≡ purges_since self.now.purges mark }
-        ensures fits { length result < 2 ^ 64 }
-        ensures runs { ShowsInOrder (deref_pair {K = ℕ} {X = PurgedEntry}) }
-    {
-        self.purges.above(mark)
-    }
-
-    /// How many logged purges stand above the mark.
-    pub(crate) fn count_purges_above(&self, mark: u64) -> u64
-        requires { self.now.purges.purge_seq < u64.MAX }
-        ensures { result ≡ length (purges_since self.now.purges mark) }
-    {
-        self.purges.count_above(mark)
-    }
-
-    fn log(&mut self, id: &DocId, leaves: &[RevId]) -> Result<(), AllocError>
-        requires { self.old.purges.purge_seq < u64.MAX }
-        ensures { IfOk result (λ _. self.new ≡ record self.old { purges = logged self.old.purges id.now leaves.now }) }
-    {
-        let leaves = Vec::from_slice(self.alloc, leaves)?;
-        self.purges = self.purges.add(id, leaves)?;
-        Ok(())
-    }
-
-    /// Gives the document the tree that is left, or removes it.
-    fn leave(&mut self, id: &DocId, left: Option<RevTree>) -> Result<(), AllocError>
-        requires { self.old.update_seq < u64.MAX }
-        ensures { IfOk result (λ _. self.new ≡ model.leave self.old id.now left) }
-    {
-        match left {
-            Some(tree) => self.update(id, tree),
-            None => self.remove(id),
-        }
-    }
-
     fn remove(&mut self, id: &DocId) -> Result<(), AllocError>
         ensures { IfOk result (λ _. self.new ≡ model.without_document self.old id.now) }
     {
         self.documents = self.documents.remove(id)?;
         Ok(())
-    }
-
-    /// Removes the named leaves for good, and answers those that there were.
-    fn purge(&mut self, id: &DocId, named: &[RevId]) -> Result<Vec<RevId>, AllocError>
-        requires room { self.old.update_seq < u64.MAX }
-        requires log_room { self.old.purges.purge_seq < u64.MAX }
-        ensures removed { IfOk result (λ revs. revs.items ≡ removed_of self.old id.now named.now) }
-        ensures after { IfOk result (λ _. self.new ≡ after_purge self.old (id.now, named.now)) }
-    {
-        let Some(tree) = self.tree(id) else {
-            return Ok(Vec::new(self.alloc));
-        };
-        let (removed, left) = cut_document(self.alloc, tree, named)?;
-        if removed.is_empty() {
-            return Ok(removed);
-        }
-        self.log(id, &removed)?;
-        self.leave(id, left)?;
-        Ok(removed)
-    }
-
-    /// One document after another, in the byte order of the ids.
-    fn purge_all(&mut self, named: &NamedRevisions) -> Result<NamedRevisions, AllocError>
-        requires room { self.old.update_seq + length (entries named.now) ≤ u64.MAX }
-        requires log_room { self.old.purges.purge_seq + length (entries named.now) ≤ u64.MAX }
-        ensures reply { IfOk result (λ removed. removed ≡ purge_reply self.old named.now) }
-        ensures after { IfOk result (λ _. self.new ≡ after_purges self.old (entries named.now)) }
-    {
-        let documents = named.documents();
-        let mut removed = Vec::with_capacity(self.alloc, documents.len())?;
-        for document in documents {
-            let revisions = self.purge(&document.id, &document.revisions)?;
-            removed.push(AskedRevisions {
-                id: document.id.share()?,
-                revisions,
-            })?;
-        }
-        let Some(removed) = NamedRevisions::new(removed) else {
-            unreachable!()
-        };
-        Ok(removed)
     }
 
     /// Strips each record.
