@@ -4,7 +4,7 @@ use Rattle.std.proofs.Common.{sym, ap, ◌∙◌, append_assoc}
 use Rattle.std.proofs.lemmas.List.{append-nil}
 use Rattle.model.specs.Command.{Command, Seat, Job, Entry}
 use Rattle.model.specs.Database.{Database, act, calls_of}
-use Rattle.model.specs.History.{replay, IsNext, IsLegal, entry_of, batch_entries, job_of, Chronicle, Extends, Follows, extends, reopened}
+use Rattle.model.specs.History.{replay, IsNext, IsLegal, entry_of, batch_entries, job_of, Chronicle, now, extended, Extends, Follows, extends, reopened}
 
 pub replay-append : (base : Database) (es more : List Entry) → replay base (es ++ more) ≡ replay (replay base es) more
 replay-append base [] more = refl
@@ -47,13 +47,19 @@ Extends-itself v = record { base = refl; more = []; entries = sym (append-nil v.
 pub Extends-through : (u v w : Chronicle) → Extends u v → Extends v w → Extends u w
 Extends-through u v w g h = record { base = g.base ∙ h.base; more = h.more ++ g.more; entries = g.entries ∙ ap (λ es. es ++ g.more) h.entries ∙ append_assoc w.entries h.more g.more }
 
+pub Extends-extended : (v : Chronicle) (es : List Entry) → Extends (extended v es) v
+Extends-extended v es = record { base = refl; more = es; entries = refl }
+
+pub now-extended : (v : Chronicle) (es : List Entry) → now (extended v es) ≡ replay (now v) es
+now-extended v es = replay-append v.base v.entries es
+
 pub Follows-itself : (v : Chronicle) → Follows v v
 Follows-itself v = extends v v (Extends-itself v)
 
-extended : (u v w : Chronicle) → Extends u v → Follows v w → Follows u w
-extended u v w e (extends _ _ f) = extends u w (Extends-through u v w e f)
-extended u v w e (reopened _ m _ f is) = reopened u m w f (e.base ∙ is)
+Follows-extends : (u v w : Chronicle) → Extends u v → Follows v w → Follows u w
+Follows-extends u v w e (extends _ _ f) = extends u w (Extends-through u v w e f)
+Follows-extends u v w e (reopened _ m _ f is) = reopened u m w f (e.base ∙ is)
 
 pub Follows-through : (u v w : Chronicle) → Follows u v → Follows v w → Follows u w
-Follows-through u v w (extends _ _ e) g = extended u v w e g
+Follows-through u v w (extends _ _ e) g = Follows-extends u v w e g
 Follows-through u v w (reopened _ m _ f is) g = reopened u m w (Follows-through m v w f g) is

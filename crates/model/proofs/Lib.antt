@@ -35,6 +35,7 @@ pub mod WrittenLaws
 pub mod KeptLaws
 pub mod ReplyLaws
 pub mod HistoryLaws
+pub mod BaseLaws
 pub mod CallLaws
 pub mod TellLaws
 pub mod ViewLaws

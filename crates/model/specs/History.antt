@@ -1,8 +1,8 @@
 -- Histories: lists of entries, oldest first, from a base.
-use Rattle.std.specs.Prelude.{◌≡◌, ◌+◌, ℕ, List, [], ◌∷◌, ◌++◌, filter, map, ⊤}
+use Rattle.std.specs.Prelude.{◌≡◌, ◌≤◌, ◌+◌, ℕ, List, [], ◌∷◌, ◌++◌, filter, map, ⊤}
 use Rattle.model.specs.Map.{empty, same_key}
 use Rattle.model.specs.Command.{numbers, Command, Seat, Job, Entry}
-use Rattle.model.specs.Database.{Database, reply_to, act, calls_of}
+use Rattle.model.specs.Database.{Database, IsDatabase, reply_to, act, calls_of}
 
 -- the database after the entries
 abbrev pub replay : Database → List Entry → Database
@@ -47,6 +47,21 @@ pub record Chronicle : Type 0 where
 -- the database at its end
 abbrev pub now : Chronicle → Database
 now c = replay c.base c.entries
+
+-- the history with more entries
+abbrev pub extended : Chronicle → List Entry → Chronicle
+extended c es = record { base = c.base; entries = c.entries ++ es }
+
+-- the largest number that a base may have given, so that every entry has room for its own
+abbrev pub largest_base : ℕ
+largest_base = 4611686018427387904
+
+-- what a history can begin from: no session has called yet
+pub record IsBase (d : Database) : Type 0 where
+  pub database : IsDatabase d
+  pub uncalled : d.calls ≡ empty
+  pub updates : d.update_seq ≤ largest_base
+  pub purges : d.purges.purge_seq ≤ largest_base
 
 -- later begins with earlier
 pub record Extends (later earlier : Chronicle) : Type 0 where

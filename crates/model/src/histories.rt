@@ -5,8 +5,8 @@ ghost use Rattle.std.specs.List.{range_with_len};
 ghost use Rattle.model.specs.Map.{Map};
 ghost use Rattle.model.specs.Command.{Id, names, Command, Reply, Seat, Job, Entry};
 ghost use Rattle.model.specs.Query.{Style, Row};
-ghost use Rattle.model.specs.Database.{Database, IsNumbered, act, calls_of};
-ghost use Rattle.model.specs.History.{replay, IsNext, IsLegal, batch_entries, job_of, of_session, calls_in, Chronicle, now, Extends, Follows};
+ghost use Rattle.model.specs.Database.{Database, IsDatabase, IsNumbered, empty_database, act, calls_of};
+ghost use Rattle.model.specs.History.{replay, IsNext, IsLegal, batch_entries, job_of, of_session, calls_in, Chronicle, now, extended, Extends, Follows, IsBase, largest_base, successor};
 ghost use Rattle.model.specs.Changes.{rows_since, last_seq_of, changes_page, IsRowOf, IsRightFeed, fed};
 ghost use Rattle.model.specs.World.{Config, Event, Put, Swap, Completed, WroteAt, World, AddsCompact, database_of, start_world, step, run};
 ghost use Rattle.model.specs.Told.{Tells, AllTold, wrote, places_of, NoneFalls};
@@ -43,6 +43,13 @@ pub fn calls_are_numbered()
         slice_get es m ≡ Some e → slice_get es n ≡ Some f → e.seat ≡ f.seat → m ≡ n }
 {}
 
+/// A history can begin from the empty database, and from the successor of a database whose numbers leave room.
+pub fn histories_begin_from_bases()
+    ensures empty { IsBase empty_database }
+    ensures successor { (d : Database) → IsDatabase d → d.update_seq ≤ largest_base →
+        d.purges.purge_seq ≤ largest_base → IsBase (successor d) }
+{}
+
 /// A history that extends another tells all that it told. The commands that it tells have places from 1 to its
 /// length.
 pub fn longer_histories_tell_more()
@@ -58,6 +65,8 @@ pub fn longer_histories_tell_more()
 pub fn versions_follow_in_order()
     ensures extends_itself { (v : Chronicle) → Extends v v }
     ensures extends_through { (u v w : Chronicle) → Extends u v → Extends v w → Extends u w }
+    ensures extended { (v : Chronicle) (es : List Entry) →
+        Extends (extended v es) v × (now (extended v es) ≡ replay (now v) es) }
     ensures follows_itself { (v : Chronicle) → Follows v v }
     ensures follows_through { (u v w : Chronicle) → Follows u v → Follows v w → Follows u w }
     ensures update_numbers { (later earlier : Chronicle) → Follows later earlier →

@@ -4,12 +4,12 @@ use Rattle.std.proofs.Common.{ap, arith, sym, ◌∙◌}
 use Rattle.std.proofs.lemmas.List.Sums.{length-filter, count_by-le-length}
 use Rattle.std.specs.Ordering.{nat_cmp}
 use Rattle.std.specs.FinMap.Entries as listed
-use Rattle.model.specs.Map.{Map, get, put, from_list, entries, same_key}
+use Rattle.model.specs.Map.{Map, empty, get, put, from_list, entries, same_key}
 use Rattle.model.specs.Local.{Local}
 use Rattle.model.specs.PurgeLog.{PurgeLog}
 use Rattle.model.specs.Command.{names, numbers, Command, Edits, Merges, PutLocal, Purge, SetLimit, Compact, Entry}
-use Rattle.model.specs.Database.{Database, calls_of, changed_by, counted, empty_database}
-use Rattle.model.specs.History.{replay}
+use Rattle.model.specs.Database.{Database, calls_of, changed_by, counted}
+use Rattle.model.specs.History.{Chronicle, now}
 use Rattle.model.proofs.RestLaws.{rest_of_edits, rest_of_merges, rest_of_purges}
 use Rattle.model.proofs.CallLaws.{calls-replay}
 use Rattle.snapshots.specs.Content.{content_of}
@@ -29,8 +29,10 @@ pub calls_of-changed : (d : Database) (c : Command) (s : ℕ) → calls_of (chan
 calls_of-changed d c s = ap (λ (m : Map numbers ℕ). unwrap_or (get m s) 0) (calls-changed d c)
 
 -- a session has made at most as many calls as there are entries
-pub calls_of-few : (es : List Entry) (s : ℕ) → calls_of (replay empty_database es) s ≤ length es
-calls_of-few es s = omega (arith, calls-replay empty_database es s, length-filter (λ (e : Entry). same_key numbers s e.seat.session) es, count_by-le-length (λ (e : Entry). same_key numbers s e.seat.session) es)
+pub calls_of-few : (h : Chronicle) → h.base.calls ≡ empty → (s : ℕ) → calls_of (now h) s ≤ length h.entries
+calls_of-few h uncalled s =
+    let none : calls_of h.base s ≡ 0 = ap (λ (m : Map numbers ℕ). unwrap_or (get m s) 0) uncalled in
+    omega (arith, none, calls-replay h.base h.entries s, length-filter (λ (e : Entry). same_key numbers s e.seat.session) h.entries, count_by-le-length (λ (e : Entry). same_key numbers s e.seat.session) h.entries)
 
 -- one more call of a session in the list that is kept
 pub content-counted : (documents : Listing) (locals : Map names Local) (purges : PurgeLog) (limit : ℕ) (calls later : List (ℕ × ℕ)) (d : Database) (s n : ℕ) → content_of documents locals purges limit calls ≡ d → later ≡ listed.put nat_cmp s n calls → n ≡ calls_of d s + 1 → content_of documents locals purges limit later ≡ counted d s

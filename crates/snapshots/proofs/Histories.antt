@@ -1,5 +1,5 @@
 -- A history with one more entry.
-use Rattle.std.specs.Prelude.{◌≡◌, ◌+◌, ◌<◌, ◌≤◌, ℕ, List, [], ◌∷◌, ◌++◌, length, Option, Some, None, option_and_then}
+use Rattle.std.specs.Prelude.{◌≡◌, ◌+◌, ◌<◌, ◌≤◌, ℕ, List, [], ◌∷◌, length, Option, Some, None, option_and_then}
 use Rattle.std.proofs.Common.{ap, sym, subst, ◌∙◌, arith, length-append}
 use Rattle.std.proofs.lemmas.List.Elements.{All-nil, All-cons, All-append}
 use Rattle.model.specs.Map.{entries}
@@ -8,13 +8,13 @@ use Rattle.model.specs.Tree.{Tree}
 use Rattle.model.specs.TreeChange.{cut}
 use Rattle.model.specs.PurgeLog.{logged}
 use Rattle.model.specs.Command.{Id, Command, Edits, Merges, PutLocal, Purge, SetLimit, Compact, Reply, Done, Seat, Entry, IsCommand, IsSeat, IsEntry, max_edits}
-use Rattle.model.specs.Database.{Database, tree_at, leave, removed_of, purge_removed, after_purge, after_purges, changed_by, reply_to, act, calls_of, empty_database, IsDatabase}
-use Rattle.model.specs.History.{replay, entry_of}
+use Rattle.model.specs.Database.{Database, tree_at, leave, removed_of, purge_removed, after_purge, after_purges, changed_by, reply_to, act, calls_of, IsDatabase}
+use Rattle.model.specs.History.{Chronicle, now, extended, entry_of}
 use Rattle.model.proofs.HistoryLaws.{replay-push, IsLegal-push, IsNext-entry_of}
 use Rattle.model.proofs.RestLaws.{rest_of_edits, rest_of_merges}
 use Rattle.model.proofs.KeptLaws.{IsDatabase-act}
 use Rattle.model.proofs.ReplyLaws.{FitsReply-reply_to}
-use Rattle.snapshots.specs.Version.{IsHistory, IsVersion, entries_of, placed_from}
+use Rattle.snapshots.specs.Version.{IsHistory, IsVersion, chronicle_of, entries_of, placed_from}
 use Rattle.snapshots.proofs.Bulks.{few-after_edits, few-after_merges}
 use Rattle.snapshots.proofs.Places.{entries_of-placed_from}
 
@@ -78,37 +78,45 @@ logged-act : (d : Database) (seat : Seat) (c : Command) → IsCommand c → (act
 unfolding act
 logged-act d seat c is = logged-changed_by d c is
 
-module _ (es : List Entry) (seat : Seat) (c : Command) (h : IsHistory es) (is_seat : IsSeat seat) (is_command : IsCommand c) (next : seat.call ≡ calls_of (replay empty_database es) seat.session + 1) (room : length es < 4294967295) where
-  abbrev now : Database
-  now = replay empty_database es
-
+module _ (h : Chronicle) (seat : Seat) (c : Command) (is : IsHistory h) (is_seat : IsSeat seat) (is_command : IsCommand c) (next : seat.call ≡ calls_of (now h) seat.session + 1) (room : length h.entries < 4294967295) where
   abbrev entry : Entry
-  entry = entry_of now seat c
+  entry = entry_of (now h) seat c
 
-  abbrev longer : List Entry
-  longer = es ++ entry ∷ []
+  abbrev longer : Chronicle
+  longer = extended h (entry ∷ [])
 
   is_entry : IsEntry entry
-  is_entry = record { seat = is_seat; command = is_command; reply = FitsReply-reply_to now c is_command h.database }
+  is_entry = record { seat = is_seat; command = is_command; reply = FitsReply-reply_to (now h) c is_command is.database }
+
+  acts : now longer ≡ act (now h) seat c
+  acts = replay-push h.base h.entries entry
 
   IsHistory-pushed : IsHistory longer
   IsHistory-pushed = record {
-    legal = (IsLegal-push empty_database es entry).1 (h.legal, IsNext-entry_of now seat c next);
-    valid = All-append IsEntry es (entry ∷ []) h.valid (All-cons IsEntry entry [] is_entry (All-nil IsEntry));
-    database = subst IsDatabase (sym (replay-push empty_database es entry)) (IsDatabase-act now seat c is_command h.database);
-    few = omega (arith, length-append es (entry ∷ []), room);
-    numbers = omega (arith, length-append es (entry ∷ []), ap (λ (d : Database). d.update_seq) (replay-push empty_database es entry), few-act now seat c is_command, h.numbers);
-    purges = omega (arith, length-append es (entry ∷ []), ap (λ (d : Database). d.purges.purge_seq) (replay-push empty_database es entry), logged-act now seat c is_command, h.purges);
+    base = is.base;
+    legal = (IsLegal-push h.base h.entries entry).1 (is.legal, IsNext-entry_of (now h) seat c next);
+    valid = All-append IsEntry h.entries (entry ∷ []) is.valid (All-cons IsEntry entry [] is_entry (All-nil IsEntry));
+    database = subst IsDatabase (sym acts) (IsDatabase-act (now h) seat c is_command is.database);
+    few = omega (arith, length-append h.entries (entry ∷ []), room);
+    numbers = omega (arith, length-append h.entries (entry ∷ []), ap (λ (d : Database). d.update_seq) acts, few-act (now h) seat c is_command, is.numbers);
+    purges = omega (arith, length-append h.entries (entry ∷ []), ap (λ (d : Database). d.purges.purge_seq) acts, logged-act (now h) seat c is_command, is.purges);
   }
 
-  pub IsVersion-pushed : (later : Database) (placed : List (ℕ × Entry)) → later ≡ act now seat c → placed ≡ placed_from 1 longer → IsVersion later placed
-  IsVersion-pushed later placed acted is =
-      let same : entries_of placed ≡ longer = ap entries_of is ∙ entries_of-placed_from 1 longer in
-      record {
-        places = is ∙ ap (placed_from 1) (sym same);
-        history = subst IsHistory (sym same) IsHistory-pushed;
-        replayed = acted ∙ sym (replay-push empty_database es entry) ∙ ap (replay empty_database) (sym same);
-      }
+  module _ (placed : List (ℕ × Entry)) (is_placed : placed ≡ placed_from 1 longer.entries) where
+    same : entries_of placed ≡ longer.entries
+    same = ap entries_of is_placed ∙ entries_of-placed_from 1 longer.entries
+
+    pub view-pushed : (base : Database) → base ≡ h.base → chronicle_of base placed ≡ longer
+    view-pushed base of_base i = record { base = of_base i; entries = same i }
+
+    pub IsVersion-pushed : (base content : Database) → base ≡ h.base → content ≡ act (now h) seat c → IsVersion base content placed
+    IsVersion-pushed base content of_base acted =
+        let view = view-pushed base of_base in
+        record {
+          places = is_placed ∙ ap (placed_from 1) (sym same);
+          history = subst IsHistory (sym view) IsHistory-pushed;
+          replayed = acted ∙ sym acts ∙ ap now (sym view);
+        }
 
 -- the entry of a compaction
 pub compact_entry-is : (d : Database) (seat : Seat) (copy : Command) (r : Reply) → copy ≡ Compact → r ≡ Done → ◌≡◌ {A = Entry} (record { seat = seat; command = copy; reply = r }) (entry_of d seat Compact)

@@ -1,8 +1,8 @@
--- A version: the entries of its history at their places, and what they make of the empty database.
+-- A version: its base, the entries of its history at their places, and what they make of the base.
 use Rattle.std.specs.Prelude.{◌≡◌, ◌≤◌, ◌+◌, ◌*◌, ℕ, zero, suc, List, [], ◌∷◌, length, map, slice_get, All, Option, None}
 use Rattle.model.specs.Command.{Entry, IsEntry, max_edits}
-use Rattle.model.specs.Database.{Database, IsDatabase, empty_database}
-use Rattle.model.specs.History.{replay, IsLegal}
+use Rattle.model.specs.Database.{Database, IsDatabase}
+use Rattle.model.specs.History.{IsLegal, Chronicle, now, IsBase}
 
 -- the entry at a place, from 1
 abbrev pub entry_at : List Entry → ℕ → Option Entry
@@ -17,16 +17,21 @@ placed_from n (e ∷ es) = (n, e) ∷ placed_from (n + 1) es
 abbrev pub entries_of : List (ℕ × Entry) → List Entry
 entries_of placed = map (λ p. p.1) placed
 
--- a history keeps its limits, and tells what its database is
-pub record IsHistory (es : List Entry) : Type 0 where
-  pub legal : IsLegal empty_database es
-  pub valid : All IsEntry es
-  pub database : IsDatabase (replay empty_database es)
-  pub few : length es ≤ 4294967295
-  pub numbers : (replay empty_database es).update_seq ≤ max_edits * length es
-  pub purges : (replay empty_database es).purges.purge_seq ≤ max_edits * length es
+-- the history of these placed entries
+abbrev pub chronicle_of : Database → List (ℕ × Entry) → Chronicle
+chronicle_of base placed = record { base = base; entries = entries_of placed }
 
-pub record IsVersion (now : Database) (placed : List (ℕ × Entry)) : Type 0 where
+-- a history keeps its limits, and tells what its database is
+pub record IsHistory (c : Chronicle) : Type 0 where
+  pub base : IsBase c.base
+  pub legal : IsLegal c.base c.entries
+  pub valid : All IsEntry c.entries
+  pub database : IsDatabase (now c)
+  pub few : length c.entries ≤ 4294967295
+  pub numbers : (now c).update_seq ≤ c.base.update_seq + max_edits * length c.entries
+  pub purges : (now c).purges.purge_seq ≤ c.base.purges.purge_seq + max_edits * length c.entries
+
+pub record IsVersion (base content : Database) (placed : List (ℕ × Entry)) : Type 0 where
   pub places : placed ≡ placed_from 1 (entries_of placed)
-  pub history : IsHistory (entries_of placed)
-  pub replayed : now ≡ replay empty_database (entries_of placed)
+  pub history : IsHistory (chronicle_of base placed)
+  pub replayed : content ≡ now (chronicle_of base placed)

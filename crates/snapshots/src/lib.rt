@@ -1,4 +1,4 @@
-//! Versions of the database: each is what its history of answered commands makes of the empty one.
+//! Versions of the database: each is what its history of answered commands makes of a base.
 #![tactic(auto)]
 
 mod content;

@@ -1,6 +1,9 @@
-use Rattle.model.proofs.HistoryLaws.{Follows-itself, Follows-through}
+use Rattle.model.proofs.HistoryLaws.{Extends-extended, now-extended, Follows-itself, Follows-through}
 use Rattle.model.proofs.LastLaws.{Lasts-follows, purge_seq-follows}
 use Rattle.model.proofs.histories.versions_follow_in_order.Goals as goal
+
+pub returns-clause-extended : goal.returns-clause-extended
+returns-clause-extended c v es = (Extends-extended v es, now-extended v es)
 
 pub returns-clause-follows_itself : goal.returns-clause-follows_itself
 returns-clause-follows_itself c = Follows-itself

@@ -1,38 +1,42 @@
 use Rattle.std.specs.Prelude.{◌≡◌, ◌+◌, ◌∷◌, [], ◌++◌}
 use Rattle.std.proofs.Common.{ap, sym, subst, ◌∙◌, arith}
 use Rattle.model.specs.Command.{Entry}
-use Rattle.model.specs.Database.{Database, act, reply_to, calls_of, empty_database}
-use Rattle.model.specs.History.{replay, entry_of}
-use Rattle.snapshots.specs.Version.{IsHistory, entries_of, placed_from}
-use Rattle.snapshots.proofs.Histories.{IsVersion-pushed, entry_of-is}
-use Rattle.snapshots.proofs.Places.{entries_of-placed_from}
+use Rattle.model.specs.Database.{Database, act, reply_to, calls_of}
+use Rattle.model.specs.History.{Chronicle, now}
+use Rattle.snapshots.specs.Version.{IsHistory, placed_from}
+use Rattle.snapshots.proofs.Histories.{IsVersion-pushed, view-pushed, entry_of-is}
 use Rattle.snapshots.proofs.version.Version.act.Goals as goal
 
 pub act-requires : goal.act-requires
 act-requires c =
-    let now : Database = replay empty_database c.args.self.now in
-    let content : c.in_ok-content.content ≡ now = c.in_ok-content.ensures ∙ c.self.invariant.replayed ∙ ap (replay empty_database) c.self.view_is in
+    let content : c.in_ok-content.content ≡ now c.args.self.now = c.in_ok-content.ensures ∙ c.self.invariant.replayed ∙ ap now c.self.view_is in
     let history : IsHistory c.args.self.now = subst IsHistory c.self.view_is c.self.invariant.history in
     record {
       next = c.requires.next ∙ ap (λ (d : Database). calls_of d c.args.seat.session + 1) (sym content);
-      room = omega (arith, ap (λ (d : Database). d.update_seq) content, history.numbers, c.requires.room);
-      log_room = omega (arith, ap (λ (d : Database). d.purges.purge_seq) content, history.purges, c.requires.room);
+      room = omega (arith, ap (λ (d : Database). d.update_seq) content, history.base.updates, history.numbers, c.requires.room);
+      log_room = omega (arith, ap (λ (d : Database). d.purges.purge_seq) content, history.base.purges, history.purges, c.requires.room);
     }
 
 pub invariant_of-result : goal.invariant_of-result
 invariant_of-result c =
-    let now : Database = replay empty_database c.args.self.now in
-    let content : c.in_ok-content.content ≡ now = c.in_ok-content.ensures ∙ c.self.invariant.replayed ∙ ap (replay empty_database) c.self.view_is in
-    let history : IsHistory c.args.self.now = subst IsHistory c.self.view_is c.self.invariant.history in
-    let entry = entry_of-is now c.args.seat c.args.command.now c.in_ok-command.command c.in_ok-reply.reply c.in_ok-command.ensures.same (c.in_ok-reply.ensures.reply ∙ ap (λ (d : Database). reply_to d c.args.command.now) content) in
-    IsVersion-pushed c.args.self.now c.args.seat c.args.command.now history c.in_ok-reply.ensures.limits.0 c.in_ok-reply.ensures.limits.1 c.requires.next c.requires.room
-    c.act.new.self c.in_ok-history.history.entries
+    let h : Chronicle = c.args.self.now in
+    let content : c.in_ok-content.content ≡ now h = c.in_ok-content.ensures ∙ c.self.invariant.replayed ∙ ap now c.self.view_is in
+    let history : IsHistory h = subst IsHistory c.self.view_is c.self.invariant.history in
+    let entry = entry_of-is (now h) c.args.seat c.args.command.now c.in_ok-command.command c.in_ok-reply.reply c.in_ok-command.ensures.same (c.in_ok-reply.ensures.reply ∙ ap (λ (d : Database). reply_to d c.args.command.now) content) in
+    IsVersion-pushed h c.args.seat c.args.command.now history c.in_ok-reply.ensures.limits.0 c.in_ok-reply.ensures.limits.1 c.requires.next c.requires.room
+    c.in_ok-history.history.entries (c.in_ok-history.ensures ∙ ap (λ (e : Entry). placed_from 1 (h.entries ++ e ∷ [])) entry)
+    c.in_ok-share.field-0 c.act.new.self
+    (c.in_ok-share.ensures ∙ ap (λ (k : Chronicle). k.base) c.self.view_is)
     (c.in_ok-reply.ensures.after ∙ ap (λ (d : Database). act d c.args.seat c.args.command.now) content)
-    (c.in_ok-history.ensures ∙ ap (λ (e : Entry). placed_from 1 (c.args.self.now ++ e ∷ [])) entry)
 
 pub returns : goal.returns
 returns c =
-    let now : Database = replay empty_database c.args.self.now in
-    let content : c.in_ok-content.content ≡ now = c.in_ok-content.ensures ∙ c.self.invariant.replayed ∙ ap (replay empty_database) c.self.view_is in
-    let entry = entry_of-is now c.args.seat c.args.command.now c.in_ok-command.command c.in_ok-reply.reply c.in_ok-command.ensures.same (c.in_ok-reply.ensures.reply ∙ ap (λ (d : Database). reply_to d c.args.command.now) content) in
-    record { pushed = ap entries_of (c.in_ok-history.ensures ∙ ap (λ (e : Entry). placed_from 1 (c.args.self.now ++ e ∷ [])) entry) ∙ entries_of-placed_from 1 (c.args.self.now ++ entry_of now c.args.seat c.args.command.now ∷ []) }
+    let h : Chronicle = c.args.self.now in
+    let content : c.in_ok-content.content ≡ now h = c.in_ok-content.ensures ∙ c.self.invariant.replayed ∙ ap now c.self.view_is in
+    let history : IsHistory h = subst IsHistory c.self.view_is c.self.invariant.history in
+    let entry = entry_of-is (now h) c.args.seat c.args.command.now c.in_ok-command.command c.in_ok-reply.reply c.in_ok-command.ensures.same (c.in_ok-reply.ensures.reply ∙ ap (λ (d : Database). reply_to d c.args.command.now) content) in
+    record {
+      pushed = view-pushed h c.args.seat c.args.command.now history c.in_ok-reply.ensures.limits.0 c.in_ok-reply.ensures.limits.1 c.requires.next c.requires.room
+          c.in_ok-history.history.entries (c.in_ok-history.ensures ∙ ap (λ (e : Entry). placed_from 1 (h.entries ++ e ∷ [])) entry)
+          c.in_ok-share.field-0 (c.in_ok-share.ensures ∙ ap (λ (k : Chronicle). k.base) c.self.view_is);
+    }
