@@ -1,9 +1,9 @@
 -- Pages of the changes feed, and what a follower makes of them.
 use Rattle.std.specs.Prelude.{◌≤◌, ℕ, max, List, Option, Some, None}
 use Rattle.model.specs.Map.{Map}
-use Rattle.model.specs.Command.{names, Entry}
+use Rattle.model.specs.Command.{names}
 use Rattle.model.specs.Query.{Style, Row}
-use Rattle.model.specs.Database.{IsNumbered, empty_database}
+use Rattle.model.specs.Database.{IsNumbered}
 use Rattle.model.specs.History.{Chronicle, Follows, now}
 use Rattle.model.specs.Changes.{every_id, fed, IsRightFeed}
 
@@ -16,10 +16,6 @@ most_of (Some limit) count = max 1 limit
 pub record Following : Type 0 where
   pub cursor : ℕ
   pub style : Style
-
--- the history that starts from the empty database
-abbrev pub chronicle_of : List Entry → Chronicle
-chronicle_of entries = record { base = empty_database; entries = entries }
 
 -- a map that is right up to the cursor at any version before is right up to the next cursor, with the rows
 abbrev pub KeepsRight : Following → List Row → ℕ → Chronicle → Type 0

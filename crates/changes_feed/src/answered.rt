@@ -1,7 +1,6 @@
 //! Any query.
 ghost use Rattle.std.specs.Prelude.{◌≡◌, IfOk, option_copied, option_map};
-ghost use Rattle.model.specs.Database.{empty_database};
-ghost use Rattle.model.specs.History.{replay};
+ghost use Rattle.model.specs.History.{now};
 ghost use Rattle.model.specs.Answers.{answer_to};
 
 use crate::difference::revs_diff;
@@ -16,7 +15,7 @@ use std::alloc::{AllocError, Global};
 
 /// What the version answers to a query.
 pub fn answer(alloc: Global, version: &Version, query: &Query) -> Result<Answer, AllocError>
-    ensures answer { IfOk result (λ answer. answer ≡ answer_to (replay empty_database version.now) query.now) }
+    ensures answer { IfOk result (λ answer. answer ≡ answer_to (now version.now) query.now) }
 {
     match query.kind() {
         QueryKind::Get { id, rev, options } => {

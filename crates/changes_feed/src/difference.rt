@@ -1,8 +1,7 @@
 //! Which revisions a database lacks.
 ghost use Rattle.std.specs.Prelude.{◌≡◌, ◌++◌, IfOk, OnOk, filter, not, option_copied};
 ghost use Rattle.model.specs.Tree.{knows};
-ghost use Rattle.model.specs.Database.{empty_database};
-ghost use Rattle.model.specs.History.{replay};
+ghost use Rattle.model.specs.History.{now};
 ghost use Rattle.changes_feed.specs.Lacking.{ancestors_of, known_tree, one_lacking};
 ghost use Rattle.model.specs.Documents.{difference as difference_at, difference_of as difference_from, differences, largest_generation as largest_of, missing_from as missing_in};
 
@@ -22,7 +21,7 @@ pub fn revs_diff(
     version: &Version,
     asked: &NamedRevisions,
 ) -> Result<Differences, AllocError>
-    ensures differences { IfOk result (λ answer. answer ≡ differences (replay empty_database version.now) asked.now) }
+    ensures differences { IfOk result (λ answer. answer ≡ differences (now version.now) asked.now) }
 {
     let mut lacking = Vec::new(alloc);
     for document in asked.documents() {
@@ -52,7 +51,7 @@ fn difference(
     id: &DocId,
     asked: &[RevId],
 ) -> Result<Option<Difference>, AllocError>
-    ensures { IfOk result (λ answer. answer ≡ difference_at (replay empty_database version.now) id.now asked.now) }
+    ensures { IfOk result (λ answer. answer ≡ difference_at (now version.now) id.now asked.now) }
 {
     match version.record(id) {
         Some(record) => difference_in(alloc, Some(record.tree()), asked),

@@ -1,9 +1,8 @@
 //! A follower of the changes feed, over versions that come one after another.
 ghost use Rattle.std.specs.Prelude.{◌≡◌, IfOk, OnErr, take};
-ghost use Rattle.model.specs.Database.{empty_database};
-ghost use Rattle.model.specs.History.{replay};
+ghost use Rattle.model.specs.History.{now};
 ghost use Rattle.model.specs.Changes.{every_id, last_seq_of, rows_since};
-ghost use Rattle.changes_feed.specs.Followed.{chronicle_of, KeepsRight};
+ghost use Rattle.changes_feed.specs.Followed.{KeepsRight};
 
 use crate::page::{first_rows, last_seq};
 use commands::{Row, Style};
@@ -54,9 +53,9 @@ impl Follower {
         limit: u64,
     ) -> Result<Vec<Row>, AllocError>
         ensures rows { IfOk result (λ rows. rows.items
-            ≡ take limit (rows_since every_id (replay empty_database version.now) self.old.cursor self.old.style)) }
+            ≡ take limit (rows_since every_id (now version.now) self.old.cursor self.old.style)) }
         ensures cursor { IfOk result (λ rows. self.new ≡ record self.old { cursor = last_seq_of self.old.cursor rows.items }) }
-        ensures right { IfOk result (λ rows. KeepsRight self.old rows.items self.new.cursor (chronicle_of version.now)) }
+        ensures right { IfOk result (λ rows. KeepsRight self.old rows.items self.new.cursor version.now) }
         ensures err { OnErr result (self.new ≡ self.old) }
     {
         feeds_stay_right();

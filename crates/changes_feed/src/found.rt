@@ -2,8 +2,7 @@
 ghost use Rattle.std.specs.Prelude.{◌≡◌, Err, IfOk, ok_or};
 ghost use Rattle.model.specs.Query.{IsMissing as IsUnknown};
 ghost use Rattle.model.specs.Tree.{winner};
-ghost use Rattle.model.specs.Database.{empty_database};
-ghost use Rattle.model.specs.History.{replay};
+ghost use Rattle.model.specs.History.{now};
 ghost use Rattle.model.specs.Documents.{found, found_in as found_of, named_by as named_of, of_winner as winner_shown, stored as stored_of};
 
 use crate::document::stored;
@@ -24,7 +23,7 @@ pub fn get(
     rev: Option<RevId>,
     options: &Options,
 ) -> Result<Result<Document, Absent>, AllocError>
-    ensures found { IfOk result (λ answer. answer ≡ found (replay empty_database version.now) id.now rev options.now) }
+    ensures found { IfOk result (λ answer. answer ≡ found (now version.now) id.now rev options.now) }
 {
     match version.record(id) {
         Some(record) => found_in(alloc, id, record.tree(), rev, options),

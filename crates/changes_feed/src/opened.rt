@@ -3,8 +3,7 @@ ghost use Rattle.std.specs.Prelude.{◌≡◌, ◌&&◌, Ok, Err, IfOk, map, fla
 ghost use Rattle.model.specs.Lists.{each_once};
 ghost use Rattle.model.specs.Revision.{same_rev};
 ghost use Rattle.model.specs.Tree.{knows};
-ghost use Rattle.model.specs.Database.{empty_database};
-ghost use Rattle.model.specs.History.{replay};
+ghost use Rattle.model.specs.History.{now};
 ghost use Rattle.model.specs.Documents.{asked_of as asked_in, latest_or_itself as latest_or_same, opened, opened_at as opened_as, opened_in as opened_of, opened_unknown as unknown_opened};
 
 use crate::document::stored;
@@ -29,7 +28,7 @@ pub fn open_revs(
     options: &Options,
 ) -> Result<Vec<Result<Document, RevId>>, AllocError>
     ensures opened { IfOk result (λ answer. answer.items
-        ≡ opened (replay empty_database version.now) id.now (option_copied asked.entry) options.now) }
+        ≡ opened (now version.now) id.now (option_copied asked.entry) options.now) }
 {
     match version.record(id) {
         Some(record) => opened_in(alloc, id, record.tree(), asked, options),

@@ -1,7 +1,6 @@
 //! The changes feed: each document once, at its last update.
 ghost use Rattle.std.specs.Prelude.{◌≡◌, ◌==◌, IfOk, length, take, if◌then◌else◌};
-ghost use Rattle.model.specs.Database.{empty_database};
-ghost use Rattle.model.specs.History.{replay};
+ghost use Rattle.model.specs.History.{now};
 ghost use Rattle.model.specs.Changes.{changes_page, every_id, last_seq_of, listed as listed_in, row as row_of, rows_since};
 ghost use Rattle.changes_feed.specs.Followed.{most_of};
 
@@ -21,7 +20,7 @@ pub fn changes(
     limit: Option<u64>,
     style: Style,
 ) -> Result<ChangesPage, AllocError>
-    ensures page { IfOk result (λ page. page ≡ changes_page every_id (replay empty_database version.now) since limit style) }
+    ensures page { IfOk result (λ page. page ≡ changes_page every_id (now version.now) since limit style) }
 {
     let count = version.count_changed_since(since);
     let rows = first_rows(alloc, version, since, most_rows(limit, count), style)?;
@@ -45,7 +44,7 @@ fn most_rows(limit: Option<u64>, count: u64) -> u64
 
 /// The number to go on from after some rows, where `pending` are left.
 fn page_end(version: &Version, since: u64, rows: &[Row], pending: u64) -> u64
-    ensures { result ≡ (if pending == 0 then (replay empty_database version.now).update_seq else last_seq_of since rows.now) }
+    ensures { result ≡ (if pending == 0 then (now version.now).update_seq else last_seq_of since rows.now) }
 {
     if pending == 0 {
         return version.update_seq();
@@ -71,7 +70,7 @@ pub(crate) fn first_rows(
     most: u64,
     style: Style,
 ) -> Result<Vec<Row>, AllocError>
-    ensures { IfOk result (λ rows. rows.items ≡ take most (rows_since every_id (replay empty_database version.now) since style)) }
+    ensures { IfOk result (λ rows. rows.items ≡ take most (rows_since every_id (now version.now) since style)) }
 {
     let mut rows = Vec::new(alloc);
     for (seq, changed) in version.changed_since(since).take(most as usize) {

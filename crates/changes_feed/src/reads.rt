@@ -2,8 +2,7 @@
 ghost use Rattle.std.specs.Prelude.{◌≡◌, IfOk, option_map};
 ghost use Rattle.std.specs.Arc.{arc_value};
 ghost use Rattle.model.specs.Map.{get};
-ghost use Rattle.model.specs.Database.{empty_database};
-ghost use Rattle.model.specs.History.{replay};
+ghost use Rattle.model.specs.History.{now};
 ghost use Rattle.changes_feed.specs.Shown.{local_shown};
 ghost use Rattle.model.specs.Answers.{counts, live_document as live_of, live_documents};
 
@@ -17,7 +16,7 @@ use std::sync::Arc;
 
 /// The documents whose winner is not deleted, each with its winner, in the byte order of their ids.
 pub fn all_docs(alloc: Global, version: &Version) -> Result<Vec<(DocId, RevId)>, AllocError>
-    ensures documents { IfOk result (λ documents. documents.items ≡ live_documents (replay empty_database version.now)) }
+    ensures documents { IfOk result (λ documents. documents.items ≡ live_documents (now version.now)) }
 {
     let mut documents = Vec::new(alloc);
     for (id, record) in version.documents() {
@@ -40,7 +39,7 @@ fn live_document(id: &DocId, stored: &Record) -> Result<Option<(DocId, RevId)>, 
 
 /// How many documents are live and how many deleted, and the last numbers of updates and purges.
 pub fn info(version: &Version) -> Counts
-    ensures counts { result ≡ counts (replay empty_database version.now) }
+    ensures counts { result ≡ counts (now version.now) }
 {
     version.counts()
 }
@@ -48,7 +47,7 @@ pub fn info(version: &Version) -> Counts
 /// The revision number and the body of a local document. The body is shared.
 pub fn local_get(version: &Version, id: &DocId) -> Result<Option<(u32, Arc<Body>)>, AllocError>
     ensures local { IfOk result (λ local. option_map (λ l. (l.0, arc_value l.1)) local
-        ≡ option_map local_shown (get (replay empty_database version.now).locals id.now)) }
+        ≡ option_map local_shown (get (now version.now).locals id.now)) }
 {
     let Some(local) = version.local(id) else {
         return Ok(None);
@@ -58,7 +57,7 @@ pub fn local_get(version: &Version, id: &DocId) -> Result<Option<(u32, Arc<Body>
 
 /// How many revisions are kept above a leaf, itself among them.
 pub fn revs_limit(version: &Version) -> u32
-    ensures limit { result ≡ (replay empty_database version.now).revs_limit }
+    ensures limit { result ≡ (now version.now).revs_limit }
 {
     version.revs_limit()
 }

@@ -16,12 +16,12 @@ use Rattle.model.specs.PurgeLog.{PurgeInfo, PurgeLog, logged, has_number, purges
 
 -- ---- the numbers
 
-AreNumbered-drop : (n k : ℕ) (ps : List PurgeInfo) → AreNumbered n ps → AreNumbered n (drop k ps)
+pub AreNumbered-drop : (n k : ℕ) (ps : List PurgeInfo) → AreNumbered n ps → AreNumbered n (drop k ps)
 AreNumbered-drop n zero ps h = h
 AreNumbered-drop n (suc k) [] h = tt
 AreNumbered-drop n (suc k) (p ∷ ps) h = AreNumbered-drop n k ps h.2
 
-AreNumbered-push : (n : ℕ) (ps : List PurgeInfo) (p : PurgeInfo) → p.seq ≡ n + 1 → AreNumbered n ps → AreNumbered (n + 1) (ps ++ p ∷ [])
+pub AreNumbered-push : (n : ℕ) (ps : List PurgeInfo) (p : PurgeInfo) → p.seq ≡ n + 1 → AreNumbered n ps → AreNumbered (n + 1) (ps ++ p ∷ [])
 AreNumbered-push n [] p e h = (omega arith, omega arith, tt)
 AreNumbered-push n (q ∷ ps) p e h = (omega (arith, length_push ps p, h.0), h.1, AreNumbered-push n ps p e h.2)
 

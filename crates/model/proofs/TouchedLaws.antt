@@ -50,7 +50,7 @@ numbers_within d num = All-weaker (Contains (by_seq d)) (λ e. e.0 ≤ d.update_
 
 -- ---- the marks after the first n touched
 
-passed-append : (m : Marks) (ts us : List Touched) → passed m (ts ++ us) ≡ passed (passed m ts) us
+pub passed-append : (m : Marks) (ts us : List Touched) → passed m (ts ++ us) ≡ passed (passed m ts) us
 passed-append m [] us = refl
 passed-append m (t ∷ ts) us = passed-append (past m t) ts us
 
@@ -62,7 +62,7 @@ passed-updates : (m : Marks) (es : List Update) → passed m (map of_update es) 
 passed-updates m [] = refl
 passed-updates m (e ∷ es) = passed-updates (record m { update = e.0 }) es
 
-take-append : {X : Type 0} (n k : ℕ) (xs ys : List X) → k ≡ n - length xs → take n (xs ++ ys) ≡ take n xs ++ take k ys
+pub take-append : {X : Type 0} (n k : ℕ) (xs ys : List X) → k ≡ n - length xs → take n (xs ++ ys) ≡ take n xs ++ take k ys
 take-append zero k [] ys e = let same : 0 ≡ k = omega arith in ap (λ j. take j ys) same
 take-append (suc n) k [] ys e = let same : suc n ≡ k = omega arith in ap (λ j. take j ys) same
 take-append zero k (x ∷ xs) ys e = let same : 0 ≡ k = omega arith in ap (λ j. take j ys) same

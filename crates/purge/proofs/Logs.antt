@@ -1,5 +1,5 @@
 -- The entries of a log: one more at the end, without the oldest, and those above a mark.
-use Rattle.std.specs.Prelude.{◌≡◌, ◌+◌, ◌-◌, ◌<◌, ◌≤◌, ◌⊎◌, ℕ, min, true, false, cond, not, zero, suc, List, [], ◌∷◌, ◌++◌, length, drop, filter, map, nat_lt, refl}
+use Rattle.std.specs.Prelude.{◌≡◌, ◌+◌, ◌-◌, ◌<◌, ◌≤◌, ◌⊎◌, ℕ, min, true, false, cond, not, List, [], ◌∷◌, ◌++◌, length, drop, filter, map, nat_lt, refl}
 use Rattle.std.specs.Ordering.{nat_cmp, is_eq, is_le}
 use Rattle.std.specs.declared.cmp.Ordering.TheVariants.{Less, Equal, Greater}
 use Rattle.std.specs.Cmp.{nat_cmp_is}
@@ -15,20 +15,11 @@ use Rattle.model.specs.Revision.{Rev}
 use Rattle.model.specs.Command.{Id}
 use Rattle.model.specs.PurgeLog.{PurgeInfo, PurgeLog, AreNumbered, logged, purges_since, is_overrun}
 use Rattle.model.proofs.ListLaws.{by_cases}
-use Rattle.model.proofs.LogLaws.{is_overrun-numbered}
+use Rattle.model.proofs.LogLaws.{AreNumbered-drop, AreNumbered-push, is_overrun-numbered}
 use Rattle.purge.specs.Log.{PurgedEntry, info_of, infos_of, log_of, IsKept, newest_of}
 
 abbrev Purges : Type 0
 Purges = List (ℕ × PurgedEntry)
-
-AreNumbered-drop : (n k : ℕ) (ps : List PurgeInfo) → AreNumbered n ps → AreNumbered n (drop k ps)
-AreNumbered-drop n zero ps h = h
-AreNumbered-drop n (suc k) [] h = tt
-AreNumbered-drop n (suc k) (p ∷ ps) h = AreNumbered-drop n k ps h.2
-
-AreNumbered-push : (n : ℕ) (ps : List PurgeInfo) (p : PurgeInfo) → p.seq ≡ n + 1 → AreNumbered n ps → AreNumbered (n + 1) (ps ++ p ∷ [])
-AreNumbered-push n [] p e h = (omega arith, omega arith, tt)
-AreNumbered-push n (q ∷ ps) p e h = (omega (arith, length_push ps p, h.0), h.1, AreNumbered-push n ps p e h.2)
 
 -- at most as many as the last number
 pub few-numbered : (n : ℕ) (es : Purges) → AreNumbered n (infos_of es) → length es ≤ n

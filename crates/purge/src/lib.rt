@@ -4,6 +4,8 @@
 mod cuts;
 mod log;
 mod purged;
+#[cfg(test)]
+mod tests;
 
 pub use cuts::cut_document;
 pub use log::PurgeLog;

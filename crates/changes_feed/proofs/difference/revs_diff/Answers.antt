@@ -6,8 +6,7 @@ use Rattle.std.proofs.lemmas.List.{take_more, take_all}
 use Rattle.model.specs.Map.{refine, refine_list, same_list}
 use Rattle.model.specs.Revision.{Rev}
 use Rattle.model.specs.Command.{Id, names}
-use Rattle.model.specs.Database.{empty_database}
-use Rattle.model.specs.History.{replay}
+use Rattle.model.specs.History.{now}
 use Rattle.model.specs.Query.{Difference}
 use Rattle.model.specs.Documents.{difference, differences}
 use Rattle.changes_feed.specs.Lacking.{one_lacking}
@@ -16,7 +15,7 @@ use Rattle.changes_feed.proofs.difference.revs_diff.Goals as goal
 
 pub loop-document-preserved : goal.loop-document-preserved
 loop-document-preserved c =
-    let f : Id → List Rev → Option Difference = difference (replay empty_database c.args.version.now) in
+    let f : Id → List Rev → Option Difference = difference (now c.args.version.now) in
     let docs = c.documents-document-items.result.now in
     let i = c.loop-document.document-index in
     let e = c.document-item.result in
@@ -32,14 +31,14 @@ loop-document-preserved c =
 
 pub new-requires : goal.new-requires
 new-requires c =
-    let f : Id → List Rev → Option Difference = difference (replay empty_database c.args.version.now) in
+    let f : Id → List Rev → Option Difference = difference (now c.args.version.now) in
     let docs = c.documents-document-items.result.now in
     let whole = c.loop-document.invariant ∙ ap (refine_list names f) (take_all c.loop-document.document-index docs c.loop-document-test.false ∙ c.documents-document-items.ensures.entries) in
     record { rising = subst (λ es. T (is_sorted names.cmp es)) (sym whole) (refine f c.args.asked.now).sorted }
 
 pub returns : goal.returns
 returns c =
-    let f : Id → List Rev → Option Difference = difference (replay empty_database c.args.version.now) in
+    let f : Id → List Rev → Option Difference = difference (now c.args.version.now) in
     let docs = c.documents-document-items.result.now in
     let whole = c.loop-document.invariant ∙ ap (refine_list names f) (take_all c.loop-document.document-index docs c.loop-document-test.false ∙ c.documents-document-items.ensures.entries) in
-    record { differences = same_list {O = names} c.new.result (differences (replay empty_database c.args.version.now) c.args.asked.now) (c.new.ensures.entries ∙ whole) }
+    record { differences = same_list {O = names} c.new.result (differences (now c.args.version.now) c.args.asked.now) (c.new.ensures.entries ∙ whole) }

@@ -3,8 +3,7 @@ use Rattle.std.specs.Prelude.{◌≡◌, ◌-◌, ◌==◌, List, length, take, 
 use Rattle.std.proofs.Common.{sym, ap, ◌∙◌}
 use Rattle.std.proofs.Math.ListN.{length-map}
 use Rattle.model.specs.Query.{Row}
-use Rattle.model.specs.Database.{empty_database}
-use Rattle.model.specs.History.{replay}
+use Rattle.model.specs.History.{now}
 use Rattle.model.specs.Changes.{changed_since, changes_page, every_id, first_rows, last_seq_of, row, rows_since}
 use Rattle.changes_feed.proofs.RowLists.{first_rows-most}
 use Rattle.changes_feed.proofs.page.changes.Goals as goal
@@ -12,7 +11,7 @@ use Rattle.changes_feed.proofs.page.changes.Goals as goal
 pub returns : goal.returns
 unfolding changes_page
 returns c =
-    let d = replay empty_database c.args.version.now in
+    let d = now c.args.version.now in
     let all = rows_since every_id d c.args.since c.args.style in
     let given = first_rows c.args.limit all in
     let count : c.count_changed_since-count.result ≡ length all =

@@ -4,13 +4,13 @@ use Rattle.std.proofs.Common.{sym, ap, subst, ◌∙◌}
 use Rattle.model.specs.Query.{Row}
 use Rattle.model.specs.History.{now}
 use Rattle.model.specs.Changes.{every_id, fed, IsRightFeed, last_seq_of, rows_since}
-use Rattle.changes_feed.specs.Followed.{Following, chronicle_of}
+use Rattle.changes_feed.specs.Followed.{Following}
 use Rattle.changes_feed.proofs.follower.Follower.next.Goals as goal
 
 pub returns-clause-right : goal.returns-clause-right
 returns-clause-right c = λ m s earlier num follows le right.
     let f = c.args.self.now in
-    let later = chronicle_of c.args.version.now in
+    let later = c.args.version.now in
     let given = take c.args.limit (rows_since every_id (now later) f.cursor f.style) in
     let rows : c.in_ok-rows.rows.items ≡ given =
     c.in_ok-rows.ensures ∙ ap (λ (g : Following). take c.args.limit (rows_since every_id (now later) g.cursor g.style)) c.self.view_is in
