@@ -1,12 +1,12 @@
 -- What a head that was found in the first bytes says of all of them.
-use Rattle.std.proofs.Common.{◌≡◌, ℕ, ◌+◌, ◌-◌, ◌<◌, ◌≤◌, List, [], ◌∷◌, ◌++◌, length, take, drop, map, refl, ap, sym, ◌∙◌, subst, arith, append_assoc, Result, Ok, Err, inl, inr, Bool, slice_range, length-append, length-drop}
+use Rattle.std.proofs.Common.{◌≡◌, ℕ, ◌+◌, ◌-◌, ◌<◌, ◌≤◌, List, [], ◌∷◌, ◌++◌, length, take, drop, map, ap, sym, ◌∙◌, subst, arith, append_assoc, Result, Ok, Err, inl, inr, Bool, slice_range, length-append, length-drop}
 use Rattle.std.proofs.Math.Seq.{drop-append_seam}
 use Rattle.std.proofs.lemmas.List.{take-append-drop, take-take, take_all, drop-take, append-nil, length-map}
 use Rattle.std.proofs.lemmas.Grind.{common_steps}
 use Rattle.httparse.specs.declared.spans.HeaderSpan.{HeaderSpan}
 use Rattle.httparse.specs.declared.spans.RequestSpans.{RequestSpans as HeadSpans}
 use Rattle.httparse.specs.declared.spans.Span.{Span}
-use Rattle.httparse.specs.Grammar.{RequestHead, print_request, HasNoRequest, MayBecomeRequest}
+use Rattle.httparse.specs.Grammar.{RequestHead, print_request}
 use Rattle.httparse.specs.Spans.{IsRequestWithin as IsHeadWithin, IsRequestAt as IsHeadAt, IsRequestOf as IsHeadOf, IsWithin, header_bytes, span_bytes, name_and_value}
 use Rattle.httparse.proofs.RunLemmas.{drop_split, length-slice_range}
 use Rattle.http_framing.specs.declared.FramingFault.{FramingFault}
@@ -14,8 +14,8 @@ use Rattle.http_framing.specs.Headers.{headers_of}
 use Rattle.http_framing.specs.Body.{body_length}
 use Rattle.http_framing.specs.Request.{head_limit, header_limit, closes_after, BeginsWithHead}
 use Rattle.http_framing.specs.Refusal.{head_window, IsRefused}
-use Rattle.http_framing.specs.Input.{request_limit, IsUnfinished}
-use Rattle.http_framing.specs.Front.{IsRequestAt, NeedsMore}
+use Rattle.http_framing.specs.Input.{request_limit, EndsInHead, IsUnfinished}
+use Rattle.http_framing.specs.Front.{IsFrontOfWindow, IsRequestAt, NeedsMore}
 use Rattle.http_framing.proofs.Lengths.{body_length-le, body_length-fault, refused_by_body}
 use Rattle.http_framing.proofs.More.{BeginsWithHead-append}
 
@@ -61,7 +61,7 @@ begins n bytes headers spans head at =
     ap (drop spans.len) whole ∙ ap (λ (k : ℕ). drop k (print_request head ++ after)) at.len ∙ drop-append_seam (print_request head) after in
     whole ∙ ap (λ (x : List ℕ). print_request head ++ x) (sym rest)
 
-found_in : (n : ℕ) (bytes : List ℕ) (headers : List HeaderSpan) (spans : HeadSpans) (head : RequestHead) → n ≡ head_limit → length headers ≤ header_limit
+found_in : (n : ℕ) (bytes : List ℕ) (headers : List HeaderSpan) (spans : HeadSpans) (head : RequestHead) → n ≤ head_limit → length headers ≤ header_limit
     → IsHeadWithin (take n bytes) headers spans → IsHeadAt (take n bytes) headers spans head → IsFound bytes (take n bytes) headers spans head
 found_in n bytes headers spans head limit room within at =
     let short = length-front n bytes in
@@ -85,14 +85,14 @@ found_in n bytes headers spans head limit room within at =
       small = omega (arith, within.section.len_fits, short.1);
     }
 
-pub found_head : (bytes window : List ℕ) (headers : List HeaderSpan) (spans : HeadSpans) → window ≡ head_window bytes
+pub found_head : (bytes window : List ℕ) (headers : List HeaderSpan) (spans : HeadSpans) → IsFrontOfWindow window bytes
     → length headers ≤ header_limit → IsHeadWithin window headers spans → (of : IsHeadOf window headers spans)
     → IsFound bytes window headers spans of.0
-found_head bytes window headers spans same room within of =
+found_head bytes window headers spans (n, small, same) room within of =
     let P : List ℕ → Type 0 = λ w. IsHeadWithin w headers spans in
     let Q : List ℕ → Type 0 = λ w. IsHeadAt w headers spans of.0 in
     let R : List ℕ → Type 0 = λ w. IsFound bytes w headers spans of.0 in
-    subst R (sym same) (found_in head_limit bytes headers spans of.0 refl room (subst P same within) (subst Q same of.1))
+    subst R (sym same) (found_in n bytes headers spans of.0 small room (subst P same within) (subst Q same of.1))
 
 module _ {bytes window : List ℕ} {headers : List HeaderSpan} {spans : HeadSpans} {head : RequestHead} (found : IsFound bytes window headers spans head) where
   abbrev length_read : Result ℕ FramingFault
@@ -155,15 +155,12 @@ pub head_window-short : (bytes : List ℕ) → length bytes < head_limit → hea
 head_window-short bytes short = take_all head_limit bytes (omega arith)
 
 -- a part of a head needs one more byte, at least
-pub head-part : (bytes window : List ℕ) → window ≡ head_window bytes → length bytes < head_limit
-    → HasNoRequest window → MayBecomeRequest window → NeedsMore bytes 1
-head-part bytes window same short none may =
-    let whole = same ∙ head_window-short bytes short in
-    let unfinished : IsUnfinished bytes = inl (short, subst HasNoRequest whole none, subst MayBecomeRequest whole may) in
+pub head-part : (bytes : List ℕ) → EndsInHead bytes → NeedsMore bytes 1
+head-part bytes part =
     record {
       some = omega arith;
-      unfinished = λ further fewer. nothing further (omega arith) unfinished;
-      limit = omega arith;
+      unfinished = λ further fewer. nothing further (omega arith) (inl part);
+      limit = omega (arith, part.0);
     }
   where
     nothing : (further : List ℕ) → length further < 1 → IsUnfinished bytes → IsUnfinished (bytes ++ further)

@@ -4,6 +4,8 @@ pub mod Lengths
 pub mod More
 pub mod Heads
 pub mod ManyHeaders
+pub mod LineEnds
+pub mod FirstLines
 pub mod Part
 pub mod Unique
 pub mod Targets

@@ -2,7 +2,7 @@
 use Rattle.std.proofs.Common.{◌≡◌, ℕ, ◌<◌, ◌≤◌, List, [], ◌∷◌, ◌++◌, length, refl, ap, sym, ◌∙◌, subst, arith, append_assoc, length-append}
 use Rattle.std.specs.List.{flat_map}
 use Rattle.std.proofs.lemmas.List.{append_cancel_right, append-nil}
-use Rattle.httparse.specs.Grammar.{LineEnd, crlf, lf, print_end, print_blank, print_version, print_field, RequestHead, print_request, ReadsRequest}
+use Rattle.httparse.specs.Grammar.{LineEnd, crlf, lf, print_end, print_blank, print_version, print_field, RequestHead, IsRequestHead, print_request, ReadsRequest}
 use Rattle.httparse.specs.Spans.{RequestExceeds}
 use Rattle.httparse.specs.Pieces.{RequestStart, FieldLines, Section}
 use Rattle.httparse.proofs.GrammarLemmas.{request_tree, request_pieces, print_request-append, cons-append}
@@ -13,7 +13,7 @@ abbrev pub print_lines : RequestHead → List ℕ
 print_lines h =
     print_blank h.blank ++ (h.method ++ 32 ∷ (h.target ++ 32 ∷ (print_version h.minor ++ (print_end h.line_end ++ flat_map print_field h.fields))))
 
-print_request-lines : (h : RequestHead) → print_request h ++ [] ≡ print_lines h ++ print_end h.last
+pub print_request-lines : (h : RequestHead) → print_request h ++ [] ≡ print_lines h ++ print_end h.last
 print_request-lines h = print_request-append h [] ∙ simp (append_assoc, cons-append, append-nil)
 
 print_lines-append : (h : RequestHead) (rest : List ℕ) → print_lines h ++ rest
@@ -26,6 +26,14 @@ cut_end : (front lines : List ℕ) (end : LineEnd) → front ++ print_end lf ≡
 cut_end front lines lf e = ([], append_cancel_right front lines (10 ∷ []) e ∙ sym (append-nil lines))
 cut_end front lines crlf e = (13 ∷ [], append_cancel_right front (lines ++ 13 ∷ []) (10 ∷ []) (e ∙ sym (append_assoc lines (13 ∷ []) (10 ∷ []))))
 
+-- the head of which there are too many headers, and what is behind the last of them
+pub exceeding : (room : ℕ) (buf : List ℕ) → RequestExceeds room buf
+    → (h : RequestHead) × (after : List ℕ) × IsRequestHead h × (buf ≡ print_lines h ++ after) × (room < length h.fields)
+exceeding room buf (front, rest, whole, h, reads, many) =
+    let cut = cut_end front (print_lines h) h.last (reads.1 ∙ print_request-lines h) in
+    let parts : buf ≡ print_lines h ++ (cut.0 ++ rest) = whole ∙ ap (λ (x : List ℕ). x ++ rest) cut.1 ∙ append_assoc (print_lines h) cut.0 rest in
+    (h, cut.0 ++ rest, reads.0, parts, many)
+
 -- the bytes begin with the lines of a head, which has more headers than there is room for
 pub record HasManyHeaders (room : ℕ) (buf : List ℕ) : Type 0 where
   pub head : RequestHead
@@ -36,29 +44,30 @@ pub record HasManyHeaders (room : ℕ) (buf : List ℕ) : Type 0 where
   pub many : room < length head.fields
 
 pub many_headers : (room : ℕ) (buf : List ℕ) → RequestExceeds room buf → HasManyHeaders room buf
-many_headers room buf (front, rest, whole, h, reads, many) =
-    let cut = cut_end front (print_lines h) h.last (reads.1 ∙ print_request-lines h) in
-    let after : List ℕ = cut.0 ++ rest in
-    let parts : buf ≡ print_lines h ++ after = whole ∙ ap (λ (x : List ℕ). x ++ rest) cut.1 ∙ append_assoc (print_lines h) cut.0 rest in
+many_headers room buf exceeds =
+    let found = exceeding room buf exceeds in
+    let h = found.0 in
+    let after = found.1 in
+    let is = found.2 in
     record {
       head = h;
       after = after;
       middle = flat_map print_field h.fields ++ after;
       start = (
         _,
-        (parts ∙ print_lines-append h after, Stops_token h.method _ reads.0.method.0 reads.0.method.1),
+        (found.3 ∙ print_lines-append h after, Stops_token h.method _ is.method.0 is.method.1),
         (
           _,
-          (reads.0.method.0, reads.0.method.1, refl),
+          (is.method.0, is.method.1, refl),
           (
             _,
-            ((reads.0.target.0, reads.0.target.1, refl), reads.0.target_text),
-            (_, (reads.0.minor, refl), refl),
+            ((is.target.0, is.target.1, refl), is.target_text),
+            (_, (is.minor, refl), refl),
           ),
         ),
       );
-      lines = (reads.0.fields, refl);
-      many = many;
+      lines = (is.fields, refl);
+      many = found.4;
     }
 
 -- a head whose headers have room is another

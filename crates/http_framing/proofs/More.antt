@@ -1,11 +1,11 @@
 -- What an input begins with stays there when more bytes have come, and one more item is read.
-use Rattle.std.proofs.Common.{◌≡◌, ℕ, ◌+◌, ◌-◌, List, [], ◌∷◌, ◌++◌, length, take, refl, ap, sym, ◌∙◌, subst, arith, append_assoc, length-append, inl, inr}
+use Rattle.std.proofs.Common.{◌≡◌, ℕ, ◌+◌, ◌-◌, List, [], ◌∷◌, ◌++◌, length, take, drop, refl, ap, sym, ◌∙◌, subst, arith, append_assoc, length-append, inl, inr}
 use Rattle.std.specs.Prelude.{IsFalse}
-use Rattle.std.proofs.Math.Seq.{take-append-add}
+use Rattle.std.proofs.Math.Seq.{take-append-add, take-append_seam}
 use Rattle.std.proofs.lemmas.Bool.{cases_lt}
-use Rattle.std.proofs.lemmas.List.{take-append-le, take_all, append-nil}
+use Rattle.std.proofs.lemmas.List.{take-append-le, take-append-drop, take_all, append-nil}
 use Rattle.std.proofs.lemmas.List.Elements.{All-head, All-tail}
-use Rattle.httparse.specs.Grammar.{RequestHead, HasNoRequest, NeverHasRequest, MayBecomeRequest}
+use Rattle.httparse.specs.Grammar.{lf, print_end, RequestHead, ReadsRequest, HasNoRequest, NeverHasRequest, MayBecomeRequest}
 use Rattle.httparse.specs.Spans.{RequestExceeds}
 use Rattle.httparse.proofs.GrammarLemmas.{ReadsRequest-append}
 use Rattle.http_framing.specs.Request.{head_limit, header_limit, Request, BeginsWithHead, BeginsWithRequest}
@@ -44,13 +44,33 @@ BeginsWithRequest-append bytes request after more (head, begins, asked) =
 
 -- ---- refusals
 
-NeverHasRequest-append : (bytes more : List ℕ) → NeverHasRequest bytes → NeverHasRequest (bytes ++ more)
+pub NeverHasRequest-append : (bytes more : List ℕ) → NeverHasRequest bytes → NeverHasRequest (bytes ++ more)
 NeverHasRequest-append bytes more never further =
     subst HasNoRequest (sym (append_assoc bytes more further)) (never (more ++ further))
 
-RequestExceeds-append : (room : ℕ) (bytes more : List ℕ) → RequestExceeds room bytes → RequestExceeds room (bytes ++ more)
+pub RequestExceeds-append : (room : ℕ) (bytes more : List ℕ) → RequestExceeds room bytes → RequestExceeds room (bytes ++ more)
 RequestExceeds-append room bytes more (front, rest, parts, head, reads, many) =
     (front, rest ++ more, ap (λ (x : List ℕ). x ++ more) parts ∙ append_assoc front rest more, head, reads, many)
+
+-- bytes that no head begins, and that have not too many headers, never get too many
+few_headers-append : (bytes more : List ℕ) → NeverHasRequest bytes → ¬ (RequestExceeds header_limit bytes) → ¬ (RequestExceeds header_limit (bytes ++ more))
+few_headers-append bytes more never few (front, rest, parts, head, reads, many) = elim (cases_lt (length front) (length bytes)) [
+  | inl within ↦
+      let beginning : take (length front) bytes ≡ front =
+      sym (take-append-le (length front) bytes more (omega arith)) ∙ ap (take (length front)) parts ∙ take-append_seam front rest in
+      let whole : bytes ≡ front ++ drop (length front) bytes =
+      sym (take-append-drop (length front) bytes) ∙ ap (λ (x : List ℕ). x ++ drop (length front) bytes) beginning in
+      few (front, drop (length front) bytes, whole, head, reads, many)
+  | inr beyond ↦
+      let beginning : bytes ≡ take (length bytes) front =
+      sym (take-append_seam bytes more) ∙ ap (take (length bytes)) parts ∙ take-append-le (length bytes) front rest beyond in
+      let left : List ℕ = drop (length bytes) front in
+      let whole : front ≡ bytes ++ left =
+      sym (take-append-drop (length bytes) front) ∙ ap (λ (x : List ℕ). x ++ left) (sym beginning) in
+      let P : List ℕ → Type 0 = λ x. ReadsRequest x head [] in
+      never (left ++ print_end lf) head []
+      (subst P (ap (λ (x : List ℕ). x ++ print_end lf) whole ∙ append_assoc bytes left (print_end lf)) reads)
+]
 
 HasLargeHead-append : (bytes more : List ℕ) → HasLargeHead bytes → HasLargeHead (bytes ++ more)
 HasLargeHead-append bytes more (inl (full, none, may)) =
@@ -65,9 +85,12 @@ HasBadBody-append : (bytes more : List ℕ) (fault : FramingFault) → HasBadBod
 HasBadBody-append bytes more fault (head, after, begins, bad) = (head, after ++ more, BeginsWithHead-append bytes head after more begins, bad)
 
 pub IsRefused-append : (bytes more : List ℕ) (fault : FramingFault) → IsRefused bytes fault → IsRefused (bytes ++ more) fault
-IsRefused-append bytes more Head never =
+IsRefused-append bytes more Head (never, few) =
     let window = take-append head_limit bytes more in
-    subst NeverHasRequest (sym window.1) (NeverHasRequest-append (head_window bytes) window.0 never)
+    let P : List ℕ → Type 0 = λ x. ¬ (RequestExceeds header_limit x) in (
+      subst NeverHasRequest (sym window.1) (NeverHasRequest-append (head_window bytes) window.0 never),
+      subst P (sym window.1) (few_headers-append (head_window bytes) window.0 never few),
+    )
 IsRefused-append bytes more LargeHead large = HasLargeHead-append bytes more large
 IsRefused-append bytes more TransferEncoding bad = HasBadBody-append bytes more TransferEncoding bad
 IsRefused-append bytes more ContentLength bad = HasBadBody-append bytes more ContentLength bad

@@ -85,5 +85,5 @@ not_text bytes target (front.More more) line other is =
     absurd (still_unfinished (subst IsUnfinished (append-nil bytes) (is.unfinished [] is.some)))
   where
     still_unfinished : IsUnfinished bytes → ⊥
-    still_unfinished (inl (short, none, may)) = not_unfinished line other (subst MayBecomeRequest (sym (head_window-short bytes short)) may)
+    still_unfinished (inl (short, none, may, few)) = not_unfinished line other (subst MayBecomeRequest (sym (head_window-short bytes short)) may)
     still_unfinished (inr (head, after, len, begins, said, short)) = no_head bytes head after (never_head line other) begins

@@ -2,13 +2,14 @@
 use Rattle.std.proofs.Common.{◌≡◌, ℕ, ◌+◌, ◌-◌, List, [], ◌∷◌, ◌++◌, length, take, drop, refl, ap, sym, ◌∙◌, subst, arith, Result, Ok, inl, inr, ◌⊎◌}
 use Rattle.std.specs.List.{AllZip}
 use Rattle.std.proofs.Math.Seq.{take-append_seam, drop-append_seam, take-append-add}
-use Rattle.httparse.specs.Grammar.{RequestHead, print_request, ReadsRequest}
+use Rattle.httparse.specs.Grammar.{RequestHead, print_request, ReadsRequest, NeverHasRequest, EndsInTarget}
 use Rattle.httparse.proofs.GrammarLemmas.{request_unique, ReadsRequest-append}
 use Rattle.http_framing.specs.Headers.{headers_of}
 use Rattle.http_framing.specs.Body.{body_length}
 use Rattle.http_framing.specs.Request.{head_limit, header_limit, Request, IsAskedBy, BeginsWithHead, BeginsWithRequest}
 use Rattle.http_framing.specs.Refusal.{head_window, HasLargeHead, HasBadBody, IsRefused, HasEitherFault, IsHeadFault}
-use Rattle.http_framing.specs.Input.{Item, Asked, Refused, Begins, Splits, AreAlike}
+use Rattle.http_framing.specs.Input.{Item, Asked, Refused, Begins, Splits, AreAlike, EndsInHead, IsUnfinished}
+use Rattle.http_framing.proofs.Heads.{head_window-short}
 use Rattle.http_framing.proofs.ManyHeaders.{no_head_with_room}
 use Rattle.http_framing.specs.declared.FramingFault.{FramingFault}
 use Rattle.http_framing.specs.declared.FramingFault.TheVariants.{Head, LargeHead, TransferEncoding, ContentLength, LargeBody}
@@ -52,7 +53,7 @@ head_not_refused : (bytes : List ℕ) (head : RequestHead) (after : List ℕ) (f
     → IsHeadFault fault → IsRefused bytes fault → ⊥
 head_not_refused bytes head after fault begins (inl never) refused =
     let inner = head_in_window bytes head after begins in
-    subst (IsRefused bytes) never refused [] head _ (ReadsRequest-append _ head inner.0 [] inner.1)
+    (subst (IsRefused bytes) never refused).0 [] head _ (ReadsRequest-append _ head inner.0 [] inner.1)
 head_not_refused bytes head after fault begins (inr large) refused =
     no_large (subst (IsRefused bytes) large refused)
   where
@@ -100,6 +101,38 @@ one_fault bytes f g x y = either (head_or_body bytes f x) (head_or_body bytes g 
     either (inr (h, r, b, bad)) (inr (k, q, c, worse)) =
         let same = sym bad ∙ same_length bytes h k r q b c ∙ worse in inl (cc)
 
+-- ---- what is unfinished
+
+-- what begins with a head is not refused but for its body
+head_and_fault : (bytes : List ℕ) (head : RequestHead) (after : List ℕ) (len : ℕ) (fault : FramingFault) → BeginsWithHead bytes head after
+    → body_length (headers_of head) ≡ Ok len → IsRefused bytes fault → ⊥
+head_and_fault bytes head after len fault begins said refused =
+    not_both (head_or_body bytes fault refused)
+  where
+    not_both : IsHeadFault fault ⊎ HasBadBody bytes fault → ⊥
+    not_both (inl of_head) = head_not_refused bytes head after fault begins of_head refused
+    not_both (inr (k, x, other, bad)) = let same = sym said ∙ same_length bytes head k after x begins other ∙ bad in absurd (cc)
+
+-- what may become a head is not refused for its headers, nor for its body
+part_and_fault : (bytes : List ℕ) (fault : FramingFault) → EndsInHead bytes → IsHeadFault fault ⊎ HasBadBody bytes fault → IsRefused bytes fault
+    → (fault ≡ Head) × EndsInTarget bytes
+part_and_fault bytes fault (short, none, may, few) (inr (head, after, begins, bad)) refused = absurd (none head after begins.reads)
+part_and_fault bytes fault (short, none, may, few) (inl (inr large)) refused =
+    not_large (subst (IsRefused bytes) large refused)
+  where
+    not_large : HasLargeHead bytes → (fault ≡ Head) × EndsInTarget bytes
+    not_large (inl (full, nothing, more)) = absurd (omega (arith, full, short))
+    not_large (inr exceeds) = absurd (few exceeds)
+part_and_fault bytes fault (short, none, inr in_target, few) (inl (inl of_head)) refused = (of_head, in_target)
+part_and_fault bytes fault (short, none, inl (more, head, reads), few) (inl (inl of_head)) refused =
+    let never = subst NeverHasRequest (head_window-short bytes short) (subst (IsRefused bytes) of_head refused).0 in
+    absurd (never more head [] reads)
+
+pub unfinished_refused : (bytes : List ℕ) (fault : FramingFault) → IsUnfinished bytes → IsRefused bytes fault → (fault ≡ Head) × EndsInTarget bytes
+unfinished_refused bytes fault (inl part) refused = part_and_fault bytes fault part (head_or_body bytes fault refused) refused
+unfinished_refused bytes fault (inr (head, after, len, begins, said, short)) refused =
+    absurd (head_and_fault bytes head after len fault begins said refused)
+
 pub one_item : (bytes : List ℕ) (item other : Item) (x y : List ℕ) → Begins bytes item x → Begins bytes other y → AreAlike item other × (x ≡ y)
 one_item bytes (Asked r) (Asked q) x y b c = one_request bytes r q x y b c
 one_item bytes (Asked r) (Refused g) x y b c = absurd (request_not_refused bytes r x g b c.0)
@@ -118,6 +151,6 @@ one_reading bytes (item ∷ items) (other ∷ others) rest after (x, b, last, s)
     ((one.0, more.0), more.1)
 
 pub either_fault : (bytes : List ℕ) → IsRefused bytes Head → IsRefused bytes LargeHead → HasEitherFault bytes
-either_fault bytes never (inl (full, none, inl (more, head, reads))) = absurd (never more head [] reads)
-either_fault bytes never (inl (full, none, inr in_target)) = inr (full, in_target)
-either_fault bytes never (inr exceeds) = inl exceeds
+either_fault bytes (never, few) (inl (full, none, inl (more, head, reads))) = absurd (never more head [] reads)
+either_fault bytes (never, few) (inl (full, none, inr in_target)) = (full, in_target)
+either_fault bytes (never, few) (inr exceeds) = absurd (few exceeds)

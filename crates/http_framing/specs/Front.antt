@@ -1,12 +1,16 @@
 -- What the front of a connection's bytes is.
-use Rattle.std.specs.Prelude.{ℕ, ◌+◌, ◌<◌, ◌≤◌, List, ◌++◌, length, drop}
+use Rattle.std.specs.Prelude.{◌≡◌, ℕ, ◌+◌, ◌<◌, ◌≤◌, List, ◌++◌, length, take, drop}
 use Rattle.httparse.specs.Spans.{span_bytes, IsWithin}
-use Rattle.http_framing.specs.Request.{Request, BeginsWithRequest}
+use Rattle.http_framing.specs.Request.{head_limit, Request, BeginsWithRequest}
 use Rattle.http_framing.specs.Refusal.{IsRefused}
 use Rattle.http_framing.specs.Input.{request_limit, IsUnfinished}
 use Rattle.http_framing.specs.declared.front.RequestSpans.{RequestSpans}
 use Rattle.http_framing.specs.declared.front.Front.{Front}
 use Rattle.http_framing.specs.declared.front.Front.TheVariants as front
+
+-- the first bytes of those in which a head has to end
+abbrev pub IsFrontOfWindow : List ℕ → List ℕ → Type 0
+IsFrontOfWindow front bytes = (n : ℕ) × (n ≤ head_limit) × (front ≡ take n bytes)
 
 -- the request whose parts the spans cover
 abbrev pub request_at : List ℕ → RequestSpans → Request

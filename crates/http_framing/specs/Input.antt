@@ -4,7 +4,7 @@ use Rattle.httparse.specs.Grammar.{RequestHead, HasNoRequest, MayBecomeRequest}
 use Rattle.http_framing.specs.Headers.{headers_of}
 use Rattle.http_framing.specs.Body.{body_length, body_limit}
 use Rattle.http_framing.specs.Request.{head_limit, Request, BeginsWithHead, BeginsWithRequest}
-use Rattle.http_framing.specs.Refusal.{IsRefused, IsHeadFault}
+use Rattle.http_framing.specs.Refusal.{HasManyHeaders, IsRefused, IsHeadFault}
 use Rattle.http_framing.specs.declared.FramingFault.{FramingFault}
 
 -- the most bytes of a request
@@ -49,7 +49,11 @@ EndsInBody bytes =
     (head : RequestHead) × (after : List ℕ) × (len : ℕ)
     × BeginsWithHead bytes head after × (body_length (headers_of head) ≡ Ok len) × (length after < len)
 
+-- the bytes are less than a head, which may still come and has not too many headers yet
+abbrev pub EndsInHead : List ℕ → Type 0
+EndsInHead bytes =
+    (length bytes < head_limit) × HasNoRequest bytes × MayBecomeRequest bytes × ¬ (HasManyHeaders bytes)
+
 -- the bytes are less than a request, which may still come
 abbrev pub IsUnfinished : List ℕ → Type 0
-IsUnfinished bytes =
-    ((length bytes < head_limit) × HasNoRequest bytes × MayBecomeRequest bytes) ⊎ EndsInBody bytes
+IsUnfinished bytes = EndsInHead bytes ⊎ EndsInBody bytes

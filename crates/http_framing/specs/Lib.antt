@@ -5,5 +5,6 @@ pub mod Refusal
 pub mod Input
 pub mod Front
 pub mod Occurs
+pub mod Lines
 pub use Rattle.httparse.specs.Grammar
 pub use Rattle.httparse.specs.Spans

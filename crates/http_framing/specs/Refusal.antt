@@ -17,11 +17,15 @@ head_window bytes = take head_limit bytes
 abbrev pub FillWindow : List ℕ → Type 0
 FillWindow bytes = head_limit ≤ length bytes
 
+-- a head begins the bytes that has more headers than are taken, whether it ends or not
+abbrev pub HasManyHeaders : List ℕ → Type 0
+HasManyHeaders bytes = RequestExceeds header_limit (head_window bytes)
+
 -- the window is full of a head that has not ended, or has more headers than are taken
 abbrev pub HasLargeHead : List ℕ → Type 0
 HasLargeHead bytes =
     (FillWindow bytes × HasNoRequest (head_window bytes) × MayBecomeRequest (head_window bytes))
-    ⊎ RequestExceeds header_limit (head_window bytes)
+    ⊎ HasManyHeaders bytes
 
 -- the bytes begin with a head whose body has no length that is taken
 abbrev pub HasBadBody : List ℕ → FramingFault → Type 0
@@ -31,16 +35,15 @@ HasBadBody bytes fault =
 
 -- the bytes are refused for this fault, whatever follows
 abbrev pub IsRefused : List ℕ → FramingFault → Type 0
-IsRefused bytes Head = NeverHasRequest (head_window bytes)
+IsRefused bytes Head = NeverHasRequest (head_window bytes) × ¬ (HasManyHeaders bytes)
 IsRefused bytes LargeHead = HasLargeHead bytes
 IsRefused bytes TransferEncoding = HasBadBody bytes TransferEncoding
 IsRefused bytes ContentLength = HasBadBody bytes ContentLength
 IsRefused bytes LargeBody = HasBadBody bytes LargeBody
 
--- a head that may be refused for either of its two faults: it has more headers than are taken, or its target
--- does not end in the window
+-- a head that may be refused for either of its two faults: its target does not end in the window
 abbrev pub HasEitherFault : List ℕ → Type 0
-HasEitherFault bytes = RequestExceeds header_limit (head_window bytes) ⊎ (FillWindow bytes × EndsInTarget (head_window bytes))
+HasEitherFault bytes = FillWindow bytes × EndsInTarget (head_window bytes)
 
 -- the fault is about the head
 abbrev pub IsHeadFault : FramingFault → Type 0

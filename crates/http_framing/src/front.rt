@@ -4,9 +4,10 @@ ghost use Rattle.std.specs.Prelude.{◌≡◌, ◌≤◌, length};
 ghost use Rattle.httparse.specs.Spans.{IsRequestOf as IsHeadOf, IsRequestWithin as IsHeadWithin};
 ghost use Rattle.http_framing.specs.Request.{header_limit};
 ghost use Rattle.http_framing.specs.Refusal.{head_window};
-ghost use Rattle.http_framing.specs.Front.{IsRequestAt, IsFrontOf, request_at};
+ghost use Rattle.http_framing.specs.Front.{IsFrontOfWindow, IsRequestAt, IsFrontOf, request_at};
 
 use crate::headers::{body_length, closes};
+use crate::lines::first_lines;
 use crate::request::Request;
 use crate::{FramingFault, HEAD_LIMIT, HEADER_LIMIT};
 use httparse::spans::{
@@ -72,7 +73,7 @@ fn head_window(bytes: &[u8]) -> &[u8]
 
 /// What the bytes begin with, by the head that was found in them.
 fn front_of_head(bytes: &[u8], window: &[u8], headers: &[HeaderSpan], head: HeadSpans) -> Front
-    requires window { window.now ≡ head_window bytes.now }
+    requires window { IsFrontOfWindow window.now bytes.now }
     requires room { length headers.now ≤ header_limit }
     requires within { IsHeadWithin window.now headers.now head }
     requires complete { IsHeadOf window.now headers.now head }
@@ -102,11 +103,11 @@ fn front_of_head(bytes: &[u8], window: &[u8], headers: &[HeaderSpan], head: Head
 pub fn read_front(bytes: &[u8]) -> Front
     ensures { IsFrontOf bytes.now result }
 {
-    let window = head_window(bytes);
+    let lines = first_lines(head_window(bytes));
     let mut headers = [EMPTY_HEADER_SPAN; HEADER_LIMIT];
-    match parse_request(window, &mut headers) {
-        Ok(Status::Complete(head)) => front_of_head(bytes, window, &headers, head),
-        Ok(Status::Partial) if bytes.len() < HEAD_LIMIT => Front::More(1),
+    match parse_request(lines.bytes, &mut headers) {
+        Ok(Status::Complete(head)) => front_of_head(bytes, lines.bytes, &headers, head),
+        Ok(Status::Partial) if !lines.are_many && bytes.len() < HEAD_LIMIT => Front::More(1),
         Ok(Status::Partial) | Err(Error::TooManyHeaders) => Front::Refused(FramingFault::LargeHead),
         Err(_) => Front::Refused(FramingFault::Head),
     }

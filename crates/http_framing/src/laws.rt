@@ -4,6 +4,7 @@ ghost use Rattle.std.specs.Prelude.{◌≡◌, ℕ, ◌+◌, ◌<◌, ◌≤◌,
 ghost use Rattle.std.specs.List.{AllZip};
 ghost use Rattle.http_framing.specs.Request.{Request, BeginsWithRequest};
 ghost use Rattle.http_framing.specs.Input.{request_limit, Item, Begins, Splits, AreOpen, AreAlike, IsUnfinished};
+ghost use Rattle.httparse.specs.Grammar.{EndsInTarget};
 ghost use Rattle.http_framing.specs.Front.{IsFrontOf};
 ghost use Rattle.http_framing.specs.Refusal.{head_window, IsRefused, HasEitherFault, HasTarget};
 
@@ -18,11 +19,18 @@ pub fn one_reading()
         → AllZip AreAlike items others × (rest ≡ after) }
 {}
 
-/// A head is refused for either of two faults only where it has too many headers, or where its
-/// target does not end in the first [`HEAD_LIMIT`](crate::HEAD_LIMIT) bytes.
+/// A head is refused for either of two faults only where its target does not end in the first
+/// [`HEAD_LIMIT`](crate::HEAD_LIMIT) bytes.
 pub fn either_fault()
     ensures { (bytes : List ℕ) → IsRefused bytes FramingFault.Head
         → IsRefused bytes FramingFault.LargeHead → HasEitherFault bytes }
+{}
+
+/// What is unfinished is not refused, but where its target has not ended and is no text: that is
+/// told at its end.
+pub fn unfinished_or_refused()
+    ensures { (bytes : List ℕ) (fault : FramingFault) → IsUnfinished bytes → IsRefused bytes fault
+        → (fault ≡ FramingFault.Head) × EndsInTarget bytes }
 {}
 
 /// What an input begins with stays there when more bytes have come.

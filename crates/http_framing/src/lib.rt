@@ -8,6 +8,7 @@
 pub mod front;
 mod headers;
 pub mod laws;
+mod lines;
 pub mod request;
 
 /// The most bytes of a head.
