@@ -4,3 +4,4 @@ pub mod Feeds
 pub mod Opened
 pub mod Local
 pub mod Decide
+pub mod Forms

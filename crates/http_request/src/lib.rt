@@ -7,6 +7,7 @@
 mod asked;
 mod feed;
 mod identity;
+pub mod laws;
 mod local;
 mod opened;
 mod parameter;

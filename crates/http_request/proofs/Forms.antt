@@ -1,0 +1,168 @@
+-- Each request asks for a command in a form in which it is told.
+use Rattle.std.proofs.Common.{◌≡◌, ℕ, Bool, true, false, List, [], ◌∷◌, Option, None, Some, Ok, Err, subst}
+use Rattle.std.specs.Prelude.{IfOk, if◌then◌else◌, codes, not, ◌||◌}
+use Rattle.std.specs.Str.{bytes_eq}
+use Rattle.http_framing.specs.Request.{Request}
+use Rattle.http_target.specs.Target.{path_of, query_of}
+use Rattle.http_target.specs.Query.{Parameters, parameter, parameters_of}
+use Rattle.http_routes.specs.declared.Route.{Route}
+use Rattle.http_routes.specs.declared.Route.TheVariants as route
+use Rattle.http_routes.specs.declared.Method.{Method}
+use Rattle.http_routes.specs.declared.Method.TheVariants as method
+use Rattle.model.specs.Command.{Command, Id}
+use Rattle.model.specs.Query.{Options, Style}
+use Rattle.http_bodies.specs.Steps.{Checked, and_then, or_refused, check}
+use Rattle.http_bodies.specs.Each.{each}
+use Rattle.http_bodies.specs.Text.{json_of}
+use Rattle.http_bodies.specs.Lists.{text_list_of, rev_in}
+use Rattle.http_bodies.specs.declared.refusal.Reason.TheVariants as reason
+use Rattle.http_bodies.specs.Bulk.{bulk_of, command_in, documents_in, edit_in, listed_in, merge_in, new_edits_in}
+use Rattle.http_bodies.specs.Document.{edit_of, parts_in}
+use Rattle.http_bodies.specs.Limit.{limit_of}
+use Rattle.http_bodies.specs.Local.{counter_in, counter_over, local_document_of, local_edit_of}
+use Rattle.http_bodies.specs.Difference.{difference_of}
+use Rattle.http_request.specs.Decide.{decide, route_in, method_in, asked_of, get_document, opened_or_got, put_document, post_bulk}
+use Rattle.http_request.specs.Feeds.{all_docs_of, asks_for_keys, asks_for_other_changes, asks_for_range, changes_of, changes_since, is_normal, style_in}
+use Rattle.http_request.specs.Forms.{IsFormOf, HasForm}
+use Rattle.http_request.specs.Identity.{path_id}
+use Rattle.http_request.specs.Local.{rev_text, put_local}
+use Rattle.http_request.specs.Opened.{open_leaves, open_listed, open_revs_of}
+use Rattle.http_request.specs.Parameters.{asks_for_documents, is_given, number_parameter, options_of, rev_parameter, no_replication}
+use Rattle.http_request.specs.declared.asked.Asked.{Asked}
+use Rattle.http_request.specs.declared.asked.Asked.TheVariants as asked
+use Rattle.http_request.specs.declared.asked.Form.{Form}
+use Rattle.http_request.specs.declared.asked.Form.TheVariants as form
+
+-- what holds of whatever the last check finds
+after : {X Y : Type 0} (checked : Checked X) (next : X → Checked Y) (P : Y → Type 0) → ((x : X) → IfOk (next x) P) → IfOk (and_then checked next) P
+after (Ok x) next P all = all x
+after (Err refusal) next P all = tt
+
+-- the same, where something holds of what the check before finds
+after_such : {X Y : Type 0} (checked : Checked X) (next : X → Checked Y) (Q : X → Type 0) (P : Y → Type 0) → IfOk checked Q → ((x : X) → Q x → IfOk (next x) P)
+    → IfOk (and_then checked next) P
+after_such (Ok x) next Q P such all = all x such
+after_such (Err refusal) next Q P such all = tt
+
+either_way : {Y : Type 0} (test : Bool) (x y : Checked Y) (P : Y → Type 0) → IfOk x P → IfOk y P → IfOk (if test then x else y) P
+either_way true x y P p q = p
+either_way false x y P p q = q
+
+open_revs-fits : (id : Id) (options : Options) (text : List ℕ) (parameters : Parameters) → IfOk (open_revs_of id options text parameters) HasForm
+open_revs-fits id options text parameters =
+    either_way (bytes_eq text (codes "all")) (open_leaves id options parameters) (open_listed id options text parameters) HasForm
+    (after (rev_parameter parameters) _ HasForm (λ _. tt))
+    (after (or_refused (text_list_of text) reason.Parameter) _ HasForm (λ values.
+    after (rev_parameter parameters) _ HasForm (λ _.
+    after (each rev_in values) _ HasForm (λ revs. tt))))
+
+opened-fits : (id : Id) (options : Options) (parameters : Parameters) (asked : Option (List ℕ)) → IfOk (opened_or_got id options parameters asked) HasForm
+opened-fits id options parameters (Some text) = open_revs-fits id options text parameters
+opened-fits id options parameters None = after (rev_parameter parameters) _ HasForm (λ rev. tt)
+
+get_document-fits : (path query : List ℕ) → IfOk (get_document path query) HasForm
+get_document-fits path query =
+    after (path_id path) _ HasForm (λ id.
+    after (options_of (parameters_of query)) _ HasForm (λ options.
+    opened-fits id options (parameters_of query) (parameter (codes "open_revs") (parameters_of query))))
+
+put_document-fits : (path query body : List ℕ) → IfOk (put_document path query body) HasForm
+put_document-fits path query body =
+    after (path_id path) _ HasForm (λ id.
+    after (no_replication (parameters_of query)) _ HasForm (λ _.
+    after (rev_parameter (parameters_of query)) _ HasForm (λ rev.
+    after (edit_of id rev body) _ HasForm (λ edit. tt))))
+
+local_edit-fits : (id : Id) (rev : Option (List ℕ)) (body : List ℕ) → IfOk (local_edit_of id rev body) (IsFormOf form.Put)
+local_edit-fits id rev body =
+    after (counter_in rev) _ (IsFormOf form.Put) (λ counter.
+    after (local_document_of body) _ (IsFormOf form.Put) (λ parts.
+    after (counter_over id counter parts) _ (IsFormOf form.Put) (λ named. tt)))
+
+put_local-fits : (path query body : List ℕ) → IfOk (put_local path query body) HasForm
+put_local-fits path query body =
+    after (path_id path) _ HasForm (λ id.
+    after_such (local_edit_of id (rev_text query) body) _ (IsFormOf form.Put) HasForm (local_edit-fits id (rev_text query) body) (λ command fits. fits))
+
+writes-fit : (new_edits : Bool) (documents : _) → IfOk (command_in new_edits documents) (IsFormOf form.Whole)
+writes-fit true documents = after (each edit_in documents) _ (IsFormOf form.Whole) (λ edits. tt)
+writes-fit false documents = after (each merge_in documents) _ (IsFormOf form.Whole) (λ merges. tt)
+
+bulk-fits : (body : List ℕ) → IfOk (post_bulk body) HasForm
+bulk-fits body = after_such (bulk_of body) _ (IsFormOf form.Whole) HasForm whole (λ command fits. fits)
+  where
+    whole : IfOk (bulk_of body) (IsFormOf form.Whole)
+    whole =
+        after (json_of body) _ (IsFormOf form.Whole) (λ value.
+        after (or_refused (listed_in value) reason.Shape) _ (IsFormOf form.Whole) (λ values.
+        after (each parts_in values) _ (IsFormOf form.Whole) (λ found.
+        after (or_refused (new_edits_in value) reason.Shape) _ (IsFormOf form.Whole) (λ new_edits.
+        after (documents_in new_edits found) _ (IsFormOf form.Whole) (λ documents. writes-fit new_edits documents)))))
+
+since-fits : (limit : Option ℕ) (style : Style) (parameters : Parameters) → IfOk (changes_since limit style parameters) HasForm
+since-fits limit style parameters =
+    either_way (is_given (codes "since") (codes "now") parameters) (Ok (asked.ChangesFromNow limit style)) _ HasForm tt
+    (after (number_parameter (codes "since") parameters) _ HasForm (λ since. tt))
+
+changes-fits : (parameters : Parameters) → IfOk (changes_of parameters) HasForm
+changes-fits parameters =
+    after (check (not (asks_for_other_changes parameters)) reason.Parameter) _ HasForm (λ _.
+    after (check (is_normal parameters) reason.Parameter) _ HasForm (λ _.
+    after (style_in (parameter (codes "style") parameters)) _ HasForm (λ style.
+    after (number_parameter (codes "limit") parameters) _ HasForm (λ limit. since-fits limit style parameters))))
+
+all_docs-fits : (parameters : Parameters) → IfOk (all_docs_of parameters) HasForm
+all_docs-fits parameters =
+    after (check (not (asks_for_documents parameters || asks_for_keys parameters || asks_for_range parameters)) reason.Parameter) _ HasForm (λ _. tt)
+
+asked-fits : (route : Route) (method : Method) (path query body : List ℕ) → IfOk (asked_of route method path query body) HasForm
+asked-fits route.Root method.Get path query body = tt
+asked-fits route.Root method.Put path query body = tt
+asked-fits route.Root method.Post path query body = tt
+asked-fits route.Root method.Delete path query body = tt
+asked-fits route.Database method.Get path query body = tt
+asked-fits route.Database method.Put path query body = tt
+asked-fits route.Database method.Post path query body = tt
+asked-fits route.Database method.Delete path query body = tt
+asked-fits route.DatabaseSlash method.Get path query body = tt
+asked-fits route.DatabaseSlash method.Put path query body = tt
+asked-fits route.DatabaseSlash method.Post path query body = tt
+asked-fits route.DatabaseSlash method.Delete path query body = tt
+asked-fits route.AllDocs method.Get path query body = all_docs-fits (parameters_of query)
+asked-fits route.AllDocs method.Put path query body = tt
+asked-fits route.AllDocs method.Post path query body = tt
+asked-fits route.AllDocs method.Delete path query body = tt
+asked-fits route.BulkDocs method.Get path query body = tt
+asked-fits route.BulkDocs method.Put path query body = tt
+asked-fits route.BulkDocs method.Post path query body = bulk-fits body
+asked-fits route.BulkDocs method.Delete path query body = tt
+asked-fits route.Changes method.Get path query body = changes-fits (parameters_of query)
+asked-fits route.Changes method.Put path query body = tt
+asked-fits route.Changes method.Post path query body = tt
+asked-fits route.Changes method.Delete path query body = tt
+asked-fits route.Local method.Get path query body = after (path_id path) _ HasForm (λ id. tt)
+asked-fits route.Local method.Put path query body = put_local-fits path query body
+asked-fits route.Local method.Post path query body = tt
+asked-fits route.Local method.Delete path query body = after (path_id path) _ HasForm (λ id. after (counter_in (rev_text query)) _ HasForm (λ counter. tt))
+asked-fits route.RevsDiff method.Get path query body = tt
+asked-fits route.RevsDiff method.Put path query body = tt
+asked-fits route.RevsDiff method.Post path query body = after (difference_of body) _ HasForm (λ named. tt)
+asked-fits route.RevsDiff method.Delete path query body = tt
+asked-fits route.RevsLimit method.Get path query body = tt
+asked-fits route.RevsLimit method.Put path query body = after (limit_of body) _ HasForm (λ limit. tt)
+asked-fits route.RevsLimit method.Post path query body = tt
+asked-fits route.RevsLimit method.Delete path query body = tt
+asked-fits route.Document method.Get path query body = get_document-fits path query
+asked-fits route.Document method.Put path query body = put_document-fits path query body
+asked-fits route.Document method.Post path query body = tt
+asked-fits route.Document method.Delete path query body = after (path_id path) _ HasForm (λ id. after (rev_parameter (parameters_of query)) _ HasForm (λ rev. tt))
+
+pub decided-fits : (request : Request) → IfOk (decide request) HasForm
+unfolding decide
+decided-fits request =
+    after (route_in (path_of request.target)) _ HasForm (λ route.
+    after (method_in route request.method) _ HasForm (λ method.
+    asked-fits route method (path_of request.target) (query_of request.target) request.body))
+
+pub form_fits : (request : Request) (form : Form) (command : Command) → decide request ≡ Ok (asked.Command form command) → IsFormOf form command
+form_fits request form command is = subst (λ d. IfOk d HasForm) is (decided-fits request)

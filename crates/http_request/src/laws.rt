@@ -1,0 +1,15 @@
+//! What holds of all requests.
+
+ghost use Rattle.std.specs.Prelude.{◌≡◌, Ok};
+ghost use Rattle.http_framing.specs.Request.{Request};
+ghost use Rattle.model.specs.Command.{Command};
+ghost use Rattle.http_request.specs.Decide.{decide};
+ghost use Rattle.http_request.specs.Forms.{IsFormOf};
+
+use crate::asked::{Asked, Form};
+
+/// A request asks for a command in a form in which such a command is told.
+pub fn forms_fit()
+    ensures { (request : Request) (form : Form) (command : Command)
+        → decide request ≡ Ok (Asked.Command form command) → IsFormOf form command }
+{}
