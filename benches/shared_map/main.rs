@@ -1,13 +1,11 @@
 //! The shared map beside Rust's `BTreeMap`: how long its calls take, and how often they grow.
 //!
-//! `times` prints times, and `growths` counts the growths of the last of 1,000 insertions by
-//! refusing each in turn. The library takes its memory by `rattle_alloc` and `rattle_dealloc`
-//! below, so this program counts and refuses its growths.
+//! The library takes its memory by `rattle_alloc` and `rattle_dealloc` below, so this program
+//! counts its growths.
 
 use std::collections::BTreeMap;
 use std::ffi::c_void;
 use std::hint::black_box;
-use std::process::ExitCode;
 use std::ptr::NonNull;
 use std::sync::atomic::{AtomicU64, Ordering::Relaxed};
 use std::time::Duration;
@@ -44,13 +42,7 @@ fn used() -> Duration {
     Duration::new(time.seconds as u64, time.nanoseconds as u32)
 }
 
-/// What a run of the library answers that was refused memory.
-const REFUSED: u64 = u64::MAX;
-
 static GROWTHS: AtomicU64 = AtomicU64::new(0);
-
-/// The growth that is refused, counted from 1; 0 refuses none.
-static REFUSE: AtomicU64 = AtomicU64::new(0);
 
 /// Whether the library got a block, and which.
 #[repr(C)]
@@ -61,13 +53,8 @@ pub struct Grown {
 
 #[unsafe(no_mangle)]
 pub extern "C" fn rattle_alloc(size: usize, _align: usize) -> Grown {
-    let growth = GROWTHS.load(Relaxed) + 1;
-    GROWTHS.store(growth, Relaxed);
-    let block = if growth == REFUSE.load(Relaxed) {
-        None
-    } else {
-        NonNull::new(unsafe { malloc(size) })
-    };
+    GROWTHS.store(GROWTHS.load(Relaxed) + 1, Relaxed);
+    let block = NonNull::new(unsafe { malloc(size) });
     Grown {
         ok: block.is_some(),
         block: block.unwrap_or(NonNull::dangling()),
@@ -81,30 +68,11 @@ pub unsafe extern "C" fn rattle_dealloc(block: *mut c_void) {
     unsafe { free(block) }
 }
 
-/// A run that inserts the keys and refuses one growth: its answer, and how often it grew.
-fn insert(keys: &[u64], refuse: u64) -> (u64, u64) {
+/// A run that inserts the keys: the height of the map, and how often it grew.
+fn insert(keys: &[u64]) -> (u64, u64) {
     GROWTHS.store(0, Relaxed);
-    REFUSE.store(refuse, Relaxed);
-    let answer = unsafe { shared_map_insert(keys.as_ptr(), keys.len()) };
-    REFUSE.store(0, Relaxed);
-    (answer, GROWTHS.load(Relaxed))
-}
-
-/// Counts the growths of the last of 1,000 insertions: each that is refused is an error.
-fn growths() -> ExitCode {
-    let keys: Vec<u64> = (0..1000).collect();
-    let (_, before) = insert(&keys[..999], 0);
-    let (height, _) = insert(&keys, 0);
-    let met = (1..)
-        .take_while(|n| insert(&keys, before + n).0 == REFUSED)
-        .count() as u64;
-    let most = 8 * (height + 1);
-    println!("the last of 1,000 insertions meets {met} growths, and may meet {most}");
-    if 0 < met && met <= most {
-        ExitCode::SUCCESS
-    } else {
-        ExitCode::FAILURE
-    }
+    let height = unsafe { shared_map_insert(keys.as_ptr(), keys.len()) };
+    (height, GROWTHS.load(Relaxed))
 }
 
 /// The keys 0 to `len - 1` in an order that looks random.
@@ -212,20 +180,14 @@ fn times_at(len: u64) {
         (count - insert) / asked.len() as f64,
         tree_count / few.len() as f64,
     );
-    let (height, growths) = self::insert(&keys, 0);
+    let (height, growths) = self::insert(&keys);
     println!(
         "\nheight {height}, growths for each insertion {:.1}",
         growths as f64 / each
     );
 }
 
-fn main() -> ExitCode {
-    match std::env::args().nth(1).as_deref() {
-        Some("growths") => growths(),
-        _ => {
-            times_at(1_000);
-            times_at(100_000);
-            ExitCode::SUCCESS
-        }
-    }
+fn main() {
+    times_at(1_000);
+    times_at(100_000);
 }

@@ -1,29 +1,50 @@
-/* Refuses one request for memory: the one whose number, from 1, stands in REFUSE. Loaded before the C library. */
+/* Counts requests for memory and refuses some: those whose numbers, from 1, are from REFUSE to LAST, or REFUSE alone where
+   there is no LAST. Where COUNT stands, the number of all requests is told at the end. Loaded before the C library. */
 #define _GNU_SOURCE
-#include <dlfcn.h>
 #include <errno.h>
+#include <stdio.h>
 #include <stdlib.h>
+#include <string.h>
 #include <unistd.h>
 
-static unsigned long made, refused_one, told;
+static unsigned long made, first_refused, last_refused, told;
+
+static unsigned long number(const char *name) {
+    const char *text = getenv(name);
+    return text ? strtoul(text, 0, 10) : 0;
+}
 
 static void start(void) {
     if (!told) {
-        const char *text = getenv("REFUSE");
-        refused_one = text ? strtoul(text, 0, 10) : 0;
+        first_refused = number("REFUSE");
+        last_refused = getenv("LAST") ? number("LAST") : first_refused;
         told = 1;
     }
 }
 
+static void tell(const char *line) {
+    if (write(2, line, strlen(line)) < 0)
+        _exit(99);
+}
+
 static int refuses(void) {
     start();
-    if (++made != refused_one)
+    made++;
+    if (made < first_refused || made > last_refused || !first_refused)
         return 0;
     /* the tester reads this line to know that a request was refused */
-    if (write(2, "refused\n", 8) != 8)
-        _exit(99);
+    if (made == first_refused)
+        tell("refused\n");
     errno = ENOMEM;
     return 1;
+}
+
+__attribute__((destructor)) static void end(void) {
+    char line[64];
+    if (getenv("COUNT")) {
+        snprintf(line, sizeof line, "requests %lu\n", made);
+        tell(line);
+    }
 }
 
 void *__libc_malloc(size_t);
