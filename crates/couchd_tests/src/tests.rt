@@ -52,7 +52,7 @@ impl Row<'_> {
             script: &[],
         });
         let setting = Setting::new(alloc)?;
-        let mut session = Session::new(alloc);
+        let mut session = Session::new(alloc, 1_000_000);
         let ended = serve(alloc, &mut reader, &mut writer, &mut session, &setting);
         assert_eq!(rt; ended, self.ended);
         assert_eq!(rt; writer.into_inner().taken.as_slice(), self.output);
