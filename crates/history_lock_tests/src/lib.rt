@@ -1,5 +1,0 @@
-//! Sessions at work.
-#![tactic(auto)]
-
-#[cfg(test)]
-mod tests;

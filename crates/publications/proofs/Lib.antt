@@ -1,4 +1,0 @@
-pub mod Prefixes
-pub mod Growing
-pub mod Publishing
-pub mod OneBook
