@@ -342,7 +342,10 @@ fn what_was_purged_is_not_there(rt: HostRuntime) -> Result<(), Fail> {
             (Asked::Counts, "live 1 deleted 0 update 4 purge 2"),
             (Asked::Winner("a", PLAIN), "missing"),
             (Asked::Leaves("d", PLAIN), "[d 2-b]"),
-            (Asked::Missing(&[("d", "3-c 2-d 1-a")]), "[d missing 3-c 2-d ancestors 2-b]"),
+            (
+                Asked::Missing(&[("d", "3-c 2-d 1-a")]),
+                "[d missing 3-c 2-d ancestors 2-b]",
+            ),
             (
                 Asked::Changes(0, None, StyleKind::MainOnly),
                 "[4 d 2-b][last 4 pending 0]",
