@@ -1,16 +1,16 @@
 -- Histories of a session that is alone.
-use Rattle.std.proofs.Common.{◌≡◌, ℕ, ◌+◌, ◌<◌, List, [], ◌∷◌, ◌++◌, length, refl, ap, sym, ◌∙◌, subst, arith, length-append, add-one, Some}
+use Rattle.std.proofs.Common.{◌≡◌, ℕ, ◌+◌, ◌<◌, List, [], ◌∷◌, ◌++◌, length, refl, ap, sym, ◌∙◌, subst, arith, length-append}
+use Rattle.std.specs.Prelude.{unwrap_or}
 use Rattle.std.proofs.lemmas.Bool.{cond-true}
 use Rattle.std.proofs.lemmas.List.Elements.{filter-append}
-use Rattle.model.specs.Map.{same_key, same_key_itself}
+use Rattle.model.specs.Map.{Map, empty, get, same_key, same_key_itself}
 use Rattle.model.specs.Command.{Command, Reply, Seat, Entry, IsCounter, numbers}
-use Rattle.model.specs.Database.{empty_database, calls_of, reply_to}
-use Rattle.model.specs.History.{IsLegal, replay, entry_of, of_session}
+use Rattle.model.specs.Database.{calls_of, reply_to}
+use Rattle.model.specs.History.{IsLegal, Chronicle, now, extended, entry_of, of_session}
 use Rattle.model.proofs.CallLaws.{calls-replay}
 use Rattle.model.proofs.HistoryLaws.{IsLegal-push, IsNext-entry_of}
-use Rattle.model.proofs.TellLaws.{Tells-last, slice_get-push}
-use Rattle.snapshots.specs.Version.{entry_at}
-use Rattle.http_front.specs.Outcome.{max_places}
+use Rattle.model.proofs.TellLaws.{Tells-last}
+use Rattle.http_front.specs.Known.{Known, history_of, sees_more, first_known}
 use Rattle.http_front.specs.Session.{IsAlone, WritesCall}
 
 pub of_session-append : (session : ℕ) (xs ys : List Entry) → of_session session (xs ++ ys) ≡ of_session session xs ++ of_session session ys
@@ -20,91 +20,71 @@ of_session-append session xs ys = filter-append (λ e. same_key numbers session 
 pub of_session-own : (session : ℕ) (entry : Entry) → entry.seat.session ≡ session → of_session session (entry ∷ []) ≡ entry ∷ []
 of_session-own session entry own = cond-true _ _ _ (ap (same_key numbers session) own ∙ same_key_itself numbers session)
 
--- all entries are calls of the session
-calls_of-alone : (session : ℕ) (history : List Entry) → IsAlone session history → calls_of (replay empty_database history) session ≡ length history
-calls_of-alone session history alone = calls-replay empty_database history session ∙ none (length (of_session session history)) ∙ ap length alone.own
-  where
-    none : (n : ℕ) → 0 + n ≡ n
-    none n = omega arith
+-- where all entries are calls of the session, its next call has a number
+pub IsCounter-next : (session : ℕ) (h : Chronicle) (call : ℕ) → of_session session h.entries ≡ h.entries → h.base.calls ≡ empty
+    → length h.entries < 4294967295 → call ≡ calls_of (now h) session + 1 → IsCounter call
+IsCounter-next session h call own uncalled room next =
+    let none : calls_of h.base session ≡ 0 = ap (λ (m : Map numbers ℕ). unwrap_or (get m session) 0) uncalled in
+    let calls = calls-replay h.base h.entries session in
+    (omega (arith, next), omega (arith, next, calls, none, ap length own, room))
 
--- so its next call has a number
-pub IsCounter-next : (session : ℕ) (history : List Entry) (call : ℕ) → IsAlone session history → length history < max_places
-    → call ≡ calls_of (replay empty_database history) session + 1 → IsCounter call
-IsCounter-next session history call alone room next =
-    let calls = calls_of-alone session history alone in
-    (omega (arith, next), omega (arith, next, calls, room))
+module _ (old : Known) (seat : Seat) (command : Command) (own : seat.session ≡ old.number) where
+  -- what is known after the call
+  abbrev added : Entry
+  added = entry_of (now (history_of old)) seat command
 
-module _ (session : ℕ) (old : List Entry) (seat : Seat) (command : Command) (own : seat.session ≡ session) where
-  -- the history with the call
-  abbrev after_call : List Entry
-  after_call = old ++ entry_of (replay empty_database old) seat command ∷ []
+  abbrev after_call : Known
+  after_call = sees_more old (added ∷ [])
 
-  length-after_call : length after_call ≡ length old + 1
-  length-after_call = length-append old (entry_of (replay empty_database old) seat command ∷ [])
+  length-after_call : length after_call.seen ≡ length old.seen + 1
+  length-after_call = length-append old.seen (added ∷ [])
 
-  of_session-after_call : of_session session after_call ≡ of_session session old ++ entry_of (replay empty_database old) seat command ∷ []
+  of_session-after_call : of_session old.number after_call.seen ≡ of_session old.number old.seen ++ added ∷ []
   of_session-after_call =
-      let entry = entry_of (replay empty_database old) seat command in
-      of_session-append session old (entry ∷ []) ∙ ap (λ (es : List Entry). of_session session old ++ es) (of_session-own session entry own)
+      of_session-append old.number old.seen (added ∷ []) ∙ ap (λ (es : List Entry). of_session old.number old.seen ++ es) (of_session-own old.number added own)
 
-  module _ (next : seat.call ≡ calls_of (replay empty_database old) seat.session + 1) (alone : IsAlone session old) where
-    legal_after_call : IsLegal empty_database after_call
-    legal_after_call =
-        let entry = entry_of (replay empty_database old) seat command in
-        (IsLegal-push empty_database old entry).1 (alone.legal, IsNext-entry_of (replay empty_database old) seat command next)
+  module _ (next : seat.call ≡ calls_of (now (history_of old)) seat.session + 1) (alone : IsAlone old) where
+    legal_after_call : IsLegal old.base after_call.seen
+    legal_after_call = (IsLegal-push old.base old.seen added).1 (alone.legal, IsNext-entry_of (now (history_of old)) seat command next)
 
     -- a call of the session leaves it alone
-    pub IsAlone-after_call : length old < max_places → IsAlone session (old ++ entry_of (replay empty_database old) seat command ∷ [])
+    IsAlone-after_call : length old.seen < old.room → IsAlone after_call
     IsAlone-after_call room = record {
       legal = legal_after_call;
-      own = of_session-after_call ∙ ap (λ (es : List Entry). es ++ entry_of (replay empty_database old) seat command ∷ []) alone.own;
+      own = of_session-after_call ∙ ap (λ (es : List Entry). es ++ added ∷ []) alone.own;
       room = omega (arith, room, length-after_call);
     }
 
     -- and is told
-    pub WritesCall-after_call : WritesCall session old seat command (length old + 1) (entry_of (replay empty_database old) seat command).reply (old ++ entry_of (replay empty_database old) seat command ∷ [])
+    WritesCall-after_call : WritesCall old seat command (length old.seen + 1) added.reply after_call
     WritesCall-after_call = record {
       legal = legal_after_call;
       seat = own;
-      more = entry_of (replay empty_database old) seat command ∷ [];
+      more = added ∷ [];
       extends = refl;
-      told = Tells-last empty_database old (entry_of (replay empty_database old) seat command);
+      told = Tells-last old.base old.seen added;
       calls = of_session-after_call;
     }
 
-module _ (old next : List Entry) (seat : Seat) (command : Command) (seat_is : seat ≡ record { session = 0; call = calls_of (replay empty_database old) 0 + 1 }) (next_is : next ≡ old ++ entry_of (replay empty_database old) seat command ∷ []) (alone : IsAlone 0 old) where
+module _ (room : ℕ) (old next : Chronicle) (seat : Seat) (command : Command) (seat_is : seat ≡ record { session = 0; call = calls_of (now old) 0 + 1 }) (next_is : next ≡ extended old (entry_of (now old) seat command ∷ [])) (alone : IsAlone (first_known room old)) where
+  abbrev before : Known
+  before = first_known room old
+
   is_own : seat.session ≡ 0
   is_own = ap (λ (s : Seat). s.session) seat_is
 
-  is_next : seat.call ≡ calls_of (replay empty_database old) seat.session + 1
-  is_next = ap (λ (s : Seat). s.call) seat_is ∙ ap (λ (n : ℕ). calls_of (replay empty_database old) n + 1) (sym is_own)
+  is_next : seat.call ≡ calls_of (now old) seat.session + 1
+  is_next = ap (λ (s : Seat). s.call) seat_is ∙ ap (λ (n : ℕ). calls_of (now old) n + 1) (sym is_own)
 
-  -- the next version is alone too
-  pub IsAlone-next : length old < max_places → IsAlone 0 next
-  IsAlone-next room = subst (IsAlone 0) (sym next_is) (IsAlone-after_call 0 old seat command is_own is_next alone room)
+  -- in the next version the session is alone too
+  pub IsAlone-next : length old.entries < room → IsAlone (first_known room next)
+  IsAlone-next more = subst (λ (h : Chronicle). IsAlone (first_known room h)) (sym next_is) (IsAlone-after_call before seat command is_own is_next alone more)
 
   -- and its last entry is told
-  pub WritesCall-next : (place : ℕ) (reply : Reply) → place ≡ length next → reply ≡ reply_to (replay empty_database old) command → WritesCall 0 old seat command place reply next
+  pub WritesCall-next : (place : ℕ) (reply : Reply) → place ≡ length next.entries → reply ≡ reply_to (now old) command → WritesCall before seat command place reply (first_known room next)
   WritesCall-next place reply at_last told =
-      let place_is : place ≡ length old + 1 = at_last ∙ ap length next_is ∙ length-after_call 0 old seat command is_own in
-      subst (λ (h : List Entry). WritesCall 0 old seat command place reply h) (sym next_is)
-      (subst (λ (p : ℕ). WritesCall 0 old seat command p reply (after_call 0 old seat command is_own)) (sym place_is)
-      (subst (λ (r : Reply). WritesCall 0 old seat command (length old + 1) r (after_call 0 old seat command is_own)) (sym told)
-      (WritesCall-after_call 0 old seat command is_own is_next alone)))
-
-  pub next-entry : (reply : Reply) → reply ≡ reply_to (replay empty_database old) command → next ≡ old ++ record { seat = seat; command = command; reply = reply } ∷ []
-  next-entry reply told = next_is ∙ ap (λ (r : Reply). old ++ record { seat = seat; command = command; reply = r } ∷ []) (sym told)
-
--- ---- the last entry
-
-pub entry_at-last : (front : List Entry) (entry : Entry) (n : ℕ) → n ≡ length (front ++ entry ∷ []) → entry_at (front ++ entry ∷ []) n ≡ Some entry
-entry_at-last front entry n is =
-    ap (entry_at (front ++ entry ∷ [])) (is ∙ length-append front (entry ∷ []) ∙ add-one (length front)) ∙ slice_get-push front entry
-
--- a history that is not empty has a last entry
-pub front_and_last : (history : List Entry) → 0 < length history → (front : List Entry) × (last : Entry) × (history ≡ front ++ last ∷ [])
-front_and_last [] some = absurd (omega (arith, some))
-front_and_last (e ∷ []) some = ([], e, refl)
-front_and_last (e ∷ f ∷ es) some =
-    let rest = front_and_last (f ∷ es) (omega arith) in
-    (e ∷ rest.0, rest.1, ap (λ (h : List Entry). e ∷ h) rest.2)
+      let place_is : place ≡ length old.entries + 1 = at_last ∙ ap (λ (h : Chronicle). length h.entries) next_is ∙ length-after_call before seat command is_own in
+      subst (λ (h : Chronicle). WritesCall before seat command place reply (first_known room h)) (sym next_is)
+      (subst (λ (p : ℕ). WritesCall before seat command p reply (after_call before seat command is_own)) (sym place_is)
+      (subst (λ (r : Reply). WritesCall before seat command (length old.entries + 1) r (after_call before seat command is_own)) (sym told)
+      (WritesCall-after_call before seat command is_own is_next alone)))

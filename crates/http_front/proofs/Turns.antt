@@ -3,8 +3,7 @@ use Rattle.std.proofs.Common.{◌≡◌, ℕ, Bool, List, [], ◌∷◌, ◌++�
 use Rattle.std.proofs.lemmas.List.{append-nil, take_all}
 use Rattle.model.specs.Command.{Command, Reply, Seat, Entry}
 use Rattle.model.specs.Query.{Query, Answer}
-use Rattle.model.specs.Database.{empty_database}
-use Rattle.model.specs.History.{replay}
+use Rattle.model.specs.History.{now, replay}
 use Rattle.model.specs.Answers.{answer_to}
 use Rattle.http_framing.specs.Request.{Request}
 use Rattle.http_framing.specs.Input.{Item, Asked, closes_connection}
@@ -13,86 +12,90 @@ use Rattle.http_request.specs.declared.asked.Asked.TheVariants as asked
 use Rattle.http_request.specs.declared.asked.Form.{Form}
 use Rattle.http_response.specs.Texts.{reply_text, answer_text, full_text}
 use Rattle.http_response.specs.declared.lost.Lost.TheVariants as lost
-use Rattle.http_front.specs.Outcome.{Outcome, Fixed, Wrote, WroteUntold, Read, OutOfMemory, Full, AsksQuery, IsFixedText, HasFixedText, TellsAt, written, after_closing, max_places}
+use Rattle.http_front.specs.Known.{Known, history_of, sees_more}
+use Rattle.http_front.specs.Outcome.{Outcome, Fixed, Wrote, WroteUntold, Read, OutOfMemory, Full, AsksQuery, IsFixedText, HasFixedText, TellsAt, written, after_closing}
 use Rattle.http_front.specs.Session.{WritesCall}
 use Rattle.http_front.specs.Answers.{AnswersAlone}
 use Rattle.http_front.specs.Response.{turn_of, Sends, SaysLost, SendsOrLost}
 use Rattle.http_front.specs.declared.response.Response.{Response}
 
-module _ (history : List Entry) (place : ℕ) (place_is : place ≡ length history) (response : Response) where
+module _ (k : Known) (place : ℕ) (place_is : place ≡ length k.seen) (response : Response) where
   -- nothing was written
-  unchanged : (item : Item) (outcome : Outcome) → written outcome ≡ [] → TellsAt 0 history (turn_of item response) place outcome → AnswersAlone history (turn_of item response) history
+  unchanged : (item : Item) (outcome : Outcome) → written outcome ≡ [] → TellsAt k (turn_of item response) place outcome → AnswersAlone k (turn_of item response) k
   unchanged item outcome none told = record {
     outcome = outcome;
-    told = subst (λ (p : ℕ). TellsAt 0 history (turn_of item response) p outcome) place_is told;
-    entries = sym (append-nil history) ∙ ap (λ (es : List Entry). history ++ es) (sym none);
+    told = subst (λ (p : ℕ). TellsAt k (turn_of item response) p outcome) place_is told;
+    entries = (λ i. record k { seen = (sym (append-nil k.seen) ∙ ap (λ (es : List Entry). k.seen ++ es) (sym none)) i });
   }
 
   -- memory was refused
-  pub answers_lost : (request : Request) → SaysLost place lost.Call response → AnswersAlone history (turn_of (Asked request) response) history
+  pub answers_lost : (request : Request) → SaysLost place lost.Call response → AnswersAlone k (turn_of (Asked request) response) k
   answers_lost request says = unchanged (Asked request) OutOfMemory refl (tt, says.0, says.1)
 
   -- the text of a refusal, or of `/`
   pub answers_fixed : (item : Item) (text : List ℕ) → HasFixedText place item text → Sends text (closes_connection item) response
-      → AnswersAlone history (turn_of item response) history
+      → AnswersAlone k (turn_of item response) k
   answers_fixed item text fixed sends = unchanged item Fixed refl (subst (HasFixedText place item) (sym sends.0) fixed, sends.1)
 
   -- the same of a request, unless memory was refused
   answers_fixed-or_lost : (request : Request) (text : List ℕ) → HasFixedText place (Asked request) text → SendsOrLost text request.closes place lost.Call response
-      → AnswersAlone history (turn_of (Asked request) response) history
+      → AnswersAlone k (turn_of (Asked request) response) k
   answers_fixed-or_lost request text fixed (inl sends) = answers_fixed (Asked request) text fixed sends
   answers_fixed-or_lost request text fixed (inr says) = answers_lost request says
 
   module _ (request : Request) (closes : Bool) (closes_is : request.closes ≡ closes) where
     -- the text of what was decided, where that is a refusal or `/`
     pub answers_decided : (decided : _) (text : List ℕ) → decided ≡ decide request → IsFixedText place closes decided text
-        → SendsOrLost text closes place lost.Call response → AnswersAlone history (turn_of (Asked request) response) history
+        → SendsOrLost text closes place lost.Call response → AnswersAlone k (turn_of (Asked request) response) k
     answers_decided decided text is fixed sends =
         answers_fixed-or_lost request text
         (subst (λ (c : Bool). IsFixedText place c (decide request) text) (sym closes_is) (subst (λ d. IsFixedText place closes d text) is fixed))
         (subst (λ (c : Bool). SendsOrLost text c place lost.Call response) (sym closes_is) sends)
 
     -- the answer to a query
-    pub answers_query : (query : Query) (answer : Answer) → AsksQuery (replay empty_database history) (Asked request) query → answer ≡ answer_to (replay empty_database history) query
+    pub answers_query : (query : Query) (answer : Answer) → AsksQuery (now (history_of k)) (Asked request) query → answer ≡ answer_to (now (history_of k)) query
         → SendsOrLost (answer_text place (after_closing closes) query answer) closes place lost.Call response
-        → AnswersAlone history (turn_of (Asked request) response) history
+        → AnswersAlone k (turn_of (Asked request) response) k
     answers_query query answer asks answers (inl sends) =
-        let all : take place history ≡ history = take_all place history (omega (arith, place_is)) in
+        let all : take place k.seen ≡ k.seen = take_all place k.seen (omega (arith, place_is)) in
         unchanged (Asked request) (Read query answer) refl (
-          record { asked = subst (λ (es : List Entry). AsksQuery (replay empty_database es) (Asked request) query) (sym all) asks; told = (omega (arith, place_is), answers ∙ ap (λ (es : List Entry). answer_to (replay empty_database es) query) (sym all)) },
+          record { asked = subst (λ (es : List Entry). AsksQuery (replay k.base es) (Asked request) query) (sym all) asks; told = (omega (arith, place_is), answers ∙ ap (λ (es : List Entry). answer_to (replay k.base es) query) (sym all)) },
           sends.0 ∙ ap (λ (c : Bool). answer_text place (after_closing c) query answer) (sym sends.1),
           sends.1 ∙ sym closes_is,
         )
     answers_query query answer asks answers (inr says) = answers_lost request says
 
     -- the history is full
-    pub answers_full : (form : Form) (command : Command) → decide request ≡ Ok (asked.Command form command) → length history ≡ max_places
+    pub answers_full : (form : Form) (command : Command) → decide request ≡ Ok (asked.Command form command) → length k.seen ≡ k.room
         → SendsOrLost (full_text place (after_closing closes)) closes place lost.Call response
-        → AnswersAlone history (turn_of (Asked request) response) history
+        → AnswersAlone k (turn_of (Asked request) response) k
     answers_full form command asks full (inl sends) =
         unchanged (Asked request) Full refl
         (form, command, asks, place_is ∙ full, sends.0 ∙ ap (λ (c : Bool). full_text place (after_closing c)) (sym sends.1), sends.1 ∙ sym closes_is)
     answers_full form command asks full (inr says) = answers_lost request says
 
-    module _ (old : List Entry) (seat : Seat) (form : Form) (command : Command) (reply : Reply) (asks : decide request ≡ Ok (asked.Command form command)) (writes : WritesCall 0 old seat command place reply history) (entry_is : history ≡ old ++ record { seat = seat; command = command; reply = reply } ∷ []) where
+    module _ (old : Known) (seat : Seat) (form : Form) (command : Command) (reply : Reply) (asks : decide request ≡ Ok (asked.Command form command)) (writes : WritesCall old seat command place reply k) (entry_is : k ≡ sees_more old (record { seat = seat; command = command; reply = reply } ∷ [])) where
+      own : seat.session ≡ k.number
+      own = writes.seat ∙ ap (λ (o : Known). o.number) (sym entry_is)
+
       -- the entry was written
-      answers_entry : (outcome : Outcome) → written outcome ≡ record { seat = seat; command = command; reply = reply } ∷ [] → TellsAt 0 history (turn_of (Asked request) response) place outcome
-          → AnswersAlone old (turn_of (Asked request) response) history
+      answers_entry : (outcome : Outcome) → written outcome ≡ record { seat = seat; command = command; reply = reply } ∷ [] → TellsAt k (turn_of (Asked request) response) place outcome
+          → AnswersAlone old (turn_of (Asked request) response) k
       answers_entry outcome one told = record {
         outcome = outcome;
-        told = subst (λ (p : ℕ). TellsAt 0 history (turn_of (Asked request) response) p outcome) place_is told;
-        entries = entry_is ∙ ap (λ (es : List Entry). old ++ es) (sym one);
+        told = subst (λ (p : ℕ). TellsAt k (turn_of (Asked request) response) p outcome) place_is told;
+        entries = entry_is ∙ ap (sees_more old) (sym one);
       }
 
       -- the reply to a command
       pub answers_command : SendsOrLost (reply_text place (after_closing closes) form command reply) closes place lost.Reply response
-          → AnswersAlone old (turn_of (Asked request) response) history
+          → AnswersAlone old (turn_of (Asked request) response) k
       answers_command (inl sends) =
           answers_entry (Wrote form (record { seat = seat; command = command; reply = reply })) refl (
-            record { asked = asks; own = writes.seat; told = writes.told },
+            record { asked = asks; own = own; told = writes.told },
             sends.0 ∙ ap (λ (c : Bool). reply_text place (after_closing c) form command reply) (sym sends.1),
             sends.1 ∙ sym closes_is,
           )
       answers_command (inr says) =
           answers_entry (WroteUntold form (record { seat = seat; command = command; reply = reply })) refl
-          (record { asked = asks; own = writes.seat; told = writes.told }, says.0, says.1)
+          (record { asked = asks; own = own; told = writes.told }, says.0, says.1)

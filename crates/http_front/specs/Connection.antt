@@ -7,10 +7,11 @@ use Rattle.serving.specs.Turn.{Turn, all_turns, items_of, responses_of}
 use Rattle.serving.specs.Served.{Streams, IsPartOf, EndsBy, CountsReads, CountsWrites}
 use Rattle.serving.specs.declared.outcome.Ended.{Ended}
 use Rattle.model.specs.Command.{Entry}
-use Rattle.model.specs.Database.{empty_database}
 use Rattle.model.specs.History.{IsLegal, of_session}
 use Rattle.model.specs.Told.{NoneFalls}
+use Rattle.http_front.specs.Known.{Known, sees_more}
 use Rattle.http_front.specs.Outcome.{Placed, IsToldAt, written}
+use Rattle.http_front.specs.Answers.{Sees}
 
 -- the places that are named, in order
 abbrev pub places_named : List Placed → List ℕ
@@ -20,9 +21,14 @@ places_named outcomes = map (λ placed. placed.place) outcomes
 abbrev pub entries_written : List Placed → List Entry
 entries_written outcomes = flat_map (λ placed. written placed.outcome) outcomes
 
--- A connection of a session, which had seen the old history and has seen the final one at its end. What was read is
--- the items of all turns and a rest, and what was written is their texts in order, with a part of the one that was cut.
-pub record IsConnection (session : ℕ) (before after : Streams) (old final : List Entry) (ended : Ended) : Type 0 where
+-- what the session had seen after each turn, up to what it has seen at the end
+abbrev pub SeesInTurn : ℕ → List Entry → List Placed → List Entry → Type 0
+SeesInTurn number old [] final = final ≡ old
+SeesInTurn number old (placed ∷ outcomes) final = Sees number old placed × SeesInTurn number placed.seen outcomes final
+
+-- A connection of a session, by what it knew before and knows at the end. What was read is the items of all turns and
+-- a rest, and what was written is their texts in order, with a part of the one that was cut.
+pub record IsConnection (before after : Streams) (old final : Known) (ended : Ended) : Type 0 where
   pub read : List ℕ
   pub turns : List Turn
   pub cut : Option Turn
@@ -33,13 +39,15 @@ pub record IsConnection (session : ℕ) (before after : Streams) (old final : Li
   pub reads : Consumes before.left after.left read
   pub splits : Splits read (items_of (all_turns turns cut)) rest
   -- each text is told by the final history
-  pub told : AllZip (IsToldAt session final) (all_turns turns cut) outcomes
-  pub legal : IsLegal empty_database final
-  pub extends : final ≡ old ++ more
+  pub told : AllZip (IsToldAt final) (all_turns turns cut) outcomes
+  pub legal : IsLegal final.base final.seen
+  pub extends : final ≡ sees_more old more
   -- the session's new entries are those of the responses
-  pub entries : of_session session more ≡ entries_written outcomes
+  pub entries : of_session old.number more ≡ entries_written outcomes
+  -- and so they are up to each turn
+  pub sees : SeesInTurn old.number old.seen outcomes final.seen
   -- the places named never fall, from the old one up to the last
-  pub places : NoneFalls (length old) (places_named outcomes ++ length final ∷ [])
+  pub places : NoneFalls (length old.seen) (places_named outcomes ++ length final.seen ∷ [])
   pub writes : Appends before.taken after.taken (responses_of turns ++ part)
   pub is_part : IsPartOf cut part
   pub answered : ended.answered ≡ length turns

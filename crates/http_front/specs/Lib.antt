@@ -1,3 +1,4 @@
+pub mod Known
 pub mod Outcome
 pub mod Session
 pub mod Answers

@@ -1,8 +1,8 @@
 -- What becomes of a request, and the text that tells it.
-use Rattle.std.specs.Prelude.{◌≡◌, ℕ, ◌⊎◌, Bool, true, List, [], ◌∷◌, take, Option, Result, Ok, Err, if◌then◌else◌, ⊤}
+use Rattle.std.specs.Prelude.{◌≡◌, ℕ, ◌⊎◌, Bool, true, List, [], ◌∷◌, length, take, Option, Result, Ok, Err, if◌then◌else◌, ⊤}
 use Rattle.model.specs.Command.{Entry, Command}
 use Rattle.model.specs.Query.{Query, Answer, Changes, Style}
-use Rattle.model.specs.Database.{Database, empty_database}
+use Rattle.model.specs.Database.{Database}
 use Rattle.model.specs.History.{replay}
 use Rattle.model.specs.World.{WroteAt, Asked as AskedAt}
 use Rattle.model.specs.Told.{Tells}
@@ -17,10 +17,7 @@ use Rattle.http_response.specs.declared.connection.Connection.{Connection as Aft
 use Rattle.http_response.specs.declared.connection.Connection.TheVariants as after
 use Rattle.http_response.specs.declared.lost.Lost.TheVariants as lost
 use Rattle.serving.specs.Turn.{Turn}
-
--- the most entries of a history
-abbrev pub max_places : ℕ
-max_places = 1000000
+use Rattle.http_front.specs.Known.{Known}
 
 -- what becomes of what stands on a connection
 pub data Outcome : Type 0 where
@@ -37,16 +34,29 @@ pub data Outcome : Type 0 where
   -- the history is full, and no entry was written
   Full : Outcome
 
--- what became of an item, and the place that the response names
+-- what became of an item, the place that the response names, and the entries that the session had seen then
 pub record Placed : Type 0 where
   pub place : ℕ
   pub outcome : Outcome
+  pub seen : List Entry
 
 -- the entries that were written
 abbrev pub written : Outcome → List Entry
+written Fixed = []
 written (Wrote form entry) = entry ∷ []
 written (WroteUntold form entry) = entry ∷ []
-written _ = []
+written (Read query answer) = []
+written OutOfMemory = []
+written Full = []
+
+-- a response that speaks of no entry and of no database names the place of what the session had seen
+abbrev pub NamesSeen : Outcome → ℕ → List Entry → Type 0
+NamesSeen Fixed place seen = place ≡ length seen
+NamesSeen (Wrote form entry) place seen = ⊤
+NamesSeen (WroteUntold form entry) place seen = ⊤
+NamesSeen (Read query answer) place seen = ⊤
+NamesSeen OutOfMemory place seen = place ≡ length seen
+NamesSeen Full place seen = place ≡ length seen
 
 -- the item is a request
 abbrev pub IsRequest : Item → Type 0
@@ -84,19 +94,20 @@ abbrev pub HasFixedText : ℕ → Item → List ℕ → Type 0
 HasFixedText place (Asked request) text = IsFixedText place request.closes (decide request) text
 HasFixedText place (Refused fault) text = text ≡ closing_text place fault
 
-module _ (session : ℕ) (history : List Entry) where
-  -- the item asks for a command, of which the history has this entry of the session at the place
+-- by what a session knows
+module _ (k : Known) where
+  -- the item asks for a command, of which what was seen has this entry of the session at the place
   pub record IsWritten (item : Item) (place : ℕ) (form : Form) (entry : Entry) : Type 0 where
     pub asked : Asks item (asked.Command form entry.command)
-    pub own : entry.seat.session ≡ session
-    pub told : Tells empty_database history (WroteAt entry.seat entry.command place entry.reply)
+    pub own : entry.seat.session ≡ k.number
+    pub told : Tells k.base k.seen (WroteAt entry.seat entry.command place entry.reply)
 
   -- the item asks for a query of the first entries, as many as the place says, which they answer so
   pub record IsRead (item : Item) (place : ℕ) (query : Query) (answer : Answer) : Type 0 where
-    pub asked : AsksQuery (replay empty_database (take place history)) item query
-    pub told : Tells empty_database history (AskedAt session query place answer)
+    pub asked : AsksQuery (replay k.base (take place k.seen)) item query
+    pub told : Tells k.base k.seen (AskedAt k.number query place answer)
 
-  -- the text of the turn tells what became of its item, by this history
+  -- the text of the turn tells what became of its item, by what the session knows
   abbrev pub TellsAt : Turn → ℕ → Outcome → Type 0
   TellsAt turn place Fixed = HasFixedText place turn.item turn.text × (turn.closes ≡ closes_connection turn.item)
   TellsAt turn place (Wrote form entry) =
@@ -111,7 +122,7 @@ module _ (session : ℕ) (history : List Entry) where
       × (turn.closes ≡ closes_connection turn.item)
   TellsAt turn place OutOfMemory = IsRequest turn.item × (turn.text ≡ no_memory_text place lost.Call) × (turn.closes ≡ true)
   TellsAt turn place Full =
-      (form : Form) × (command : Command) × Asks turn.item (asked.Command form command) × (place ≡ max_places)
+      (form : Form) × (command : Command) × Asks turn.item (asked.Command form command) × (place ≡ k.room)
       × (turn.text ≡ full_text place (after_closing turn.closes)) × (turn.closes ≡ closes_connection turn.item)
 
   abbrev pub IsToldAt : Turn → Placed → Type 0

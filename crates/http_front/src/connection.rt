@@ -47,7 +47,7 @@ pub fn serve<R: Source, W: Sink>(
     session: &mut Session,
     setting: &Setting,
 ) -> Ended
-    ensures connection { IsConnection 0
+    ensures connection { IsConnection
         (record {
           left = R.left reader.old;
           failed_reads = R.failed_reads reader.old;
@@ -62,7 +62,7 @@ pub fn serve<R: Source, W: Sink>(
         })
         session.old session.new result }
     // No other session has entries.
-    ensures alone { of_session 0 session.new ≡ session.new }
+    ensures alone { of_session session.new.number session.new.seen ≡ session.new.seen }
 {
     let ended = serving::serve(alloc, reader, writer, session, setting);
     let _seen = session.look();

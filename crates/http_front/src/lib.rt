@@ -9,5 +9,5 @@ mod turn;
 
 pub use connection::serve;
 pub use once::run_once;
-pub use session::{MAX_PLACES, Receipt, Session, WriteFault};
+pub use session::{Receipt, Session, WriteFault};
 pub use turn::Setting;

@@ -10,6 +10,9 @@ use crate::turn::Setting;
 use serving::Cause;
 use streams::{Sink, Source};
 
+/// The most entries of the history.
+const MAX_PLACES: u32 = 1_000_000;
+
 /// The exit status after a connection that ended so.
 fn status_of(cause: Cause) -> u8
     ensures { result ≡ status_of cause }
@@ -41,7 +44,7 @@ pub fn run_once<R: Source, W: Sink, A: AllocGlobal>(reader: &mut R, writer: &mut
     let Ok(setting) = Setting::new(rt.alloc()) else {
         return status_of(Cause::Memory);
     };
-    let mut session = Session::new(rt.alloc());
+    let mut session = Session::new(rt.alloc(), MAX_PLACES);
     let ended = serve(rt.alloc(), reader, writer, &mut session, &setting);
     status_of(ended.cause)
 }

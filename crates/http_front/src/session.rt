@@ -2,9 +2,10 @@
 
 ghost use Rattle.std.specs.Prelude.{◌≡◌, ◌↔◌, ◌+◌, ◌<◌, List, [], ◌∷◌, ◌++◌, length, IfOk, IfErr, OnErr, Err};
 ghost use Rattle.model.specs.Command.{Entry};
-ghost use Rattle.model.specs.Database.{empty_database, calls_of, reply_to};
-ghost use Rattle.model.specs.History.{replay};
-ghost use Rattle.http_front.specs.Outcome.{max_places};
+ghost use Rattle.model.specs.Map.{empty};
+ghost use Rattle.model.specs.Database.{calls_of, reply_to};
+ghost use Rattle.model.specs.History.{now, of_session};
+ghost use Rattle.http_front.specs.Known.{first_known, history_of, opened, sees_more};
 ghost use Rattle.http_front.specs.Session.{IsAlone, WritesCall};
 ghost use Rattle.http_front.specs.declared.session.WriteFault.TheVariants.{Memory};
 
@@ -13,9 +14,6 @@ use snapshots::Version;
 use std::alloc::{AllocError, Global};
 use std::marker::Model;
 use thiserror::Error;
-
-/// The most entries of a history.
-pub const MAX_PLACES: u64 = 1_000_000;
 
 /// The number of the session.
 const SESSION: u16 = 0;
@@ -35,7 +33,7 @@ pub enum WriteFault {
     /// Memory was refused.
     #[error("out of memory")]
     Memory,
-    /// The history has [`MAX_PLACES`] entries.
+    /// The history has as many entries as it has room for.
     #[error("the history is full")]
     Full,
 }
@@ -48,69 +46,71 @@ impl From<AllocError> for WriteFault {
     }
 }
 
-/// The only session of a database: its calls are the whole history, which clauses see it as.
+/// The only session of a database: its calls are the whole history. Clauses see what it knows.
 #[derive(Drop)]
 pub struct Session {
     version: Version,
+    /// The most entries of the history.
+    room: u32,
 }
 
 impl Model for Session {
-    ghost use Rattle.std.specs.Prelude.{List};
-    ghost use Rattle.model.specs.Command.{Entry};
     ghost use Rattle.std.specs.Coded.{codes};
     ghost use Rattle.model.specs.JsonCode.{coded_members};
+    ghost use Rattle.http_front.specs.Known.{Known, first_known};
     ghost use Rattle.http_front.specs.Session.{IsAlone};
 
-    ghost Value = { List Entry };
+    ghost Value = { Known };
 
     ghost coded = { Prim.hlevel (codes, coded_members) };
 
-    ghost view = { λ s. s.version };
+    ghost view = { λ s. first_known s.room s.version };
 
-    ghost invariant = { λ s. IsAlone 0 s.version };
+    ghost invariant = { λ s. IsAlone (first_known s.room s.version) };
 }
 
 impl Session {
-    /// Opens an empty database.
-    pub fn new(alloc: Global) -> Session
-        ensures { result ≡ [] }
+    /// Opens an empty database, whose history has room for so many entries.
+    pub fn new(alloc: Global, room: u32) -> Session
+        ensures { result ≡ opened room }
     {
         Session {
             version: Version::empty(alloc),
+            room,
         }
     }
 
     /// Writes a command. A fault changes nothing.
     pub fn write(&mut self, alloc: Global, command: &Command) -> Result<Receipt, WriteFault>
-        ensures written { IfOk result (λ receipt. WritesCall 0 self.old
+        ensures written { IfOk result (λ receipt. WritesCall self.old
             receipt.seat command.now receipt.place receipt.reply self.new) }
         ensures reply { IfOk result (λ receipt.
-            receipt.reply ≡ reply_to (replay empty_database self.old) command.now) }
+            receipt.reply ≡ reply_to (now (history_of self.old)) command.now) }
         // Nothing else is written, and the entry stands at the end.
-        ensures alone { IfOk result (λ receipt. (self.new ≡ self.old ++ record {
+        ensures alone { IfOk result (λ receipt. (self.new ≡ sees_more self.old (record {
           seat = receipt.seat;
           command = command.now;
           reply = receipt.reply;
-        } ∷ []) × (receipt.place ≡ length self.new)) }
-        ensures full { (result ≡ Err WriteFault.Full) ↔ (length self.old ≡ max_places) }
+        } ∷ [])) × (receipt.place ≡ length self.new.seen)) }
+        ensures full { (result ≡ Err WriteFault.Full) ↔ (length self.old.seen ≡ self.old.room) }
         ensures fault { OnErr result (self.new ≡ self.old) }
     {
-        let (version, receipt) = next_version(alloc, &self.version, command)?;
+        let (version, receipt) = next_version(alloc, &self.version, self.room, command)?;
         self.version = version;
         Ok(receipt)
     }
 
     /// What the session has seen: its history is legal, and has no other session's calls.
     pub fn look(&self) -> &Version
-        ensures seen { result.now ≡ self.now }
-        ensures alone { IsAlone 0 self.now }
+        ensures seen { result.now ≡ history_of self.now }
+        ensures alone { IsAlone self.now }
     {
         &self.version
     }
 
     /// The number of entries that the session has seen.
     pub fn place(&self) -> u64
-        ensures { result ≡ length self.now }
+        ensures { result ≡ length self.now.seen }
     {
         self.version.place()
     }
@@ -120,22 +120,23 @@ impl Session {
 fn next_version(
     alloc: Global,
     version: &Version,
+    room: u32,
     command: &Command,
 ) -> Result<(Version, Receipt), WriteFault>
-    requires { IsAlone 0 version.now }
-    ensures alone { IfOk result (λ next. IsAlone 0 next.0) }
-    ensures written { IfOk result (λ next. WritesCall 0 version.now
-        next.1.seat command.now next.1.place next.1.reply next.0) }
-    ensures reply { IfOk result (λ next.
-        next.1.reply ≡ reply_to (replay empty_database version.now) command.now) }
-    ensures entry { IfOk result (λ next. (next.0 ≡ version.now ++ record {
-      seat = next.1.seat;
-      command = command.now;
-      reply = next.1.reply;
-    } ∷ []) × (next.1.place ≡ length next.0)) }
-    ensures full { (result ≡ Err WriteFault.Full) ↔ (length version.now ≡ max_places) }
+    requires { IsAlone (first_known room version.now) }
+    ensures alone { IfOk result (λ next. IsAlone (first_known room next.0)) }
+    ensures written { IfOk result (λ next. WritesCall (first_known room version.now)
+        next.1.seat command.now next.1.place next.1.reply (first_known room next.0)) }
+    ensures reply { IfOk result (λ next. next.1.reply ≡ reply_to (now version.now) command.now) }
+    ensures entry { IfOk result (λ next.
+        (first_known room next.0 ≡ sees_more (first_known room version.now) (record {
+          seat = next.1.seat;
+          command = command.now;
+          reply = next.1.reply;
+        } ∷ [])) × (next.1.place ≡ length next.0.entries)) }
+    ensures full { (result ≡ Err WriteFault.Full) ↔ (length version.now.entries ≡ room) }
 {
-    if version.place() == MAX_PLACES {
+    if version.place() == room as u64 {
         return Err(WriteFault::Full);
     }
     let seat = next_seat(version);
@@ -147,20 +148,18 @@ fn next_version(
 
 /// The seat of the session's next call.
 fn next_seat(version: &Version) -> Seat
-    requires alone { IsAlone 0 version.now }
-    requires room { length version.now < max_places }
-    ensures { result ≡ record {
-      session = 0;
-      call = calls_of (replay empty_database version.now) 0 + 1;
-    } }
+    requires own { of_session 0 version.now.entries ≡ version.now.entries }
+    requires uncalled { version.now.base.calls ≡ empty }
+    requires room { length version.now.entries < 4294967295 }
+    ensures { result ≡ record { session = 0; call = calls_of (now version.now) 0 + 1 } }
 {
     Seat::new(SESSION, version.next_call(SESSION)).unwrap()
 }
 
 /// The reply of the last entry.
 fn last_reply(alloc: Global, version: &Version) -> Result<Reply, AllocError>
-    requires { 0 < length version.now }
-    ensures { (front : List Entry) (entry : Entry) → version.now ≡ front ++ entry ∷ []
+    requires { 0 < length version.now.entries }
+    ensures { (front : List Entry) (entry : Entry) → version.now.entries ≡ front ++ entry ∷ []
         → IfOk result (λ reply. reply ≡ entry.reply) }
 {
     let entry = version.entry(version.place()).unwrap();

@@ -5,9 +5,9 @@ ghost use Rattle.http_framing.specs.Input.{Asked as AskedItem, Refused};
 ghost use Rattle.http_framing.specs.Request as framing;
 ghost use Rattle.http_request.specs.Decide.{decide};
 ghost use Rattle.model.specs.Query.{Changes};
-ghost use Rattle.model.specs.Database.{empty_database};
-ghost use Rattle.model.specs.History.{replay};
+ghost use Rattle.model.specs.History.{now};
 ghost use Rattle.http_front.specs.Answers.{AnswersAlone};
+ghost use Rattle.http_front.specs.Known.{history_of};
 ghost use Rattle.http_front.specs.Outcome.{AsksQuery};
 ghost use Rattle.http_front.specs.Response.{turn_of};
 
@@ -108,7 +108,7 @@ fn write(
 
 /// The query for the changes after all that the session has seen.
 fn changes_from_now(session: &Session, limit: Option<u64>, style: Style) -> Query
-    ensures { result ≡ Changes (replay empty_database session.now).update_seq limit style }
+    ensures { result ≡ Changes (now (history_of session.now)).update_seq limit style }
 {
     let since = session.look().update_seq();
     Query::new(QueryKind::Changes {
@@ -121,7 +121,7 @@ fn changes_from_now(session: &Session, limit: Option<u64>, style: Style) -> Quer
 /// Answers a query by what the session has seen.
 fn read(session: &Session, alloc: Global, query: &Query, closes: bool) -> Response
     ensures { (request : framing.Request)
-        → AsksQuery (replay empty_database session.now) (AskedItem request) query.now
+        → AsksQuery (now (history_of session.now)) (AskedItem request) query.now
         → request.closes ≡ closes
         → AnswersAlone session.now (turn_of (AskedItem request) result) session.now }
 {
