@@ -14,7 +14,7 @@ use Rattle.serving.specs.declared.outcome.Ended.{Ended}
 use Rattle.serving.specs.declared.outcome.Cause.TheVariants as cause
 use Rattle.http_front.specs.Known.{Known, sees_more}
 use Rattle.http_front.specs.Outcome.{Outcome, Fixed, Wrote, WroteUntold, Read, OutOfMemory, Full, Placed, AsksQuery, IsToldAt, IsWritten, IsRead, NamesSeen, TellsAt, written}
-use Rattle.http_front.specs.Answers.{Sees, Answers, AnswersAlone}
+use Rattle.http_front.specs.Answers.{Answers, AnswersAlone}
 use Rattle.http_front.specs.Connection.{IsConnection, SeesInTurn, places_named, entries_written}
 use Rattle.http_front.specs.Session.{IsAlone}
 use Rattle.http_front.proofs.Sessions.{of_session-append, of_session-own}
