@@ -2,9 +2,8 @@
 
 ghost use Rattle.std.specs.Prelude.{◌≡◌, ◌↔◌, ◌+◌, ◌<◌, List, [], ◌∷◌, ◌++◌, length, IfOk, IfErr, OnErr, Err};
 ghost use Rattle.model.specs.Command.{Entry};
-ghost use Rattle.model.specs.Map.{empty};
 ghost use Rattle.model.specs.Database.{calls_of, reply_to};
-ghost use Rattle.model.specs.History.{now, of_session};
+ghost use Rattle.model.specs.History.{now};
 ghost use Rattle.http_front.specs.Known.{first_known, history_of, opened, sees_more};
 ghost use Rattle.http_front.specs.Session.{IsAlone, WritesCall};
 ghost use Rattle.http_front.specs.declared.session.WriteFault.TheVariants.{Memory};
