@@ -78,16 +78,6 @@ const FOUR_LEAVES: &[Change] = &[
 /// A path that got an ancestor.
 const GROWN_PATH: &[Change] = &[Change::Merge("d", "2-b"), Change::Merge("d", "3-c 2-b 1-a")];
 
-/// Of two leaves one is purged, a document loses its only leaf, and an unknown one loses none.
-const PURGED: &[Change] = &[
-    Change::Merge("d", "2-b 1-a"),
-    Change::Merge("d", "3-c 2-d 1-a"),
-    Change::Edit("a", "{}"),
-    Change::Purge("d", "3-c 1-a"),
-    Change::Purge("a", "A1"),
-    Change::Purge("z", "1-a"),
-];
-
 const MERGED_TWICE: &[Change] = &[Change::Merge("d", "1-a"), Change::Merge("d", "1-a")];
 
 /// Asks a query by its own call and by the one for all, and compares both answers with a text.
@@ -329,28 +319,6 @@ fn a_merge_that_changes_nothing_takes_no_number(rt: HostRuntime) -> Result<(), F
         rt.alloc(),
         MERGED_TWICE,
         &[(Asked::Counts, "live 1 deleted 0 update 1 purge 0")],
-    )
-}
-
-#[test]
-fn what_was_purged_is_not_there(rt: HostRuntime) -> Result<(), Fail> {
-    compare_after(
-        &rt,
-        rt.alloc(),
-        PURGED,
-        &[
-            (Asked::Counts, "live 1 deleted 0 update 4 purge 2"),
-            (Asked::Winner("a", PLAIN), "missing"),
-            (Asked::Leaves("d", PLAIN), "[d 2-b]"),
-            (
-                Asked::Missing(&[("d", "3-c 2-d 1-a")]),
-                "[d missing 3-c 2-d ancestors 2-b]",
-            ),
-            (
-                Asked::Changes(0, None, StyleKind::MainOnly),
-                "[4 d 2-b][last 4 pending 0]",
-            ),
-        ],
     )
 }
 

@@ -1,6 +1,6 @@
 //! Small databases, by what is done to the empty one.
 use super::names::{revision, revisions};
-use commands::{AskedRevisions, Command, Edit, Merge, NamedRevisions, Seat};
+use commands::{Command, Edit, Merge, Seat};
 use document_id::DocId;
 use json_profile::{Body, read};
 use revision_id::RevId;
@@ -25,8 +25,6 @@ pub(super) enum Change {
     /// A write of the local document over the revision number named.
     Local(Option<u32>),
     LocalDeletion(u32),
-    /// A purge of revisions of a document.
-    Purge(&'static str, &'static str),
     RevsLimit(u32),
 }
 
@@ -66,7 +64,6 @@ fn as_command(alloc: Global, change: &Change) -> Result<Option<Command>, Fail> {
         Change::DeletedMerge(id, path) => merges(alloc, merged(alloc, id, path, true)?),
         Change::Local(named) => local(alloc, *named, Some(body(alloc, LOCAL_BODY)?)),
         Change::LocalDeletion(named) => local(alloc, Some(*named), None),
-        Change::Purge(id, named) => purge(alloc, id, named),
         Change::RevsLimit(limit) => Ok(Command::set_limit(*limit)),
     }
 }
@@ -113,18 +110,6 @@ fn local(
     body: Option<Arc<Body>>,
 ) -> Result<Option<Command>, Fail> {
     Ok(Command::put_local(DocId::new(alloc, "r")?, named, body))
-}
-
-fn purge(alloc: Global, id: &str, named: &str) -> Result<Option<Command>, Fail> {
-    let mut documents = Vec::new(alloc);
-    documents.push(AskedRevisions {
-        id: DocId::new(alloc, id)?,
-        revisions: revisions(alloc, named)?,
-    })?;
-    let Some(named) = NamedRevisions::new(documents) else {
-        return Err("one id".into());
-    };
-    Ok(Command::purge(named))
 }
 
 fn empty_body(alloc: Global) -> Result<Arc<Body>, Fail> {
