@@ -1,6 +1,7 @@
 //! Versions of the database: each is what its history of answered commands makes of a base.
 #![tactic(auto)]
 
+mod base;
 mod content;
 mod record;
 mod records;

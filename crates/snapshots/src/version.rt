@@ -13,6 +13,7 @@ ghost use Rattle.model.specs.Database.{Record as Stored, empty_database, calls_o
 ghost use Rattle.model.specs.History.{now, extended, entry_of};
 ghost use Rattle.snapshots.specs.Version.{IsHistory, entry_at, placed_from};
 
+use crate::base::Base;
 use crate::content::Content;
 use crate::record::Record;
 use crate::records::Records;
@@ -32,7 +33,7 @@ use std::marker::Model;
 #[derive(Drop)]
 pub struct Version {
     alloc: Global,
-    base: Content,
+    base: Base,
     content: Content,
     /// By place, from 1.
     history: CowMap<u64, Entry>,
@@ -60,7 +61,7 @@ impl Version {
     {
         Version {
             alloc,
-            base: Content::new(alloc),
+            base: Base::empty(),
             content: Content::new(alloc),
             history: CowMap::new(alloc),
         }
