@@ -96,7 +96,7 @@ fn read_all_parts(alloc: Global, values: Vec<Json>) -> Result<Vec<Option<Parts>>
     ensures parts { DecidesEach result (each_of parts_in values.items) }
     ensures length { IfOk result (λ found. length found.items ≡ length values.items) }
 {
-    each(alloc, values, read_parts)
+    each(alloc, values, |value| Ok(read_parts(value)?))
 }
 
 /// The documents, with their shape, their members and their ids.
@@ -275,7 +275,7 @@ fn read_edit(alloc: Global, document: Named) -> Result<Edit, Fault>
     let Named { id, parts, path: _ } = document;
     match parts.own_revision() {
         Ok(rev) => parts.into_edit(alloc, id, rev),
-        Err(fault) => Err(fault),
+        Err(refusal) => Err(Fault::Refused(refusal)),
     }
 }
 
@@ -307,7 +307,7 @@ fn find_revisions(alloc: Global, parts: &Parts, path: Option<Path>) -> Result<Pa
 {
     match parts.own_revision() {
         Ok(rev) => name_path(alloc, path, rev),
-        Err(fault) => Err(fault),
+        Err(refusal) => Err(Fault::Refused(refusal)),
     }
 }
 

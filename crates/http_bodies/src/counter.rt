@@ -3,10 +3,9 @@
 ghost use Rattle.std.specs.Prelude.{◌≡◌, IfOk, IfSome, option_map};
 ghost use Rattle.model.specs.Command.{IsCounter};
 ghost use Rattle.http_bodies.specs.Local.{counter_in, counter_named, counter_of, counter_twice};
-ghost use Rattle.http_bodies.specs.Steps.{Decides};
 
 use crate::number::from_one;
-use crate::refusal::{Fault, Reason, refuse};
+use crate::refusal::{Reason, Refusal};
 use http_target::value::parse_number;
 
 /// A number from 1, without leading zeros.
@@ -40,8 +39,8 @@ fn read_counter(text: &str) -> Option<u32>
 /// # Errors
 ///
 /// Another text is refused by [`Reason::Revision`].
-pub fn name_counter(text: Option<&str>) -> Result<Option<u32>, Fault>
-    ensures decides { Decides result (counter_in (option_map (λ t. t.now) text.entry)) }
+pub fn name_counter(text: Option<&str>) -> Result<Option<u32>, Refusal>
+    ensures decides { result ≡ counter_in (option_map (λ t. t.now) text.entry) }
     ensures is_counter { IfOk result (λ counter. IfSome counter IsCounter) }
 {
     let Some(text) = text else {
@@ -49,7 +48,7 @@ pub fn name_counter(text: Option<&str>) -> Result<Option<u32>, Fault>
     };
     match read_counter(text) {
         Some(counter) => Ok(Some(counter)),
-        None => Err(refuse(Reason::Revision)),
+        None => Err(Refusal::BadRequest(Reason::Revision)),
     }
 }
 
@@ -57,10 +56,10 @@ pub fn name_counter(text: Option<&str>) -> Result<Option<u32>, Fault>
 pub(crate) fn counter_twice(
     parameter: Option<u32>,
     member: Option<u32>,
-) -> Result<Option<u32>, Fault>
+) -> Result<Option<u32>, Refusal>
     requires parameter { IfSome parameter IsCounter }
     requires member { IfSome member IsCounter }
-    ensures decides { Decides result (counter_twice parameter member) }
+    ensures decides { result ≡ counter_twice parameter member }
     ensures is_counter { IfOk result (λ counter. IfSome counter IsCounter) }
 {
     let Some(member) = member else {
@@ -70,7 +69,7 @@ pub(crate) fn counter_twice(
         return Ok(Some(member));
     };
     if parameter != member {
-        return Err(refuse(Reason::Revision));
+        return Err(Refusal::BadRequest(Reason::Revision));
     }
     Ok(Some(parameter))
 }

@@ -5,7 +5,7 @@ ghost use Rattle.http_bodies.specs.Document.{document_in, document_of, edit_of, 
 ghost use Rattle.http_bodies.specs.Revisions.{rev_of};
 ghost use Rattle.http_bodies.specs.Steps.{Decides};
 
-use crate::refusal::{Fault, Reason, refuse};
+use crate::refusal::{Fault, Reason, Refusal};
 use crate::revision::name_revision;
 use crate::text::read_json;
 use commands::Edit;
@@ -38,8 +38,8 @@ fn drop_ignored(object: &mut Object)
 }
 
 /// Takes an object apart, and refuses one whose body nests too deep.
-fn take_parts(mut object: Object) -> Result<Parts, Fault>
-    ensures { Decides result (nesting_parts (parts_of object)) }
+fn take_parts(mut object: Object) -> Result<Parts, Refusal>
+    ensures { result ≡ nesting_parts (parts_of object) }
 {
     let id = object.take("_id");
     let rev = object.take("_rev");
@@ -56,13 +56,13 @@ fn take_parts(mut object: Object) -> Result<Parts, Fault>
             has_other,
             body,
         }),
-        Err(_) => Err(refuse(Reason::Depth)),
+        Err(_) => Err(Refusal::BadRequest(Reason::Depth)),
     }
 }
 
 /// The parts of a document, if the value is an object.
-pub(crate) fn read_parts(value: Json) -> Result<Option<Parts>, Fault>
-    ensures { Decides result (parts_in value) }
+pub(crate) fn read_parts(value: Json) -> Result<Option<Parts>, Refusal>
+    ensures { result ≡ parts_in value }
 {
     let Some(object) = value.into_object() else {
         return Ok(None);
@@ -122,8 +122,8 @@ impl Parts {
     }
 
     /// The revision in `_rev`.
-    pub(crate) fn own_revision(&self) -> Result<Option<RevId>, Fault>
-        ensures { Decides result (rev_of (text_of self.now.rev)) }
+    pub(crate) fn own_revision(&self) -> Result<Option<RevId>, Refusal>
+        ensures { result ≡ rev_of (text_of self.now.rev) }
     {
         let Some(value) = &self.rev else {
             return Ok(None);
@@ -135,11 +135,11 @@ impl Parts {
     }
 
     /// The revision that a parameter and the document name, where the document has this id.
-    fn revision_of(&self, id: &DocId, parameter: Option<RevId>) -> Result<Option<RevId>, Fault>
-        ensures { Decides result (revision_of id.now parameter self.now) }
+    fn revision_of(&self, id: &DocId, parameter: Option<RevId>) -> Result<Option<RevId>, Refusal>
+        ensures { result ≡ revision_of id.now parameter self.now }
     {
         if !self.names_no_other(id) {
-            return Err(refuse(Reason::Id));
+            return Err(Refusal::BadRequest(Reason::Id));
         }
         let own = self.own_revision()?;
         named_in_either(parameter, own)
@@ -185,29 +185,29 @@ impl Parts {
 }
 
 /// The parts of a value that has the shape of a document.
-pub(crate) fn as_document(parts: Option<Parts>) -> Result<Parts, Fault>
-    ensures { Decides result (document_in parts) }
+pub(crate) fn as_document(parts: Option<Parts>) -> Result<Parts, Refusal>
+    ensures { result ≡ document_in parts }
 {
     match parts {
         Some(parts) if parts.has_shape() => Ok(parts),
-        _ => Err(refuse(Reason::Shape)),
+        _ => Err(Refusal::BadRequest(Reason::Shape)),
     }
 }
 
 /// The parts of a value that has the shape of a document, with no special member that is unknown.
-pub(crate) fn as_known_document(parts: Option<Parts>) -> Result<Parts, Fault>
-    ensures { Decides result (known_document_in parts) }
+pub(crate) fn as_known_document(parts: Option<Parts>) -> Result<Parts, Refusal>
+    ensures { result ≡ known_document_in parts }
 {
     let parts = as_document(parts)?;
     if parts.has_other {
-        return Err(refuse(Reason::Member));
+        return Err(Refusal::BadRequest(Reason::Member));
     }
     Ok(parts)
 }
 
 /// The one revision that is named in two places.
-fn named_in_either(parameter: Option<RevId>, member: Option<RevId>) -> Result<Option<RevId>, Fault>
-    ensures { Decides result (named_twice parameter member) }
+fn named_in_either(parameter: Option<RevId>, member: Option<RevId>) -> Result<Option<RevId>, Refusal>
+    ensures { result ≡ named_twice parameter member }
 {
     let Some(member) = member else {
         return Ok(parameter);
@@ -216,7 +216,7 @@ fn named_in_either(parameter: Option<RevId>, member: Option<RevId>) -> Result<Op
         return Ok(Some(member));
     };
     if parameter != member {
-        return Err(refuse(Reason::Revision));
+        return Err(Refusal::BadRequest(Reason::Revision));
     }
     Ok(Some(parameter))
 }
@@ -226,7 +226,7 @@ fn read_document(alloc: Global, body: &[u8]) -> Result<Parts, Fault>
     ensures { Decides result (document_of body.now) }
 {
     let value = read_json(alloc, body)?;
-    as_known_document(read_parts(value)?)
+    Ok(as_known_document(read_parts(value)?)?)
 }
 
 /// The edit of the document that the path and the parameters name, as a body writes it.
@@ -242,6 +242,6 @@ pub fn read_edit(alloc: Global, id: DocId, rev: Option<RevId>, body: &[u8]) -> R
     let parts = read_document(alloc, body)?;
     match parts.revision_of(&id, rev) {
         Ok(named) => parts.into_edit(alloc, id, named),
-        Err(fault) => Err(fault),
+        Err(refusal) => Err(Fault::Refused(refusal)),
     }
 }

@@ -4,10 +4,9 @@ ghost use Rattle.std.specs.Prelude.{◌≡◌, IfOk, is_some, option_map};
 ghost use Rattle.serde_json.specs.Find.{as_str};
 ghost use Rattle.http_bodies.specs.Each.{DecidesEach, each as each_of};
 ghost use Rattle.http_bodies.specs.Lists.{are_texts, rev_in, text_list_of, texts_in};
-ghost use Rattle.http_bodies.specs.Steps.{Decides};
 
 use crate::each::each;
-use crate::refusal::{Fault, Reason, refuse};
+use crate::refusal::{Fault, Reason, Refusal};
 use crate::revision::name_revision;
 use crate::text::read_json;
 use json_profile::Json;
@@ -65,15 +64,15 @@ fn is_text(value: &Json) -> bool
 pub fn read_revisions(alloc: Global, texts: Vec<Json>) -> Result<Vec<RevId>, Fault>
     ensures { DecidesEach result (each_of rev_in texts.items) }
 {
-    each(alloc, texts, |text| read_revision_text(&text))
+    each(alloc, texts, |text| Ok(read_revision_text(&text)?))
 }
 
 /// The revision of a text.
-fn read_revision_text(text: &Json) -> Result<RevId, Fault>
-    ensures { Decides result (rev_in text.now) }
+fn read_revision_text(text: &Json) -> Result<RevId, Refusal>
+    ensures { result ≡ rev_in text.now }
 {
     match text.as_str() {
         Some(text) => name_revision(text),
-        None => Err(refuse(Reason::Revision)),
+        None => Err(Refusal::BadRequest(Reason::Revision)),
     }
 }

@@ -9,7 +9,7 @@ ghost use Rattle.http_bodies.specs.Steps.{Decides};
 
 use crate::counter::{counter_twice, name_counter};
 use crate::document::{Parts, as_known_document};
-use crate::refusal::{Fault, Reason, refuse};
+use crate::refusal::{Fault, Reason, Refusal, refuse};
 use crate::text::read_json;
 use commands::Command;
 use document_id::DocId;
@@ -18,8 +18,8 @@ use std::alloc::{AllocError, Global};
 use std::sync::Arc;
 
 /// Takes an object apart, and refuses one whose body nests too deep.
-fn take_local_parts(mut object: Object) -> Result<Parts, Fault>
-    ensures { Decides result (nesting_parts (local_parts_of object)) }
+fn take_local_parts(mut object: Object) -> Result<Parts, Refusal>
+    ensures { result ≡ nesting_parts (local_parts_of object) }
 {
     let id = object.take("_id");
     let rev = object.take("_rev");
@@ -33,13 +33,13 @@ fn take_local_parts(mut object: Object) -> Result<Parts, Fault>
             has_other,
             body,
         }),
-        Err(_) => Err(refuse(Reason::Depth)),
+        Err(_) => Err(Refusal::BadRequest(Reason::Depth)),
     }
 }
 
 /// The parts of a value, if it is an object.
-fn read_local_parts(value: Json) -> Result<Option<Parts>, Fault>
-    ensures { Decides result (local_parts_found (as_object value)) }
+fn read_local_parts(value: Json) -> Result<Option<Parts>, Refusal>
+    ensures { result ≡ local_parts_found (as_object value) }
 {
     let Some(object) = value.into_object() else {
         return Ok(None);
@@ -52,7 +52,7 @@ fn read_local_document(alloc: Global, body: &[u8]) -> Result<Parts, Fault>
     ensures { Decides result (local_document_of body.now) }
 {
     let value = read_json(alloc, body)?;
-    as_known_document(read_local_parts(value)?)
+    Ok(as_known_document(read_local_parts(value)?)?)
 }
 
 /// The id of a local document as bodies and answers write it, `_local/ID`.
@@ -82,8 +82,8 @@ fn names_local(alloc: Global, parts: &Parts, id: &DocId) -> Result<bool, AllocEr
 }
 
 /// The revision in `_rev`.
-fn own_counter(parts: &Parts) -> Result<Option<u32>, Fault>
-    ensures decides { Decides result (counter_in (text_of parts.now.rev)) }
+fn own_counter(parts: &Parts) -> Result<Option<u32>, Refusal>
+    ensures decides { result ≡ counter_in (text_of parts.now.rev) }
     ensures is_counter { IfOk result (λ counter. IfSome counter IsCounter) }
 {
     let Some(value) = &parts.rev else {
@@ -107,7 +107,7 @@ fn counter_over(
         return Err(refuse(Reason::Id));
     }
     let own = own_counter(parts)?;
-    counter_twice(counter, own)
+    Ok(counter_twice(counter, own)?)
 }
 
 /// The write of a local document over a revision, where one is named, as a body writes it.

@@ -46,6 +46,17 @@ pub enum Fault {
     Memory,
 }
 
+impl From<Refusal> for Fault {
+    ghost use Rattle.std.specs.Prelude.{◌≡◌};
+    ghost use Rattle.http_bodies.specs.declared.refusal.Fault.TheVariants.{Refused};
+
+    ghost from_gives = { λ refusal fault. fault ≡ Refused refusal };
+
+    fn from(refusal: Refusal) -> Fault {
+        Fault::Refused(refusal)
+    }
+}
+
 impl From<AllocError> for Fault {
     ghost use Rattle.std.specs.Prelude.{◌≡◌};
     ghost use Rattle.http_bodies.specs.declared.refusal.Fault.TheVariants.{Memory};

@@ -3,10 +3,10 @@
 ghost use Rattle.std.specs.Prelude.{◌≡◌, IfSome};
 ghost use Rattle.model.specs.Revision.{IsRev};
 ghost use Rattle.http_bodies.specs.Revisions.{rev_named, rev_with};
-ghost use Rattle.http_bodies.specs.Steps.{Decides, or_refused};
+ghost use Rattle.http_bodies.specs.Steps.{or_refused};
 ghost use Rattle.http_bodies.specs.declared.refusal.Reason.TheVariants.{Revision};
 
-use crate::refusal::{Fault, Reason, refuse};
+use crate::refusal::{Reason, Refusal};
 use revision_id::RevId;
 
 /// The revision of this text, if there is one.
@@ -27,12 +27,12 @@ fn read_revision(text: &str) -> Option<RevId>
 /// # Errors
 ///
 /// Another text is refused by [`Reason::Revision`].
-pub fn name_revision(text: &str) -> Result<RevId, Fault>
-    ensures { Decides result (or_refused (rev_named text.now) Revision) }
+pub fn name_revision(text: &str) -> Result<RevId, Refusal>
+    ensures { result ≡ or_refused (rev_named text.now) Revision }
 {
     match read_revision(text) {
         Some(rev) => Ok(rev),
-        None => Err(refuse(Reason::Revision)),
+        None => Err(Refusal::BadRequest(Reason::Revision)),
     }
 }
 

@@ -8,7 +8,7 @@ ghost use Rattle.http_target.specs.Query.{parameter, parameters_of};
 use crate::asked::Asked;
 use crate::parameter::{asks_for_documents, is_given, is_there, read_number};
 use commands::{Query, QueryKind, Style, StyleKind};
-use http_bodies::{Fault, Reason, refuse};
+use http_bodies::{Fault, Reason, Refusal, refuse};
 use http_target::query::Parameters;
 use std::alloc::Global;
 
@@ -41,21 +41,21 @@ fn style_named(name: &str) -> Option<Style>
 }
 
 /// The style, of which the winner alone is the default.
-fn read_style(parameters: &Parameters<'_>) -> Result<Style, Fault>
-    ensures { Decides result (style_in (parameter (codes "style") parameters.now)) }
+fn read_style(parameters: &Parameters<'_>) -> Result<Style, Refusal>
+    ensures { result ≡ style_in (parameter (codes "style") parameters.now) }
 {
     let Some(name) = parameters.get("style") else {
         return Ok(Style::new(StyleKind::MainOnly));
     };
     match style_named(name) {
         Some(style) => Ok(style),
-        None => Err(refuse(Reason::Parameter)),
+        None => Err(Refusal::BadRequest(Reason::Parameter)),
     }
 }
 
 /// The changes after the number that is given, or after the one that the database has.
-fn read_since(limit: Option<u64>, style: Style, parameters: &Parameters<'_>) -> Result<Asked, Fault>
-    ensures { Decides result (changes_since limit style parameters.now) }
+fn read_since(limit: Option<u64>, style: Style, parameters: &Parameters<'_>) -> Result<Asked, Refusal>
+    ensures { result ≡ changes_since limit style parameters.now }
 {
     if is_given(parameters, "since", "now") {
         return Ok(Asked::ChangesFromNow { limit, style });
@@ -78,7 +78,7 @@ pub(crate) fn read_changes(alloc: Global, query: &str) -> Result<Asked, Fault>
     }
     let style = read_style(&parameters)?;
     let limit = read_number(&parameters, "limit")?;
-    read_since(limit, style, &parameters)
+    Ok(read_since(limit, style, &parameters)?)
 }
 
 /// Whether some rows are asked for by their keys.

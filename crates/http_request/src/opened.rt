@@ -1,5 +1,6 @@
 //! Which revisions of a document are asked for by `open_revs`.
 
+ghost use Rattle.std.specs.Prelude.{◌≡◌};
 ghost use Rattle.http_bodies.specs.Steps.{Decides};
 ghost use Rattle.http_request.specs.Opened.{open_leaves, open_listed, open_revs_of};
 
@@ -7,13 +8,13 @@ use crate::asked::Asked;
 use crate::parameter::read_named_revision;
 use commands::{Options, Query, QueryKind};
 use document_id::DocId;
-use http_bodies::{Fault, Reason, read_revisions, read_text_list, refuse};
+use http_bodies::{Fault, Reason, Refusal, read_revisions, read_text_list, refuse};
 use http_target::query::Parameters;
 use std::alloc::Global;
 
 /// What asks for all leaves.
-fn read_leaves(id: DocId, options: Options, parameters: &Parameters<'_>) -> Result<Asked, Fault>
-    ensures { Decides result (open_leaves id options parameters.now) }
+fn read_leaves(id: DocId, options: Options, parameters: &Parameters<'_>) -> Result<Asked, Refusal>
+    ensures { result ≡ open_leaves id options parameters.now }
 {
     let _named = read_named_revision(parameters)?;
     Ok(Asked::Query(Query::new(QueryKind::OpenRevs {
@@ -56,7 +57,7 @@ pub(crate) fn read_open_revs(
     ensures { Decides result (open_revs_of id options text.now parameters.now) }
 {
     if text == "all" {
-        return read_leaves(id, options, parameters);
+        return Ok(read_leaves(id, options, parameters)?);
     }
     read_listed(alloc, id, options, text, parameters)
 }

@@ -2,43 +2,42 @@
 
 ghost use Rattle.std.specs.Prelude.{◌≡◌};
 ghost use Rattle.http_request.specs.Parameters.{asks_for_documents, flag_parameter, is_given, is_there, no_replication, number_parameter, options_of, rev_parameter};
-ghost use Rattle.http_bodies.specs.Steps.{Decides};
 
 use commands::Options;
-use http_bodies::{Fault, Reason, name_revision, refuse};
+use http_bodies::{Reason, Refusal, name_revision};
 use http_target::query::Parameters;
 use http_target::value::{parse_flag, parse_number};
 use revision_id::RevId;
 
 /// A truth value, false where it is not given.
-fn read_flag(parameters: &Parameters<'_>, name: &str) -> Result<bool, Fault>
-    ensures { Decides result (flag_parameter name.now parameters.now) }
+fn read_flag(parameters: &Parameters<'_>, name: &str) -> Result<bool, Refusal>
+    ensures { result ≡ flag_parameter name.now parameters.now }
 {
     let Some(value) = parameters.get(name) else {
         return Ok(false);
     };
     match parse_flag(value) {
         Some(flag) => Ok(flag),
-        None => Err(refuse(Reason::Parameter)),
+        None => Err(Refusal::BadRequest(Reason::Parameter)),
     }
 }
 
 /// A number, if it is given.
-pub(crate) fn read_number(parameters: &Parameters<'_>, name: &str) -> Result<Option<u64>, Fault>
-    ensures { Decides result (number_parameter name.now parameters.now) }
+pub(crate) fn read_number(parameters: &Parameters<'_>, name: &str) -> Result<Option<u64>, Refusal>
+    ensures { result ≡ number_parameter name.now parameters.now }
 {
     let Some(value) = parameters.get(name) else {
         return Ok(None);
     };
     match parse_number(value) {
         Some(number) => Ok(Some(number)),
-        None => Err(refuse(Reason::Parameter)),
+        None => Err(Refusal::BadRequest(Reason::Parameter)),
     }
 }
 
 /// The revision that the request names.
-pub(crate) fn read_named_revision(parameters: &Parameters<'_>) -> Result<Option<RevId>, Fault>
-    ensures { Decides result (rev_parameter parameters.now) }
+pub(crate) fn read_named_revision(parameters: &Parameters<'_>) -> Result<Option<RevId>, Refusal>
+    ensures { result ≡ rev_parameter parameters.now }
 {
     let Some(text) = parameters.get("rev") else {
         return Ok(None);
@@ -64,11 +63,11 @@ pub(crate) fn is_there(parameters: &Parameters<'_>, name: &str) -> bool
 }
 
 /// Refuses the parameter that says that a write is a replication.
-pub(crate) fn refuse_replication(parameters: &Parameters<'_>) -> Result<(), Fault>
-    ensures { Decides result (no_replication parameters.now) }
+pub(crate) fn refuse_replication(parameters: &Parameters<'_>) -> Result<(), Refusal>
+    ensures { result ≡ no_replication parameters.now }
 {
     if is_given(parameters, "new_edits", "false") {
-        return Err(refuse(Reason::Parameter));
+        return Err(Refusal::BadRequest(Reason::Parameter));
     }
     Ok(())
 }
@@ -81,8 +80,8 @@ pub(crate) fn asks_for_documents(parameters: &Parameters<'_>) -> bool
 }
 
 /// What beside its body is asked of a document.
-pub(crate) fn read_options(parameters: &Parameters<'_>) -> Result<Options, Fault>
-    ensures { Decides result (options_of parameters.now) }
+pub(crate) fn read_options(parameters: &Parameters<'_>) -> Result<Options, Refusal>
+    ensures { result ≡ options_of parameters.now }
 {
     let latest = read_flag(parameters, "latest")?;
     let revs = read_flag(parameters, "revs")?;

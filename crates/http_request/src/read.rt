@@ -78,21 +78,21 @@ fn read_route(
     }
 }
 
-fn find_route(routes: &Routes, path: &str) -> Result<Route, Fault>
-    ensures { Decides result (route_in path.now) }
+fn find_route(routes: &Routes, path: &str) -> Result<Route, Refusal>
+    ensures { result ≡ route_in path.now }
 {
     match routes.at(path) {
         Some(route) => Ok(route),
-        None => Err(Fault::Refused(Refusal::Missing)),
+        None => Err(Refusal::Missing),
     }
 }
 
-fn find_method(route: Route, name: &[u8]) -> Result<Method, Fault>
-    ensures { Decides result (method_in route name.now) }
+fn find_method(route: Route, name: &[u8]) -> Result<Method, Refusal>
+    ensures { result ≡ method_in route name.now }
 {
     match method_of(route, name) {
         Some(method) => Ok(method),
-        None => Err(Fault::Refused(Refusal::MethodNotAllowed(route))),
+        None => Err(Refusal::MethodNotAllowed(route)),
     }
 }
 

@@ -22,8 +22,8 @@ returns-in-Ok c =
     let body = sym (c.in-Ok.ensures.body.0 ∙ ap without_specials l2 ∙ body_left ms) in
     let nests : depth (object (without_specials ms)) ≤ max_body_nesting =
     subst (λ b. depth (object b) ≤ max_body_nesting) (sym body) c.in-Ok.ensures.body.1 in
-    nesting_parts-ok (local_parts_of ms) nests
-    ∙ λ i. Ok (record { id = sym c.take-id.ensures.taken i; rev = rev i; deleted = None; revisions = None; has_other = other i; body = body i })
+    sym (nesting_parts-ok (local_parts_of ms) nests
+    ∙ λ i. Ok (record { id = sym c.take-id.ensures.taken i; rev = rev i; deleted = None; revisions = None; has_other = other i; body = body i }))
 
 pub returns-in-Err : goal.returns-in-Err
 returns-in-Err c =
@@ -33,4 +33,4 @@ returns-in-Err c =
     let body = ap without_specials l2 ∙ body_left ms in
     let deep : max_body_nesting < depth (object (without_specials ms)) =
     subst (λ b. max_body_nesting < depth (object b)) body c.in-Err.ensures.depth.1 in
-    rw c.refuse.ensures (nesting_parts-depth (local_parts_of ms) deep)
+    sym (nesting_parts-depth (local_parts_of ms) deep)
