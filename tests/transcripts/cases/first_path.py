@@ -143,8 +143,8 @@ NOT_YET = {
     ],
 }
 
-# each of these refusals has one text until broken input is told apart
-UNTIL_BROKEN_INPUT = {
+# input that is refused with all that follows it, for another reason than that it is no head
+BROKEN_INPUT = {
     "sixty-five-headers": [get("/", headers=["X-%d: y" % n for n in range(65)])],
     "sixty-five-headers-without-end": [get("/", headers=["X-%d: y" % n for n in range(65)])[:-2]],
     "head-of-16385-bytes": [get("/", headers=["X: " + "y" * (16385 - 23)])],
