@@ -229,6 +229,29 @@ WORKED = {
     ],
 }
 
+LARGE_HEAD = ("431 Request Header Fields Too Large", 37, '{"error":"too_large","reason":"head"}')
+CHUNKS = ("411 Length Required", 68, '{"error":"length_required","reason":"Chunked bodies are not taken."}')
+LENGTH = ("400 Bad Request", 41, '{"error":"bad_request","reason":"length"}')
+LARGE_BODY = ("413 Content Too Large", 37, '{"error":"too_large","reason":"body"}')
+
+# of each transcript of input that is refused at once with all that follows it: the status, the length and the body
+BROKEN = {
+    "1-first-path/no-head": ("400 Bad Request", 39, '{"error":"bad_request","reason":"head"}'),
+    "broken-input/sixty-five-headers": LARGE_HEAD,
+    "broken-input/sixty-five-headers-without-end": LARGE_HEAD,
+    "broken-input/head-of-16385-bytes": LARGE_HEAD,
+    "broken-input/empty-lines-without-end": LARGE_HEAD,
+    "broken-input/target-not-utf8-without-end": LARGE_HEAD,
+    "broken-input/transfer-coding": CHUNKS,
+    "broken-input/transfer-coding-and-length": CHUNKS,
+    "broken-input/length-twice": LENGTH,
+    "broken-input/length-empty": LENGTH,
+    "broken-input/length-with-sign": LENGTH,
+    "broken-input/length-no-digits": LENGTH,
+    "broken-input/length-too-large": LARGE_BODY,
+    "broken-input/length-past-any-number": LARGE_BODY,
+}
+
 # lengths that were counted by hand
 LENGTHS = [(written("a", A1), 63), (CONFLICT, 57), ('{"_id":"a","_rev":"%s"}' % A1, 55)]
 
@@ -247,6 +270,13 @@ def transcripts():
     for name, responses in WORKED.items():
         wanted = b"".join(response(*parts) for parts in responses)
         yield name, stored(name, ".expected") == wanted and once.run(stored(name, ".http"), int(name[0]))[0] == wanted
+
+
+def broken():
+    head = "HTTP/1.1 %s\r\nContent-Type: application/json\r\nContent-Length: %d\r\nCouch-Place: 0\r\nConnection: close\r\n\r\n%s"
+    for name, parts in BROKEN.items():
+        wanted = (head % parts).encode()
+        yield name, stored(name, ".expected") == wanted and once.run(stored(name, ".http")) == (wanted, 0)
 
 
 def literal():
@@ -326,7 +356,7 @@ def stems():
 
 def main():
     passed = failed = 0
-    for checks in [transcripts, literal, digests, nestings, follower, stems]:
+    for checks in [transcripts, broken, literal, digests, nestings, follower, stems]:
         for name, holds in checks():
             passed += holds
             failed += not holds

@@ -2,12 +2,9 @@
 from . import actions
 from .database import Session
 from .framing import Unfinished, Unreadable, read_request
-from .responses import bad_request, response
+from .responses import broken, response
 
 LAST_STAGE = 3
-
-# the reasons of what is refused with a close; until each has a text of its own, they have one
-CLOSING = {kind: "head" for kind in ("head", "large_head", "coding", "length", "large_body")}
 
 
 class Connection:
@@ -26,7 +23,7 @@ class Connection:
             except Unfinished:
                 return
             except Unreadable as refusal:
-                yield response(bad_request(CLOSING[refusal.kind]), self.session.place, True)
+                yield response(broken(refusal.kind), self.session.place, True)
                 return
             answer = actions.answer(self.session, request, self.stage)
             yield response(answer, self.session.place, request.closes)

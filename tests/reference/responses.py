@@ -9,6 +9,9 @@ REASONS = {
     404: "Not Found",
     405: "Method Not Allowed",
     409: "Conflict",
+    411: "Length Required",
+    413: "Content Too Large",
+    431: "Request Header Fields Too Large",
 }
 
 # of each refusal of a command or a query: its status, its error and its reason
@@ -18,6 +21,15 @@ REFUSALS = {
     MISSING: (404, "not_found", "missing"),
     DELETED: (404, "not_found", "deleted"),
     GENERATION: (409, "generation", "The generation limit is reached."),
+}
+
+# of each kind of input that is refused with all that follows it: its status, its error and its reason
+BROKEN = {
+    "head": (400, "bad_request", "head"),
+    "large_head": (431, "too_large", "head"),
+    "coding": (411, "length_required", "Chunked bodies are not taken."),
+    "length": (400, "bad_request", "length"),
+    "large_body": (413, "too_large", "body"),
 }
 
 
@@ -46,6 +58,11 @@ def method_not_allowed(methods):
 
 def refused(refusal):
     status, error, reason = REFUSALS[refusal.kind]
+    return Answer(status, {"error": error, "reason": reason})
+
+
+def broken(kind):
+    status, error, reason = BROKEN[kind]
     return Answer(status, {"error": error, "reason": reason})
 
 

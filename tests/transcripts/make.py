@@ -27,7 +27,7 @@ FOLDERS = [
     ("2-not-yet", 2, 2, conflicts.NOT_YET),
     ("3-queries", 3, ALWAYS, {**queries.CASES, **edges.CASES}),
     ("3-not-yet", 3, 3, queries.NOT_YET),
-    ("until-broken-input", 1, ALWAYS, first_path.UNTIL_BROKEN_INPUT),
+    ("broken-input", 1, ALWAYS, first_path.BROKEN_INPUT),
 ]
 
 

@@ -1,3 +1,4 @@
 pub mod Sessions
+pub mod Texts
 pub mod Turns
 pub mod Told

@@ -1,5 +1,5 @@
 -- The turns of a session that is alone.
-use Rattle.std.proofs.Common.{◌≡◌, ℕ, Bool, List, [], ◌∷◌, ◌++◌, length, take, Ok, inl, inr, refl, ap, sym, ◌∙◌, subst, arith}
+use Rattle.std.proofs.Common.{◌≡◌, ℕ, Bool, List, [], ◌∷◌, ◌++◌, length, take, Some, Ok, inl, inr, refl, ap, sym, ◌∙◌, subst, arith}
 use Rattle.std.proofs.lemmas.List.{append-nil, take_all}
 use Rattle.model.specs.Command.{Command, Reply, Seat, Entry}
 use Rattle.model.specs.Query.{Query, Answer}
@@ -54,16 +54,17 @@ module _ (k : Known) (place : ℕ) (place_is : place ≡ length k.seen) (respons
 
     -- the answer to a query
     pub answers_query : (query : Query) (answer : Answer) → AsksQuery (now (history_of k)) (Asked request) query → answer ≡ answer_to (now (history_of k)) query
-        → SendsOrLost (answer_text place (after_closing closes) query answer) closes place lost.Call response
+        → (text : List ℕ) → Some text ≡ answer_text place (after_closing closes) query answer
+        → SendsOrLost text closes place lost.Call response
         → AnswersAlone k (turn_of (Asked request) response) k
-    answers_query query answer asks answers (inl sends) =
+    answers_query query answer asks answers text text_is (inl sends) =
         let all : take place k.seen ≡ k.seen = take_all place k.seen (omega (arith, place_is)) in
         unchanged (Asked request) (Read query answer) refl (
           record { asked = subst (λ (es : List Entry). AsksQuery (replay k.base es) (Asked request) query) (sym all) asks; told = (omega (arith, place_is), answers ∙ ap (λ (es : List Entry). answer_to (replay k.base es) query) (sym all)) },
-          sends.0 ∙ ap (λ (c : Bool). answer_text place (after_closing c) query answer) (sym sends.1),
+          ap Some sends.0 ∙ text_is ∙ ap (λ (c : Bool). answer_text place (after_closing c) query answer) (sym sends.1),
           sends.1 ∙ sym closes_is,
         )
-    answers_query query answer asks answers (inr says) = answers_lost request says
+    answers_query query answer asks answers text text_is (inr says) = answers_lost request says
 
     -- the history is full
     pub answers_full : (form : Form) (command : Command) → decide request ≡ Ok (asked.Command form command) → length k.seen ≡ k.room
@@ -88,14 +89,15 @@ module _ (k : Known) (place : ℕ) (place_is : place ≡ length k.seen) (respons
       }
 
       -- the reply to a command
-      pub answers_command : SendsOrLost (reply_text place (after_closing closes) form command reply) closes place lost.Reply response
+      pub answers_command : (text : List ℕ) → Some text ≡ reply_text place (after_closing closes) form command reply
+          → SendsOrLost text closes place lost.Reply response
           → AnswersAlone old (turn_of (Asked request) response) k
-      answers_command (inl sends) =
+      answers_command text text_is (inl sends) =
           answers_entry (Wrote form (record { seat = seat; command = command; reply = reply })) refl (
             record { asked = asks; own = own; told = writes.told },
-            sends.0 ∙ ap (λ (c : Bool). reply_text place (after_closing c) form command reply) (sym sends.1),
+            ap Some sends.0 ∙ text_is ∙ ap (λ (c : Bool). reply_text place (after_closing c) form command reply) (sym sends.1),
             sends.1 ∙ sym closes_is,
           )
-      answers_command (inr says) =
+      answers_command text text_is (inr says) =
           answers_entry (WroteUntold form (record { seat = seat; command = command; reply = reply })) refl
           (record { asked = asks; own = own; told = writes.told }, says.0, says.1)

@@ -1,5 +1,5 @@
 -- What becomes of a request, and the text that tells it.
-use Rattle.std.specs.Prelude.{◌≡◌, ℕ, ◌⊎◌, Bool, true, List, [], ◌∷◌, length, take, Option, Result, Ok, Err, if◌then◌else◌, ⊤}
+use Rattle.std.specs.Prelude.{◌≡◌, ℕ, ◌⊎◌, Bool, true, List, [], ◌∷◌, length, take, Option, Some, Result, Ok, Err, if◌then◌else◌, ⊤}
 use Rattle.model.specs.Command.{Entry, Command}
 use Rattle.model.specs.Query.{Query, Answer, Changes, Style}
 use Rattle.model.specs.Database.{Database}
@@ -112,13 +112,13 @@ module _ (k : Known) where
   TellsAt turn place Fixed = HasFixedText place turn.item turn.text × (turn.closes ≡ closes_connection turn.item)
   TellsAt turn place (Wrote form entry) =
       IsWritten turn.item place form entry
-      × (turn.text ≡ reply_text place (after_closing turn.closes) form entry.command entry.reply)
+      × (Some turn.text ≡ reply_text place (after_closing turn.closes) form entry.command entry.reply)
       × (turn.closes ≡ closes_connection turn.item)
   TellsAt turn place (WroteUntold form entry) =
       IsWritten turn.item place form entry × (turn.text ≡ no_memory_text place lost.Reply) × (turn.closes ≡ true)
   TellsAt turn place (Read query answer) =
       IsRead turn.item place query answer
-      × (turn.text ≡ answer_text place (after_closing turn.closes) query answer)
+      × (Some turn.text ≡ answer_text place (after_closing turn.closes) query answer)
       × (turn.closes ≡ closes_connection turn.item)
   TellsAt turn place OutOfMemory = IsRequest turn.item × (turn.text ≡ no_memory_text place lost.Call) × (turn.closes ≡ true)
   TellsAt turn place Full =

@@ -1,9 +1,12 @@
 //! The turns of a session.
 
-ghost use Rattle.std.specs.Prelude.{◌≡◌, ◌++◌, length, Ok};
+ghost use Rattle.std.specs.Prelude.{◌≡◌, ◌++◌, length, Ok, Some, IfOk, IsSome, string_bytes};
 ghost use Rattle.http_framing.specs.Input.{Asked as AskedItem, Refused};
 ghost use Rattle.http_framing.specs.Request as framing;
 ghost use Rattle.http_request.specs.Decide.{decide};
+ghost use Rattle.http_request.specs.Forms.{HasForm, IsFormOf};
+ghost use Rattle.http_response.specs.Texts.{answer_text, reply_text};
+ghost use Rattle.http_response.specs.Told.{answer_told, reply_told};
 ghost use Rattle.model.specs.Query.{Changes};
 ghost use Rattle.model.specs.History.{now};
 ghost use Rattle.http_front.specs.Answers.{AnswersAlone};
@@ -12,13 +15,13 @@ ghost use Rattle.http_front.specs.Outcome.{AsksQuery};
 ghost use Rattle.http_front.specs.Response.{turn_of};
 
 use crate::response::{Response, connection_after};
-use crate::session::{Session, WriteFault};
+use crate::session::{Receipt, Session, WriteFault};
 use changes_feed::answer;
-use commands::{Command, Query, QueryKind, Style};
+use commands::{Answer, Command, Query, QueryKind, Style};
 use http_framing::FramingFault;
 use http_framing::request::Request;
 use http_request::{Asked, Form, read_request};
-use http_response::{Lost, closing, full, refused, reply, welcome};
+use http_response::{Connection, Lost, closing, full, refused, reply, welcome};
 use http_routes::Routes;
 use std::alloc::{AllocError, Global};
 
@@ -60,6 +63,7 @@ pub(crate) fn respond(session: &mut Session, setting: &Setting, request: &Reques
 
 /// Does what is asked, and answers it.
 fn carry_out(session: &mut Session, alloc: Global, asked: &Asked, closes: bool) -> Response
+    requires { HasForm asked.now }
     ensures { (request : framing.Request) → decide request ≡ Ok asked.now
         → request.closes ≡ closes
         → AnswersAlone session.old (turn_of (AskedItem request) result) session.new }
@@ -87,6 +91,7 @@ fn write(
     command: &Command,
     closes: bool,
 ) -> Response
+    requires { IsFormOf form command.now }
     ensures { (request : framing.Request) → decide request ≡ Ok (Asked.Command form command.now)
         → request.closes ≡ closes
         → AnswersAlone session.old (turn_of (AskedItem request) result) session.new }
@@ -95,7 +100,7 @@ fn write(
     match session.write(alloc, command) {
         Ok(receipt) => {
             let place = receipt.place;
-            let text = reply(alloc, place, connection, form, command, &receipt.reply);
+            let text = reply_text(alloc, connection, form, command, &receipt);
             Response::new(text, closes, place, Lost::Reply)
         }
         Err(WriteFault::Memory) => Response::out_of_memory(session.place(), Lost::Call),
@@ -104,6 +109,23 @@ fn write(
             Response::new(full(alloc, place, connection), closes, place, Lost::Call)
         }
     }
+}
+
+/// The text of the reply to a command that was asked for in this form.
+fn reply_text(
+    alloc: Global,
+    connection: Connection,
+    form: Form,
+    command: &Command,
+    receipt: &Receipt,
+) -> Result<String, AllocError>
+    requires { IsSome (reply_told form command.now receipt.now.reply) }
+    ensures { IfOk result (λ text. Some (string_bytes text)
+        ≡ reply_text receipt.now.place connection form command.now receipt.now.reply) }
+{
+    let text = reply(alloc, receipt.place, connection, form, command, &receipt.reply)?;
+    let Some(text) = text else { unreachable!() };
+    Ok(text)
 }
 
 /// The query for the changes after all that the session has seen.
@@ -129,8 +151,25 @@ fn read(session: &Session, alloc: Global, query: &Query, closes: bool) -> Respon
     let Ok(found) = answer(alloc, session.look(), query) else {
         return Response::out_of_memory(place, Lost::Call);
     };
-    let text = http_response::answer(alloc, place, connection_after(closes), query, &found);
+    let text = answer_text(alloc, place, connection_after(closes), query, &found);
     Response::new(text, closes, place, Lost::Call)
+}
+
+/// The text of the answer to a query.
+fn answer_text(
+    alloc: Global,
+    place: u64,
+    connection: Connection,
+    query: &Query,
+    found: &Answer,
+) -> Result<String, AllocError>
+    requires { IsSome (answer_told query.now found.now) }
+    ensures { IfOk result (λ text. Some (string_bytes text)
+        ≡ answer_text place connection query.now found.now) }
+{
+    let text = http_response::answer(alloc, place, connection, query, found)?;
+    let Some(text) = text else { unreachable!() };
+    Ok(text)
 }
 
 /// Answers bytes that are refused.

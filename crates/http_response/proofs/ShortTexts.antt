@@ -5,7 +5,8 @@ use Rattle.std.specs.Str.Parse.{AllDigits, digits_value}
 use Rattle.std.proofs.lemmas.Fmt.{decimal-digits_value}
 use Rattle.std.proofs.lemmas.Str.Parse.{IsNumeralModel, numerals_by_value, tells_digits}
 use Rattle.http_framing.specs.declared.FramingFault.{FramingFault}
-use Rattle.http_response.specs.Problem.{closing_body}
+use Rattle.http_framing.specs.declared.FramingFault.TheVariants as fault
+use Rattle.http_response.specs.Problem.{closing_status, closing_body}
 use Rattle.http_response.specs.Response.{response_text, status_text, content_head, place_head}
 use Rattle.http_response.specs.Texts.{closing_text, closing_length, no_memory_text, no_memory_body, no_memory_length, before_place, after_place}
 use Rattle.http_response.specs.declared.connection.Connection.TheVariants as connection
@@ -23,7 +24,11 @@ no_memory-length lost.Call = decimal-digits_value own (51 ∷ 55 ∷ []) (omega 
 no_memory-length lost.Reply = decimal-digits_value own (51 ∷ 56 ∷ []) (omega arith, (omega arith, tt)) (omega arith) (λ zero. absurd (omega arith)) (omega arith)
 
 closing-length : (fault : FramingFault) → decimal (length (closing_body fault)) ≡ closing_length fault
-closing-length fault = decimal-digits_value own (51 ∷ 57 ∷ []) (omega arith, (omega arith, tt)) (omega arith) (λ zero. absurd (omega arith)) (omega arith)
+closing-length fault.Head = decimal-digits_value own (51 ∷ 57 ∷ []) (omega arith, (omega arith, tt)) (omega arith) (λ zero. absurd (omega arith)) (omega arith)
+closing-length fault.LargeHead = decimal-digits_value own (51 ∷ 55 ∷ []) (omega arith, (omega arith, tt)) (omega arith) (λ zero. absurd (omega arith)) (omega arith)
+closing-length fault.TransferEncoding = decimal-digits_value own (54 ∷ 56 ∷ []) (omega arith, (omega arith, tt)) (omega arith) (λ zero. absurd (omega arith)) (omega arith)
+closing-length fault.ContentLength = decimal-digits_value own (52 ∷ 49 ∷ []) (omega arith, (omega arith, tt)) (omega arith) (λ zero. absurd (omega arith)) (omega arith)
+closing-length fault.LargeBody = decimal-digits_value own (51 ∷ 55 ∷ []) (omega arith, (omega arith, tt)) (omega arith) (λ zero. absurd (omega arith)) (omega arith)
 
 joined : (a s c n p d e : List ℕ) → (((a ++ (s ++ (c ++ (n ++ p)))) ++ d) ++ e) ≡ a ++ (s ++ (c ++ (n ++ (p ++ (d ++ e)))))
 joined a s c n p d e = simp append_assoc refl
@@ -40,6 +45,6 @@ unfolding no_memory_text
 no_memory_text-parts place lost = parts status.InsufficientStorage place (no_memory_length lost) (no_memory_body lost) (no_memory-length lost)
 
 pub closing_text-parts : (place : ℕ) (fault : FramingFault)
-    → ((before_place status.BadRequest (closing_length fault) ++ decimal place) ++ after_place (closing_body fault)) ≡ closing_text place fault
+    → ((before_place (closing_status fault) (closing_length fault) ++ decimal place) ++ after_place (closing_body fault)) ≡ closing_text place fault
 unfolding closing_text
-closing_text-parts place fault = parts status.BadRequest place (closing_length fault) (closing_body fault) (closing-length fault)
+closing_text-parts place fault = parts (closing_status fault) place (closing_length fault) (closing_body fault) (closing-length fault)

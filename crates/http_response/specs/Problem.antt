@@ -1,6 +1,7 @@
 -- Why something was not done, as a response tells it.
 use Rattle.std.specs.Prelude.{ℕ, List, ◌++◌, codes}
 use Rattle.http_framing.specs.declared.FramingFault.{FramingFault}
+use Rattle.http_framing.specs.declared.FramingFault.TheVariants as fault
 use Rattle.http_bodies.specs.declared.refusal.Refusal.{Refusal}
 use Rattle.http_bodies.specs.declared.refusal.Refusal.TheVariants as refusal
 use Rattle.http_bodies.specs.declared.refusal.Reason.{Reason}
@@ -43,9 +44,21 @@ refusal_body refusal.Missing = problem_text (codes "not_found") (codes "missing"
 refusal_body (refusal.MethodNotAllowed route) = problem_text (codes "method_not_allowed") (codes "Method not allowed.")
 refusal_body (refusal.BadRequest reason) = problem_text (codes "bad_request") (reason_name reason)
 
--- bytes that are refused, after which the connection closes
+-- ---- bytes that are refused, after which the connection closes
+
+abbrev pub closing_status : FramingFault → Status
+closing_status fault.Head = status.BadRequest
+closing_status fault.LargeHead = status.RequestHeaderFieldsTooLarge
+closing_status fault.TransferEncoding = status.LengthRequired
+closing_status fault.ContentLength = status.BadRequest
+closing_status fault.LargeBody = status.ContentTooLarge
+
 abbrev pub closing_body : FramingFault → List ℕ
-closing_body fault = problem_text (codes "bad_request") (codes "head")
+closing_body fault.Head = problem_text (codes "bad_request") (codes "head")
+closing_body fault.LargeHead = problem_text (codes "too_large") (codes "head")
+closing_body fault.TransferEncoding = problem_text (codes "length_required") (codes "Chunked bodies are not taken.")
+closing_body fault.ContentLength = problem_text (codes "bad_request") (codes "length")
+closing_body fault.LargeBody = problem_text (codes "too_large") (codes "body")
 
 -- ---- a write that is refused
 

@@ -1,12 +1,13 @@
 -- The texts of responses, each at a place of the history.
-use Rattle.std.specs.Prelude.{ℕ, List, ◌++◌, codes}
+use Rattle.std.specs.Prelude.{ℕ, List, ◌++◌, Option, option_map, codes}
 use Rattle.model.specs.Command.{Command, Reply}
 use Rattle.model.specs.Query.{Query, Answer}
 use Rattle.http_framing.specs.declared.FramingFault.{FramingFault}
+use Rattle.http_framing.specs.declared.FramingFault.TheVariants as fault
 use Rattle.http_request.specs.declared.asked.Form.{Form}
 use Rattle.http_bodies.specs.declared.refusal.Refusal.{Refusal}
 use Rattle.http_response.specs.Response.{response_text, status_text, content_head, place_head, connection_line, crlf}
-use Rattle.http_response.specs.Problem.{problem_text, refusal_status, refusal_allow, refusal_body, closing_body}
+use Rattle.http_response.specs.Problem.{problem_text, refusal_status, refusal_allow, refusal_body, closing_status, closing_body}
 use Rattle.http_response.specs.Told.{Told, reply_told, answer_told}
 use Rattle.http_response.specs.declared.response.Status.{Status}
 use Rattle.http_response.specs.declared.response.Status.TheVariants as status
@@ -35,11 +36,15 @@ refusal_text place connection refusal =
 
 -- bytes that are refused, with all that follows them
 unfoldable pub closing_text : ℕ → FramingFault → List ℕ
-closing_text place fault = response_text status.BadRequest place allow.Unsaid connection.Close (closing_body fault)
+closing_text place fault = response_text (closing_status fault) place allow.Unsaid connection.Close (closing_body fault)
 
 -- the length of its body, in digits
 abbrev pub closing_length : FramingFault → List ℕ
-closing_length fault = codes "39"
+closing_length fault.Head = codes "39"
+closing_length fault.LargeHead = codes "37"
+closing_length fault.TransferEncoding = codes "68"
+closing_length fault.ContentLength = codes "41"
+closing_length fault.LargeBody = codes "37"
 
 -- `GET /`
 unfoldable pub welcome_text : ℕ → Connection → List ℕ
@@ -48,13 +53,13 @@ welcome_text place connection = response_text status.Ok place allow.Unsaid conne
 abbrev pub told_text : ℕ → Connection → Told → List ℕ
 told_text place connection told = response_text told.0 place allow.Unsaid connection told.1
 
--- what became of a command
-unfoldable pub reply_text : ℕ → Connection → Form → Command → Reply → List ℕ
-reply_text place connection form command reply = told_text place connection (reply_told form command reply)
+-- what became of a command, where its reply is told in this form
+unfoldable pub reply_text : ℕ → Connection → Form → Command → Reply → Option (List ℕ)
+reply_text place connection form command reply = option_map (told_text place connection) (reply_told form command reply)
 
--- what a query is answered
-unfoldable pub answer_text : ℕ → Connection → Query → Answer → List ℕ
-answer_text place connection query answer = told_text place connection (answer_told query answer)
+-- what a query is answered, where it has such answers
+unfoldable pub answer_text : ℕ → Connection → Query → Answer → Option (List ℕ)
+answer_text place connection query answer = option_map (told_text place connection) (answer_told query answer)
 
 -- a command for which the history has no place
 unfoldable pub full_text : ℕ → Connection → List ℕ

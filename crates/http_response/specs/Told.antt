@@ -3,8 +3,8 @@ use Rattle.std.specs.Prelude.{ℕ, List, [], ◌∷◌, Result, Ok, Err, codes, 
 use Rattle.serde_json.specs.Data.{Data, number, unsigned, array}
 use Rattle.serde_json.specs.View.{items_of}
 use Rattle.serde_json.specs.Written.{compact_text}
-use Rattle.model.specs.Command.{Id, Edit, Merge, Command, Edits, Merges, PutLocal, Refusal, Reply, Wrote, WroteLocal}
-use Rattle.model.specs.Query.{Query, Answer, Document, Absent, Counted, Found, Limit, GetLocal, IsMissing, Changed, Differences, Documents, FoundLocal, Opened}
+use Rattle.model.specs.Command.{Id, Edit, Merge, Command, Edits, Merges, PutLocal, SetLimit, Refusal, Reply, Wrote, WroteLocal, Done}
+use Rattle.model.specs.Query.{Query, Get, OpenRevs, RevsDiff, Changes, AllDocuments, Info, GetLocal, RevsLimit, Answer, Document, Absent, Counted, Found, Limit, IsMissing, Changed, Differences, Documents, FoundLocal, Opened}
 use Rattle.model.specs.Revision.{Rev}
 use Rattle.http_request.specs.declared.asked.Form.{Form}
 use Rattle.http_request.specs.declared.asked.Form.TheVariants as form
@@ -38,17 +38,16 @@ abbrev pub told_one : Status → Id → Result Rev Refusal → Told
 told_one status id (Ok rev) = (status, compact_text (written_data id rev))
 told_one status id (Err refusal) = told_refused refusal
 
--- the first write, where there is one
-abbrev pub told_first : Status → List Edit → List (Result Rev Refusal) → Told
-told_first status [] outcomes = done
-told_first status (edit ∷ edits) [] = done
-told_first status (edit ∷ edits) (outcome ∷ outcomes) = told_one status edit.id outcome
+-- the one write that was asked for
+abbrev pub told_single : Status → List Edit → List (Result Rev Refusal) → Option Told
+told_single status (edit ∷ []) (outcome ∷ []) = Some (told_one status edit.id outcome)
+told_single status edits outcomes = None
 
 -- edits, in a form
-abbrev pub told_edits : Form → List Edit → List (Result Rev Refusal) → Told
-told_edits form.Put edits outcomes = told_first status.Created edits outcomes
-told_edits form.Delete edits outcomes = told_first status.Ok edits outcomes
-told_edits form.Whole edits outcomes = told_list status.Created (edits_data edits outcomes)
+abbrev pub told_edits : Form → List Edit → List (Result Rev Refusal) → Option Told
+told_edits form.Put edits outcomes = told_single status.Created edits outcomes
+told_edits form.Delete edits outcomes = told_single status.Ok edits outcomes
+told_edits form.Whole edits outcomes = Some (told_list status.Created (edits_data edits outcomes))
 
 -- merges: the refusals alone
 abbrev pub told_merges : List Merge → List (Result Rev Refusal) → Told
@@ -60,17 +59,18 @@ told_local_one status id (Ok counter) = (status, compact_text (local_written_dat
 told_local_one status id (Err refusal) = told_refused refusal
 
 -- a write of a local document, in a form that is not of a bulk
-abbrev pub told_local : Form → Id → Result ℕ Refusal → Told
-told_local form.Put id outcome = told_local_one status.Created id outcome
-told_local form.Delete id outcome = told_local_one status.Ok id outcome
-told_local form.Whole id outcome = done
+abbrev pub told_local : Form → Id → Result ℕ Refusal → Option Told
+told_local form.Put id outcome = Some (told_local_one status.Created id outcome)
+told_local form.Delete id outcome = Some (told_local_one status.Ok id outcome)
+told_local form.Whole id outcome = None
 
--- the last row is of the limit; a reply of another form than that of its command does not come
-abbrev pub reply_told : Form → Command → Reply → Told
+-- a reply to a command, where some request asks for such a command in this form and is replied so
+abbrev pub reply_told : Form → Command → Reply → Option Told
 reply_told form (Edits edits) (Wrote outcomes) = told_edits form edits outcomes
-reply_told form (Merges merges) (Wrote outcomes) = told_merges merges outcomes
+reply_told form.Whole (Merges merges) (Wrote outcomes) = Some (told_merges merges outcomes)
 reply_told form (PutLocal id named body) (WroteLocal outcome) = told_local form id outcome
-reply_told form command reply = done
+reply_told form.Whole (SetLimit limit) Done = Some done
+reply_told form command reply = None
 
 -- ---- answers
 
@@ -86,14 +86,14 @@ abbrev pub local_told : Id → Option (ℕ × Body) → Told
 local_told id (Some local) = told_data (local_data id local)
 local_told id None = (status.NotFound, absent_problem IsMissing)
 
--- only a query for a local document finds one, so the last line is never told
-abbrev pub answer_told : Query → Answer → Told
-answer_told query (Found found) = found_told found
-answer_told query (Opened opened) = told_data (all_opened_data opened)
-answer_told query (Differences differences) = told_data (differences_data differences)
-answer_told query (Changed page) = told_data (page_data page)
-answer_told query (Documents documents) = told_data (all_docs_data documents)
-answer_told query (Counted counts) = told_data (counts_data counts)
-answer_told query (Limit limit) = told_data (number (unsigned limit))
-answer_told (GetLocal id) (FoundLocal found) = local_told id found
-answer_told query (FoundLocal found) = done
+-- an answer to a query, where such queries are answered so
+abbrev pub answer_told : Query → Answer → Option Told
+answer_told (Get id rev options) (Found found) = Some (found_told found)
+answer_told (OpenRevs id asked options) (Opened opened) = Some (told_data (all_opened_data opened))
+answer_told (RevsDiff named) (Differences differences) = Some (told_data (differences_data differences))
+answer_told (Changes since limit style) (Changed page) = Some (told_data (page_data page))
+answer_told AllDocuments (Documents documents) = Some (told_data (all_docs_data documents))
+answer_told Info (Counted counts) = Some (told_data (counts_data counts))
+answer_told (GetLocal id) (FoundLocal found) = Some (local_told id found)
+answer_told RevsLimit (Limit limit) = Some (told_data (number (unsigned limit)))
+answer_told query answer = None

@@ -14,7 +14,6 @@ use crate::differences::differences_text;
 use crate::document::{all_opened_text, document_text};
 use crate::local::local_text;
 use crate::problem::body_of_absent;
-use crate::replied::tell_done;
 use crate::response::{Status, plain_response};
 use crate::written::{counts_text, number_text};
 use commands::{Absent, AbsentKind, Answer, AnswerKind, Document, Query, QueryKind};
@@ -23,7 +22,7 @@ use json_profile::Body;
 use std::alloc::{AllocError, Global};
 use std::sync::Arc;
 
-/// The response to a query.
+/// The response to a query, where such queries are answered so.
 #[tactic(auto, unfolding(crate::specs::Texts::answer_text))]
 pub fn answer(
     alloc: Global,
@@ -31,44 +30,49 @@ pub fn answer(
     connection: Connection,
     query: &Query,
     answer: &Answer,
-) -> Result<String, AllocError>
-    ensures text { IfOk result (λ text. string_bytes text
+) -> Result<Option<String>, AllocError>
+    ensures text { IfOk result (λ text. option_map string_bytes text
         ≡ answer_text place connection query.now answer.now) }
 {
-    let (status, body) = tell(alloc, query, answer.kind())?;
-    plain_response(alloc, status, place, connection, body.as_str())
+    let Some((status, body)) = tell(alloc, query.kind(), answer.kind())? else {
+        return Ok(None);
+    };
+    let text = plain_response(alloc, status, place, connection, body.as_str())?;
+    Ok(Some(text))
 }
 
-fn tell(alloc: Global, query: &Query, answer: &AnswerKind) -> Result<(Status, String), AllocError>
-    ensures { IfOk result (λ told. (told.0, string_bytes told.1)
-        ≡ answer_told query.now (answer_of answer.now)) }
-{
-    match answer {
-        AnswerKind::Found(found) => tell_found(alloc, found),
-        AnswerKind::Opened(opened) => Ok((Status::Ok, all_opened_text(alloc, opened)?)),
-        AnswerKind::Differences(differences) => {
-            Ok((Status::Ok, differences_text(alloc, differences)?))
-        }
-        AnswerKind::Changed(page) => Ok((Status::Ok, page_text(alloc, page)?)),
-        AnswerKind::Documents(documents) => Ok((Status::Ok, all_docs_text(alloc, documents)?)),
-        AnswerKind::Counted(counts) => Ok((Status::Ok, counts_text(alloc, counts)?)),
-        AnswerKind::FoundLocal(found) => tell_found_local(alloc, query.kind(), found),
-        AnswerKind::Limit(limit) => Ok((Status::Ok, number_text(alloc, *limit)?)),
-    }
-}
-
-/// No query but that for a local document finds one.
-fn tell_found_local(
+fn tell(
     alloc: Global,
     query: &QueryKind,
-    found: &Option<(u32, Arc<Body>)>,
-) -> Result<(Status, String), AllocError>
-    ensures { IfOk result (λ told. (told.0, string_bytes told.1)
-        ≡ answer_told (query_of query.now) (answer_of (AnswerKind.FoundLocal found.now))) }
+    answer: &AnswerKind,
+) -> Result<Option<(Status, String)>, AllocError>
+    ensures { IfOk result (λ told. option_map (λ t. (t.0, string_bytes t.1)) told
+        ≡ answer_told (query_of query.now) (answer_of answer.now)) }
 {
-    match query {
-        QueryKind::GetLocal(id) => tell_local(alloc, id, found),
-        _ => tell_done(alloc),
+    match (query, answer) {
+        (QueryKind::Get { .. }, AnswerKind::Found(found)) => Ok(Some(tell_found(alloc, found)?)),
+        (QueryKind::OpenRevs { .. }, AnswerKind::Opened(opened)) => {
+            Ok(Some((Status::Ok, all_opened_text(alloc, opened)?)))
+        }
+        (QueryKind::RevsDiff(_), AnswerKind::Differences(differences)) => {
+            Ok(Some((Status::Ok, differences_text(alloc, differences)?)))
+        }
+        (QueryKind::Changes { .. }, AnswerKind::Changed(page)) => {
+            Ok(Some((Status::Ok, page_text(alloc, page)?)))
+        }
+        (QueryKind::AllDocuments, AnswerKind::Documents(documents)) => {
+            Ok(Some((Status::Ok, all_docs_text(alloc, documents)?)))
+        }
+        (QueryKind::Info, AnswerKind::Counted(counts)) => {
+            Ok(Some((Status::Ok, counts_text(alloc, counts)?)))
+        }
+        (QueryKind::GetLocal(id), AnswerKind::FoundLocal(found)) => {
+            Ok(Some(tell_local(alloc, id, found)?))
+        }
+        (QueryKind::RevsLimit, AnswerKind::Limit(limit)) => {
+            Ok(Some((Status::Ok, number_text(alloc, *limit)?)))
+        }
+        _ => Ok(None),
     }
 }
 

@@ -2,16 +2,13 @@
 
 ghost use Rattle.std.specs.Prelude.{◌≡◌, IfOk, string_bytes};
 ghost use Rattle.http_response.specs.Problem.{refusal_allow, refusal_body, refusal_status};
-ghost use Rattle.http_response.specs.Texts.{closing_text, full_text, refusal_text, welcome_text};
+ghost use Rattle.http_response.specs.Texts.{full_text, refusal_text, welcome_text};
 
 use crate::connection::Connection;
 use crate::problem::body_of_absent;
 use crate::response::{Allow, Status, plain_response, response};
-use crate::short::{SHORT_ROOM, short_response};
-use arrayvec::ArrayString;
 use commands::AbsentKind;
 use http_bodies::{Reason, Refusal};
-use http_framing::FramingFault;
 use std::alloc::{AllocError, Global};
 
 /// The response to a request that is refused.
@@ -73,18 +70,6 @@ fn bad_request(reason: Reason) -> &'static str
         Reason::Shape => r#"{"error":"bad_request","reason":"shape"}"#,
         Reason::Member => r#"{"error":"bad_request","reason":"member"}"#,
     }
-}
-
-/// The response to bytes that are refused, after which the connection closes.
-#[tactic(auto, unfolding(crate::specs::Texts::closing_text))]
-pub fn closing(place: u64, _fault: FramingFault) -> ArrayString<SHORT_ROOM>
-    ensures text { result.bytes ≡ closing_text place _fault }
-{
-    short_response(
-        "HTTP/1.1 400 Bad Request\r\nContent-Type: application/json\r\nContent-Length: 39\r\nCouch-Place: ",
-        place,
-        "\r\nConnection: close\r\n\r\n{\"error\":\"bad_request\",\"reason\":\"head\"}",
-    )
 }
 
 /// The response to `GET /`.

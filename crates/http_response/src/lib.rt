@@ -6,6 +6,7 @@
 
 mod all_docs;
 mod answered;
+mod broken;
 mod bulk;
 mod changes;
 mod connection;
@@ -23,8 +24,9 @@ mod short;
 mod written;
 
 pub use answered::answer;
+pub use broken::closing;
 pub use connection::Connection;
-pub use fixed::{closing, full, refused, welcome};
+pub use fixed::{full, refused, welcome};
 pub use lost::{Lost, no_memory};
 pub use replied::reply;
 pub use short::SHORT_ROOM;

@@ -1,11 +1,11 @@
 //! What became of a command.
 
-ghost use Rattle.std.specs.Prelude.{◌≡◌, IfOk, string_bytes};
+ghost use Rattle.std.specs.Prelude.{◌≡◌, option_map, IfOk, string_bytes};
 ghost use Rattle.commands.specs.Command.{command_of};
 ghost use Rattle.commands.specs.Refusal.{refusal_of};
 ghost use Rattle.commands.specs.Reply.{reply_of};
 ghost use Rattle.http_response.specs.Texts.{reply_text};
-ghost use Rattle.http_response.specs.Told.{done, reply_told, told_edits, told_first, told_local, told_local_one, told_one, told_refused};
+ghost use Rattle.http_response.specs.Told.{done, reply_told, told_edits, told_local, told_local_one, told_one, told_refused, told_single};
 
 use crate::bulk::{edits_text, merges_text};
 use crate::connection::Connection;
@@ -19,7 +19,8 @@ use http_request::Form;
 use revision_id::RevId;
 use std::alloc::{AllocError, Global};
 
-/// The response to a command, in a form.
+/// The response to a command in a form, where a request can ask for such a command in this form
+/// and be replied so.
 #[tactic(auto, unfolding(crate::specs::Texts::reply_text))]
 pub fn reply(
     alloc: Global,
@@ -28,12 +29,15 @@ pub fn reply(
     form: Form,
     command: &Command,
     reply: &Reply,
-) -> Result<String, AllocError>
-    ensures text { IfOk result (λ text. string_bytes text
+) -> Result<Option<String>, AllocError>
+    ensures text { IfOk result (λ text. option_map string_bytes text
         ≡ reply_text place connection form command.now reply.now) }
 {
-    let (status, body) = tell(alloc, form, command.kind(), reply.kind())?;
-    plain_response(alloc, status, place, connection, body.as_str())
+    let Some((status, body)) = tell(alloc, form, command.kind(), reply.kind())? else {
+        return Ok(None);
+    };
+    let text = plain_response(alloc, status, place, connection, body.as_str())?;
+    Ok(Some(text))
 }
 
 fn tell(
@@ -41,25 +45,27 @@ fn tell(
     form: Form,
     command: &CommandKind,
     reply: &ReplyKind,
-) -> Result<(Status, String), AllocError>
-    ensures { IfOk result (λ told. (told.0, string_bytes told.1)
+) -> Result<Option<(Status, String)>, AllocError>
+    ensures { IfOk result (λ told. option_map (λ t. (t.0, string_bytes t.1)) told
         ≡ reply_told form (command_of command.now) (reply_of reply.now)) }
 {
-    match (command, reply) {
-        (CommandKind::Edits(edits), ReplyKind::Wrote(outcomes)) => {
+    match (form, command, reply) {
+        (_, CommandKind::Edits(edits), ReplyKind::Wrote(outcomes)) => {
             tell_edits(alloc, form, edits, outcomes)
         }
-        (CommandKind::Merges(merges), ReplyKind::Wrote(outcomes)) => {
-            Ok((Status::Created, merges_text(alloc, merges, outcomes)?))
+        (Form::Whole, CommandKind::Merges(merges), ReplyKind::Wrote(outcomes)) => {
+            let refusals = merges_text(alloc, merges, outcomes)?;
+            Ok(Some((Status::Created, refusals)))
         }
-        (CommandKind::PutLocal { id, .. }, ReplyKind::WroteLocal(outcome)) => {
+        (_, CommandKind::PutLocal { id, .. }, ReplyKind::WroteLocal(outcome)) => {
             tell_local(alloc, form, id, outcome)
         }
-        _ => tell_done(alloc),
+        (Form::Whole, CommandKind::SetLimit(_), ReplyKind::Done) => Ok(Some(tell_done(alloc)?)),
+        _ => Ok(None),
     }
 }
 
-pub(crate) fn tell_done(alloc: Global) -> Result<(Status, String), AllocError>
+fn tell_done(alloc: Global) -> Result<(Status, String), AllocError>
     ensures { IfOk result (λ told. (told.0, string_bytes told.1) ≡ done) }
 {
     Ok((Status::Ok, String::from_str(alloc, r#"{"ok":true}"#)?))
@@ -70,34 +76,37 @@ fn tell_edits(
     form: Form,
     edits: &[Edit],
     outcomes: &[Result<RevId, Refusal>],
-) -> Result<(Status, String), AllocError>
-    ensures { IfOk result (λ told. (told.0, string_bytes told.1)
+) -> Result<Option<(Status, String)>, AllocError>
+    ensures { IfOk result (λ told. option_map (λ t. (t.0, string_bytes t.1)) told
         ≡ told_edits form edits.now outcomes.now) }
 {
     match form {
-        Form::Put => tell_first(alloc, Status::Created, edits, outcomes),
-        Form::Delete => tell_first(alloc, Status::Ok, edits, outcomes),
-        Form::Whole => Ok((Status::Created, edits_text(alloc, edits, outcomes)?)),
+        Form::Put => tell_single(alloc, Status::Created, edits, outcomes),
+        Form::Delete => tell_single(alloc, Status::Ok, edits, outcomes),
+        Form::Whole => {
+            let list = edits_text(alloc, edits, outcomes)?;
+            Ok(Some((Status::Created, list)))
+        }
     }
 }
 
-/// Tells of the first write.
-fn tell_first(
+/// Tells of the one write that was asked for.
+fn tell_single(
     alloc: Global,
     status: Status,
     edits: &[Edit],
     outcomes: &[Result<RevId, Refusal>],
-) -> Result<(Status, String), AllocError>
-    ensures { IfOk result (λ told. (told.0, string_bytes told.1)
-        ≡ told_first status edits.now outcomes.now) }
+) -> Result<Option<(Status, String)>, AllocError>
+    ensures { IfOk result (λ told. option_map (λ t. (t.0, string_bytes t.1)) told
+        ≡ told_single status edits.now outcomes.now) }
 {
-    let [edit, ..] = edits else {
-        return tell_done(alloc);
+    let [edit] = edits else {
+        return Ok(None);
     };
-    let [outcome, ..] = outcomes else {
-        return tell_done(alloc);
+    let [outcome] = outcomes else {
+        return Ok(None);
     };
-    tell_one(alloc, status, &edit.id, outcome)
+    Ok(Some(tell_one(alloc, status, &edit.id, outcome)?))
 }
 
 fn tell_one(
@@ -128,14 +137,14 @@ fn tell_local(
     form: Form,
     id: &DocId,
     outcome: &Result<u32, Refusal>,
-) -> Result<(Status, String), AllocError>
-    ensures { IfOk result (λ told. (told.0, string_bytes told.1)
+) -> Result<Option<(Status, String)>, AllocError>
+    ensures { IfOk result (λ told. option_map (λ t. (t.0, string_bytes t.1)) told
         ≡ told_local form id.now outcome.now) }
 {
     match form {
-        Form::Put => tell_local_one(alloc, Status::Created, id, outcome),
-        Form::Delete => tell_local_one(alloc, Status::Ok, id, outcome),
-        Form::Whole => tell_done(alloc),
+        Form::Put => Ok(Some(tell_local_one(alloc, Status::Created, id, outcome)?)),
+        Form::Delete => Ok(Some(tell_local_one(alloc, Status::Ok, id, outcome)?)),
+        Form::Whole => Ok(None),
     }
 }
 

@@ -18,6 +18,9 @@ pub(crate) enum Status {
     NotFound,
     MethodNotAllowed,
     Conflict,
+    LengthRequired,
+    ContentTooLarge,
+    RequestHeaderFieldsTooLarge,
     ServiceUnavailable,
     InsufficientStorage,
 }
@@ -33,6 +36,9 @@ impl fmt::Display for Status {
             Status::NotFound => "404 Not Found",
             Status::MethodNotAllowed => "405 Method Not Allowed",
             Status::Conflict => "409 Conflict",
+            Status::LengthRequired => "411 Length Required",
+            Status::ContentTooLarge => "413 Content Too Large",
+            Status::RequestHeaderFieldsTooLarge => "431 Request Header Fields Too Large",
             Status::ServiceUnavailable => "503 Service Unavailable",
             Status::InsufficientStorage => "507 Insufficient Storage",
         })

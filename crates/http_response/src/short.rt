@@ -5,12 +5,12 @@ ghost use Rattle.std.specs.Prelude.{◌≡◌, ◌++◌, ◌+◌, ◌≤◌, len
 use arrayvec::ArrayString;
 use itoa::Buffer;
 
-/// The room that a response needs that takes no memory.
-pub const SHORT_ROOM: usize = 192;
+/// Room for any response that takes no memory.
+pub const SHORT_ROOM: usize = 224;
 
 /// A response of its head as far as the place, the place, and the rest.
 pub(crate) fn short_response(before: &str, place: u64, after: &str) -> ArrayString<SHORT_ROOM>
-    requires { length before.now + length after.now ≤ 172 }
+    requires { length before.now + length after.now ≤ 204 }
     ensures { result.bytes ≡ (before.now ++ decimal place) ++ after.now }
 {
     let mut digits = Buffer::new();

@@ -24,7 +24,18 @@ fn rev() -> Result<RevId, Fail> {
 fn told(rt: &HostRuntime, query: QueryKind, told: AnswerKind) -> Result<String, Fail> {
     let query = Query::new(query);
     let told = Answer::new(told);
-    Ok(answer(rt.alloc(), 1, Connection::Open, &query, &told)?)
+    let text = answer(rt.alloc(), 1, Connection::Open, &query, &told)?;
+    Ok(text.ok_or("no text")?)
+}
+
+#[test]
+fn answers_to_other_queries(rt: HostRuntime) -> Result<(), Fail> {
+    let limit = Answer::new(AnswerKind::Limit(1));
+    for query in [Query::new(QueryKind::Info), Query::new(QueryKind::AllDocuments)] {
+        let text = answer(rt.alloc(), 1, Connection::Open, &query, &limit)?;
+        assert!(rt; text.is_none());
+    }
+    Ok(())
 }
 
 fn row(rt: &HostRuntime, seq: u64, name: &str, deleted: bool) -> Result<Row, Fail> {

@@ -26,7 +26,8 @@ fn reply_to_put(
     let command = Command::edits(edits).ok_or("command")?;
     let outcomes = vec![in alloc; outcome].ok().ok_or("memory")?;
     let told = Reply::new(ReplyKind::Wrote(outcomes));
-    Ok(reply(alloc, 1, Connection::Open, form, &command, &told)?)
+    let text = reply(alloc, 1, Connection::Open, form, &command, &told)?;
+    Ok(text.ok_or("no text")?)
 }
 
 #[test]
@@ -83,16 +84,33 @@ fn bulks(rt: HostRuntime) -> Result<(), Fail> {
     let edits = Command::edits(edits).ok_or("command")?;
     let told = two_writes(alloc, RefusalKind::Conflict)?;
     assert_eq!(rt;
-        reply(alloc, 1, Connection::Open, Form::Whole, &edits, &told)?.as_str(),
+        reply(alloc, 1, Connection::Open, Form::Whole, &edits, &told)?.ok_or("no text")?.as_str(),
         "HTTP/1.1 201 Created\r\nContent-Type: application/json\r\nContent-Length: 132\r\nCouch-Place: 1\r\n\r\n[{\"id\":\"a\",\"ok\":true,\"rev\":\"1-0123456789abcdef0123456789abcdef\"},{\"error\":\"conflict\",\"id\":\"b\",\"reason\":\"Document update conflict.\"}]"
     );
     let merges = vec![in alloc; merge(alloc, "a")?, merge(alloc, "b")?]?;
     let merges = Command::merges(merges).ok_or("command")?;
     let told = two_writes(alloc, RefusalKind::BadHistory)?;
     assert_eq!(rt;
-        reply(alloc, 2, Connection::Open, Form::Whole, &merges, &told)?.as_str(),
+        reply(alloc, 2, Connection::Open, Form::Whole, &merges, &told)?.ok_or("no text")?.as_str(),
         "HTTP/1.1 201 Created\r\nContent-Type: application/json\r\nContent-Length: 82\r\nCouch-Place: 2\r\n\r\n[{\"error\":\"bad_history\",\"id\":\"b\",\"reason\":\"A known revision has another parent.\"}]"
     );
+    Ok(())
+}
+
+#[test]
+fn no_such_replies(rt: HostRuntime) -> Result<(), Fail> {
+    let alloc = rt.alloc();
+    let done = Reply::new(ReplyKind::Done);
+    let written = two_writes(alloc, RefusalKind::BadHistory)?;
+    let merges = Command::merges(vec![in alloc; merge(alloc, "a")?]?).ok_or("command")?;
+    let rows = [
+        (Form::Whole, Command::compact(), &done),
+        (Form::Put, merges, &written),
+    ];
+    for (form, command, told) in rows {
+        let text = reply(alloc, 1, Connection::Open, form, &command, told)?;
+        assert!(rt; text.is_none());
+    }
     Ok(())
 }
 
@@ -104,7 +122,8 @@ fn reply_to_local(
     let alloc = rt.alloc();
     let command = Command::put_local(id(alloc, "a")?, None, None).ok_or("command")?;
     let told = Reply::new(ReplyKind::WroteLocal(outcome));
-    Ok(reply(alloc, 3, Connection::Open, form, &command, &told)?)
+    let text = reply(alloc, 3, Connection::Open, form, &command, &told)?;
+    Ok(text.ok_or("no text")?)
 }
 
 #[test]
@@ -139,7 +158,8 @@ fn answer_to_get(rt: &HostRuntime, found: Result<Document, Absent>) -> Result<St
         },
     });
     let found = Answer::new(AnswerKind::Found(found));
-    Ok(answer(alloc, 1, Connection::Close, &query, &found)?)
+    let text = answer(alloc, 1, Connection::Close, &query, &found)?;
+    Ok(text.ok_or("no text")?)
 }
 
 #[test]
@@ -185,11 +205,41 @@ fn refusals(rt: HostRuntime) -> Result<(), Fail> {
         refused(alloc, 0, Connection::Close, refusal)?.as_str(),
         "HTTP/1.1 405 Method Not Allowed\r\nContent-Type: application/json\r\nContent-Length: 61\r\nCouch-Place: 0\r\nAllow: GET, PUT, DELETE\r\nConnection: close\r\n\r\n{\"error\":\"method_not_allowed\",\"reason\":\"Method not allowed.\"}"
     );
-    assert_eq!(rt;
-        closing(0, FramingFault::LargeBody).as_str(),
-        "HTTP/1.1 400 Bad Request\r\nContent-Type: application/json\r\nContent-Length: 39\r\nCouch-Place: 0\r\nConnection: close\r\n\r\n{\"error\":\"bad_request\",\"reason\":\"head\"}"
-    );
     Ok(())
+}
+
+#[test]
+fn broken_input(rt: HostRuntime) {
+    let cases = [
+        (
+            0,
+            FramingFault::Head,
+            "HTTP/1.1 400 Bad Request\r\nContent-Type: application/json\r\nContent-Length: 39\r\nCouch-Place: 0\r\nConnection: close\r\n\r\n{\"error\":\"bad_request\",\"reason\":\"head\"}",
+        ),
+        (
+            1,
+            FramingFault::LargeHead,
+            "HTTP/1.1 431 Request Header Fields Too Large\r\nContent-Type: application/json\r\nContent-Length: 37\r\nCouch-Place: 1\r\nConnection: close\r\n\r\n{\"error\":\"too_large\",\"reason\":\"head\"}",
+        ),
+        (
+            18446744073709551615,
+            FramingFault::TransferEncoding,
+            "HTTP/1.1 411 Length Required\r\nContent-Type: application/json\r\nContent-Length: 68\r\nCouch-Place: 18446744073709551615\r\nConnection: close\r\n\r\n{\"error\":\"length_required\",\"reason\":\"Chunked bodies are not taken.\"}",
+        ),
+        (
+            20,
+            FramingFault::ContentLength,
+            "HTTP/1.1 400 Bad Request\r\nContent-Type: application/json\r\nContent-Length: 41\r\nCouch-Place: 20\r\nConnection: close\r\n\r\n{\"error\":\"bad_request\",\"reason\":\"length\"}",
+        ),
+        (
+            300,
+            FramingFault::LargeBody,
+            "HTTP/1.1 413 Content Too Large\r\nContent-Type: application/json\r\nContent-Length: 37\r\nCouch-Place: 300\r\nConnection: close\r\n\r\n{\"error\":\"too_large\",\"reason\":\"body\"}",
+        ),
+    ];
+    for (place, fault, text) in cases {
+        assert_eq!(rt; closing(place, fault).as_str(), text);
+    }
 }
 
 #[test]

@@ -17,6 +17,7 @@ STORED = {
     "number-past-i64": [put("/db/n", '{"n":9223372036854775807}'), put("/db/m", '{"n":9223372036854775808}')],
     "put-cut-in-body": [request("PUT", "/db/a", None, ["Content-Length: 3"]), b"{}"],
     "put-cut-in-head": [PUT_ONCE[:-10]],
+    "cut-in-target-not-utf8": [b"GET /db/\xff"],
     "nothing": [b""],
     "empty-lines-alone": [b"\r\n\n\r\n"],
     "welcome": [get("/")],
@@ -143,13 +144,14 @@ NOT_YET = {
     ],
 }
 
-# each of these refusals has one text until broken input is told apart
-UNTIL_BROKEN_INPUT = {
+# input that is refused with all that follows it, for another reason than that it is no head
+BROKEN_INPUT = {
     "sixty-five-headers": [get("/", headers=["X-%d: y" % n for n in range(65)])],
     "sixty-five-headers-without-end": [get("/", headers=["X-%d: y" % n for n in range(65)])[:-2]],
     "head-of-16385-bytes": [get("/", headers=["X: " + "y" * (16385 - 23)])],
     "head-without-end": [b"GET / HTTP/1.1\r\nX: " + b"y" * 16384],
     "target-without-end": [b"GET /" + b"y" * 16384],
+    "target-not-utf8-without-end": [b"GET /\xff" + b"y" * 16384],
     "empty-lines-without-end": [b"\n" * 16384],
     "transfer-coding": [request("PUT", "/db/a", None, ["Transfer-Encoding: chunked"]), b"2\r\n{}\r\n0\r\n\r\n"],
     "curl-upload-in-chunks": [

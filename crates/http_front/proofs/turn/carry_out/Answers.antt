@@ -1,11 +1,15 @@
 use Rattle.std.proofs.Common.{Ok, refl, ap, sym, ◌∙◌, subst}
 use Rattle.http_request.specs.declared.asked.Asked.TheVariants as asked
+use Rattle.http_request.specs.Forms.{HasForm}
 use Rattle.http_response.specs.Texts.{welcome_text}
 use Rattle.http_response.specs.declared.connection.Connection.{Connection}
 use Rattle.http_response.specs.declared.lost.Lost.TheVariants as lost
 use Rattle.http_front.specs.Response.{SendsOrLost}
 use Rattle.http_front.proofs.Turns.{answers_decided}
 use Rattle.http_front.proofs.turn.carry_out.Goals as goal
+
+pub write-requires : goal.write-requires
+write-requires c = subst HasForm c.in-Command.is c.requires
 
 pub returns-in-Welcome : goal.returns-in-Welcome
 returns-in-Welcome c =

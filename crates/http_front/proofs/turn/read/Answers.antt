@@ -1,17 +1,29 @@
-use Rattle.std.proofs.Common.{ap, ◌∙◌, subst}
+use Rattle.std.proofs.Common.{◌≡◌, List, ℕ, Some, ap, sym, ◌∙◌, subst}
+use Rattle.std.specs.Prelude.{IsSome}
 use Rattle.model.specs.History.{Chronicle, now}
+use Rattle.model.specs.Query.{Answer}
 use Rattle.model.specs.Answers.{answer_to}
 use Rattle.http_response.specs.Texts.{answer_text}
+use Rattle.http_response.specs.Told.{answer_told}
 use Rattle.http_response.specs.declared.connection.Connection.{Connection}
-use Rattle.http_response.specs.declared.lost.Lost.TheVariants as lost
-use Rattle.http_front.specs.Response.{SendsOrLost}
+use Rattle.http_front.proofs.Texts.{answer-told, answer_due, made_due}
 use Rattle.http_front.proofs.Turns.{answers_query}
 use Rattle.http_front.proofs.turn.read.Goals as goal
+
+pub answer_text-text-requires : goal.answer_text-text-requires
+answer_text-text-requires c =
+    subst (λ (answer : Answer). IsSome (answer_told c.args.query.now answer)) (sym c.in-Ok.ensures.answer) (answer-told _ c.args.query.now)
 
 pub returns : goal.returns
 returns c =
     λ request asks closes_is.
-    answers_query c.args.session.now c.place-place.result c.place-place.ensures c.new.result request c.args.closes closes_is c.args.query.now c.in-Ok.found asks
-    (c.in-Ok.ensures.answer ∙ ap (λ (h : Chronicle). answer_to (now h) c.args.query.now) c.look.ensures.seen)
-    (subst (λ (k : Connection). SendsOrLost (answer_text c.place-place.result k c.args.query.now c.in-Ok.found) c.args.closes c.place-place.result lost.Call c.new.result)
-    c.connection_after.ensures (c.new.ensures _ c.answer-text.ensures.text))
+    let place = c.place-place.result in
+    let query = c.args.query.now in
+    let found = c.in-Ok.found in
+    let some = subst (λ (answer : Answer). IsSome (answer_told query answer)) (sym c.in-Ok.ensures.answer) (answer-told _ query) in
+    let due = answer_due place c.connection_after.result query found some in
+    answers_query c.args.session.now place c.place-place.ensures c.new.result request c.args.closes closes_is query found asks
+    (c.in-Ok.ensures.answer ∙ ap (λ (h : Chronicle). answer_to (now h) query) c.look.ensures.seen)
+    due.0
+    (due.1 ∙ ap (λ (k : Connection). answer_text place k query found) c.connection_after.ensures)
+    (c.new.ensures due.0 (made_due c.answer_text-text.result _ due.0 due.1 c.answer_text-text.ensures))

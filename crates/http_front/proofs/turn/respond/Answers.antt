@@ -1,10 +1,19 @@
 use Rattle.std.proofs.Common.{Err, refl, sym, ◌∙◌, subst}
+use Rattle.std.specs.Prelude.{IfOk}
+use Rattle.http_bodies.specs.Steps.{Checked}
+use Rattle.http_request.specs.Forms.{HasForm}
+use Rattle.http_request.specs.declared.asked.Asked.{Asked}
+use Rattle.http_request.proofs.Forms.{decided-fits}
 use Rattle.http_response.specs.Texts.{refusal_text}
 use Rattle.http_response.specs.declared.connection.Connection.{Connection}
 use Rattle.http_response.specs.declared.lost.Lost.TheVariants as lost
 use Rattle.http_front.specs.Response.{SendsOrLost}
 use Rattle.http_front.proofs.Turns.{answers_decided}
 use Rattle.http_front.proofs.turn.respond.Goals as goal
+
+pub carry_out-requires : goal.carry_out-requires
+carry_out-requires c =
+    subst (λ (decided : Checked Asked). IfOk decided HasForm) (sym (sym c.in-Ok-asked.is ∙ c.in-Ok.ensures.decides)) (decided-fits c.args.request.now)
 
 pub returns-in-Err : goal.returns-in-Err
 returns-in-Err c =

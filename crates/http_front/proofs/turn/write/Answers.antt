@@ -1,23 +1,37 @@
 use Rattle.std.proofs.Common.{Err, ap, sym, ◌∙◌, subst, length}
+use Rattle.std.specs.Prelude.{IsSome}
+use Rattle.model.specs.Command.{Reply}
 use Rattle.http_framing.specs.Input.{Asked}
 use Rattle.http_response.specs.Texts.{reply_text, full_text}
+use Rattle.http_response.specs.Told.{reply_told}
 use Rattle.http_response.specs.declared.connection.Connection.{Connection}
 use Rattle.http_response.specs.declared.lost.Lost.TheVariants as lost
 use Rattle.http_front.specs.Answers.{AnswersAlone}
 use Rattle.http_front.specs.Known.{Known}
 use Rattle.http_front.specs.Response.{turn_of, SendsOrLost}
+use Rattle.http_front.proofs.Texts.{reply-told, reply_due, made_due}
 use Rattle.http_front.proofs.Turns.{answers_command, answers_full}
 use Rattle.http_front.proofs.turn.write.Goals as goal
+
+pub reply_text-text-requires : goal.reply_text-text-requires
+reply_text-text-requires c =
+    subst (λ (reply : Reply). IsSome (reply_told c.args.form c.args.command.now reply)) (sym c.in-Ok.ensures.reply)
+    (reply-told _ c.args.form c.args.command.now c.requires)
 
 pub returns-in-Ok : goal.returns-in-Ok
 returns-in-Ok c =
     λ request asks closes_is.
     let receipt = c.in-Ok.receipt in
+    let form = c.args.form in
+    let command = c.args.command.now in
     let told = c.in-Ok.ensures in
-    answers_command c.write.new.self receipt.place told.alone.1 c.new.result request c.args.closes closes_is c.args.session.now receipt.seat c.args.form c.args.command.now receipt.reply asks
+    let some = subst (λ (reply : Reply). IsSome (reply_told form command reply)) (sym told.reply) (reply-told _ form command c.requires) in
+    let due = reply_due receipt.place c.connection_after-connection.result form command receipt.reply some in
+    answers_command c.write.new.self receipt.place told.alone.1 c.new.result request c.args.closes closes_is c.args.session.now receipt.seat form command receipt.reply asks
     told.written told.alone.0
-    (subst (λ (k : Connection). SendsOrLost (reply_text receipt.place k c.args.form c.args.command.now receipt.reply) c.args.closes receipt.place lost.Reply c.new.result)
-    c.connection_after-connection.ensures (c.new.ensures _ c.reply-text.ensures.text))
+    due.0
+    (due.1 ∙ ap (λ (k : Connection). reply_text receipt.place k form command receipt.reply) c.connection_after-connection.ensures)
+    (c.new.ensures due.0 (made_due c.reply_text-text.result _ due.0 due.1 c.reply_text-text.ensures))
 
 pub returns-in-Err-Full : goal.returns-in-Err-Full
 returns-in-Err-Full c =
