@@ -9,14 +9,11 @@ use Rattle.model.specs.PurgeLog.{PurgeInfo, purges_since}
 use Rattle.model.specs.Database.{Database, Record}
 use Rattle.model.specs.Changes.{every_id, changed_since}
 use Rattle.model.specs.Compaction.{Marks, Touched, of_purge, of_update, touched, touched_id, past, passed}
+use Rattle.model.proofs.TouchedLaws.{passed-append, take-append}
 use Rattle.purge.specs.Log.{PurgedEntry, info_of}
 use Rattle.snapshots.specs.Listing.{Listing}
 use Rattle.snapshots.specs.Taken.{taken_one, taken_all}
 use Rattle.snapshots.proofs.Taken.{taken_all-push, taken_all-append}
-
-passed-append : (m : Marks) (ts us : List Touched) → passed m (ts ++ us) ≡ passed (passed m ts) us
-passed-append m [] us = refl
-passed-append m (t ∷ ts) us = passed-append (past m t) ts us
 
 module _ (ts us : List Touched) (t : Touched) (more : us ≡ ts ++ t ∷ []) where
   pub taken-more : (start was later : Listing) (d : Database) (id : Id) → was ≡ record start { docs = taken_all start.docs d (map touched_id ts) } → id ≡ touched_id t → later ≡ record was { docs = taken_one was.docs d id } → later ≡ record start { docs = taken_all start.docs d (map touched_id us) }
@@ -45,12 +42,6 @@ module _ {A : Type 0} (f : A → ℕ × (Id × Record)) (xs : List A) (x : A) wh
 -- the first purges
 pub purges-taken : (n : ℕ) (xs : List (ℕ × PurgedEntry)) (ps : List PurgeInfo) → map info_of xs ≡ ps → map of_purge (map info_of (take n xs)) ≡ map of_purge (take n ps)
 purges-taken n xs ps is = ap (map of_purge) (sym (take-map info_of n xs) ∙ ap (take n) is)
-
-take-append : {X : Type 0} (n k : ℕ) (xs ys : List X) → k ≡ n - length xs → take n (xs ++ ys) ≡ take n xs ++ take k ys
-take-append zero k [] ys e = let same : 0 ≡ k = omega arith in ap (λ j. take j ys) same
-take-append (suc n) k [] ys e = let same : suc n ≡ k = omega arith in ap (λ j. take j ys) same
-take-append zero k (x ∷ xs) ys e = let same : 0 ≡ k = omega arith in ap (λ j. take j ys) same
-take-append (suc n) k (x ∷ xs) ys e = ap (λ zs. x ∷ zs) (take-append n k xs ys (omega arith))
 
 -- the first touched are purges and then updates
 module _ (d : Database) (m : Marks) (n k : ℕ) (rest : k ≡ n - length (purges_since d.purges m.purge)) where
