@@ -40,6 +40,9 @@ impl From<AllocError> for WordsFault {
     }
 }
 
+/// What `clap` says of words that are not UTF-8.
+const NOT_TEXT: &str = "invalid UTF-8 was detected in one or more arguments";
+
 /// The fault that a parse ends with.
 fn fault(alloc: Global, error: &clap::Error) -> WordsFault
     ensures memory { kind_of error.now ≡ OutOfMemory → result ≡ WordsFault.Memory }
@@ -65,6 +68,18 @@ fn couchd<'a>(alloc: Global) -> Result<Command<'a>, AllocError>
         .subcommand_required(true)
         .disable_help_subcommand(true)
         .subcommand(once)
+}
+
+/// Why words that are not all UTF-8 name no run: the text that `clap` has for them.
+pub fn refuse_bytes(alloc: Global) -> WordsFault {
+    match bytes_error(alloc) {
+        Ok(error) => fault(alloc, &error),
+        Err(_) => WordsFault::Memory,
+    }
+}
+
+fn bytes_error(alloc: Global) -> Result<clap::Error, AllocError> {
+    couchd(alloc)?.error(ErrorKind::ValueValidation, NOT_TEXT)
 }
 
 /// The run that the words ask for. The first word is the program's name, as in `std::env::args`.

@@ -1,8 +1,9 @@
 //! The program `couchd`: a replicating document store, served over HTTP.
 #![tactic(auto)]
 
-use command_line::{Run, WordsFault, read_words};
+use command_line::{Run, WordsFault, read_words, refuse_bytes};
 use http_front::run_once;
+use std::io::ErrorKind;
 use std::process::ExitCode;
 use std::{env, io};
 use streams::Stream;
@@ -11,17 +12,31 @@ use streams::Stream;
 const UNREADABLE_WORDS: u8 = 2;
 
 fn main(rt: HostRuntime) -> io::Result<ExitCode> {
-    let words: Vec<String> = env::args(&rt)?.collect(rt.alloc())?;
+    let words = match env::args(&rt) {
+        Ok(words) => words,
+        Err(error) if error.kind() == ErrorKind::InvalidData => {
+            return Ok(refuse(&rt, refuse_bytes(rt.alloc())));
+        }
+        Err(error) => return Err(error),
+    };
+    let words: Vec<String> = words.collect(rt.alloc())?;
     match read_words(rt.alloc(), words.as_slice()) {
         Ok(Run::Once) => {
             let mut reader = Stream::new(rt.reader());
             let mut writer = Stream::new(io::writer(&rt));
             Ok(ExitCode::from(run_once(&mut reader, &mut writer, &rt)))
         }
-        Err(WordsFault::Words(text)) => {
+        Err(fault) => Ok(refuse(&rt, fault)),
+    }
+}
+
+/// Says why the words name no run.
+fn refuse(rt: &HostRuntime, fault: WordsFault) -> ExitCode {
+    match fault {
+        WordsFault::Words(text) => {
             let _printed = eprint!(rt; "{text}");
-            Ok(ExitCode::from(UNREADABLE_WORDS))
+            ExitCode::from(UNREADABLE_WORDS)
         }
-        Err(WordsFault::Memory) => Ok(ExitCode::FAILURE),
+        WordsFault::Memory => ExitCode::FAILURE,
     }
 }
