@@ -206,7 +206,10 @@ pub(crate) fn as_known_document(parts: Option<Parts>) -> Result<Parts, Refusal>
 }
 
 /// The one revision that is named in two places.
-fn named_in_either(parameter: Option<RevId>, member: Option<RevId>) -> Result<Option<RevId>, Refusal>
+fn named_in_either(
+    parameter: Option<RevId>,
+    member: Option<RevId>,
+) -> Result<Option<RevId>, Refusal>
     ensures { result ≡ named_twice parameter member }
 {
     let Some(member) = member else {

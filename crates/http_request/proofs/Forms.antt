@@ -1,5 +1,5 @@
 -- Each request asks for a command in a form in which it is told.
-use Rattle.std.proofs.Common.{◌≡◌, ℕ, Bool, true, false, List, [], ◌∷◌, Option, None, Some, Ok, Err, subst}
+use Rattle.std.proofs.Common.{◌≡◌, ℕ, Bool, true, false, List, Option, None, Some, Ok, Err, subst}
 use Rattle.std.specs.Prelude.{IfOk, if◌then◌else◌, codes, not, ◌||◌}
 use Rattle.std.specs.Str.{bytes_eq}
 use Rattle.http_framing.specs.Request.{Request}
@@ -28,7 +28,6 @@ use Rattle.http_request.specs.Identity.{path_id}
 use Rattle.http_request.specs.Local.{rev_text, put_local}
 use Rattle.http_request.specs.Opened.{open_leaves, open_listed, open_revs_of}
 use Rattle.http_request.specs.Parameters.{asks_for_documents, is_given, number_parameter, options_of, rev_parameter, no_replication}
-use Rattle.http_request.specs.declared.asked.Asked.{Asked}
 use Rattle.http_request.specs.declared.asked.Asked.TheVariants as asked
 use Rattle.http_request.specs.declared.asked.Form.{Form}
 use Rattle.http_request.specs.declared.asked.Form.TheVariants as form

@@ -1,5 +1,5 @@
 -- Which commands requests of each form ask for.
-use Rattle.std.specs.Prelude.{List, [], ◌∷◌, ⊤}
+use Rattle.std.specs.Prelude.{[], ◌∷◌, ⊤}
 use Rattle.model.specs.Command.{Command, Edits, Merges, PutLocal, SetLimit}
 use Rattle.http_request.specs.declared.asked.Asked.{Asked}
 use Rattle.http_request.specs.declared.asked.Asked.TheVariants as asked

@@ -54,7 +54,11 @@ fn read_style(parameters: &Parameters<'_>) -> Result<Style, Refusal>
 }
 
 /// The changes after the number that is given, or after the one that the database has.
-fn read_since(limit: Option<u64>, style: Style, parameters: &Parameters<'_>) -> Result<Asked, Refusal>
+fn read_since(
+    limit: Option<u64>,
+    style: Style,
+    parameters: &Parameters<'_>,
+) -> Result<Asked, Refusal>
     ensures { result ≡ changes_since limit style parameters.now }
 {
     if is_given(parameters, "since", "now") {
