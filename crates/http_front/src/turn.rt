@@ -123,7 +123,14 @@ fn reply_text(
     ensures { IfOk result (λ text. Some (string_bytes text)
         ≡ reply_text receipt.now.place connection form command.now receipt.now.reply) }
 {
-    let text = reply(alloc, receipt.place, connection, form, command, &receipt.reply)?;
+    let text = reply(
+        alloc,
+        receipt.place,
+        connection,
+        form,
+        command,
+        &receipt.reply,
+    )?;
     let Some(text) = text else { unreachable!() };
     Ok(text)
 }
