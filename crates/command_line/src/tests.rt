@@ -51,7 +51,8 @@ fn other_words_are_refused(rt: HostRuntime) {
 
 #[test]
 fn words_of_other_bytes_are_refused(rt: HostRuntime) {
-    let text = "error: invalid UTF-8 was detected in one or more arguments\n\nUsage: couchd <COMMAND>\n\nFor more information, try '--help'.\n";
+    let text =
+        "error: invalid UTF-8 was detected in one or more arguments\n\nUsage: couchd <COMMAND>\n\nFor more information, try '--help'.\n";
     match refuse_bytes(rt.alloc()) {
         WordsFault::Words(found) => assert_eq!(rt; found.as_str(), text),
         WordsFault::Memory => assert!(rt; false, "there is ample memory"),

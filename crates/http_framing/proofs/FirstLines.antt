@@ -1,39 +1,29 @@
 -- What the first lines of a head say of its headers.
 use Rattle.std.proofs.Common.{◌≡◌, ℕ, ◌+◌, ◌<◌, ◌≤◌, Bool, true, false, List, [], ◌∷◌, ◌++◌, length, take, drop, refl, ap, sym, ◌∙◌, subst, arith, append_assoc, append-nil, length-append, length-drop, inl, inr, ◌⊎◌}
 use Rattle.std.specs.Prelude.{All}
-use Rattle.std.specs.List.{flat_map, list_all}
-use Rattle.std.proofs.lemmas.List.Sums.{AllPass-from_list_all}
+use Rattle.std.specs.List.{flat_map}
 use Rattle.std.proofs.lemmas.Bool.{cases_lt}
-use Rattle.std.proofs.lemmas.List.{take-append-drop, take-take, length-take, length-take-le}
+use Rattle.std.proofs.lemmas.List.{take-append-drop, length-take-le}
 use Rattle.std.proofs.lemmas.Grind.{flat_map-append}
-use Rattle.std.proofs.Math.Seq.{take-append-add, take-append_seam}
+use Rattle.std.proofs.Math.Seq.{take-append-add}
 use Rattle.std.proofs.lemmas.List.Elements.{All-take}
-use Rattle.httparse.specs.Grammar.{LineEnd, crlf, lf, print_end, print_blank, print_version, Field, IsField, print_field, AllPass, RequestHead, IsRequestHead, ReadsRequest, HasNoRequest, NeverHasRequest, MayBecomeRequest}
+use Rattle.httparse.specs.Grammar.{LineEnd, lf, print_end, print_blank, print_version, Field, IsField, print_field, AllPass, RequestHead, IsRequestHead, ReadsRequest, HasNoRequest, NeverHasRequest, MayBecomeRequest, EndsInTarget}
 use Rattle.httparse.specs.Spans.{RequestExceeds}
 use Rattle.httparse.specs.Pieces.{is_newline, Stops}
 use Rattle.httparse.proofs.RunLemmas.{run_unique, run_unstopped, Stops-append}
-use Rattle.httparse.proofs.GrammarLemmas.{cons-append}
+use Rattle.httparse.proofs.GrammarLemmas.{cons-append, ReadsRequest-append}
 use Rattle.httparse.proofs.PieceLemmas.{Stops_token}
 use Rattle.http_framing.specs.Request.{head_limit, header_limit}
-use Rattle.http_framing.specs.Refusal.{head_window, HasLargeHead, IsRefused}
+use Rattle.http_framing.specs.Refusal.{head_window, HasLargeHead, HasNoHead}
 use Rattle.http_framing.specs.Input.{EndsInHead}
-use Rattle.http_framing.specs.Front.{IsFrontOfWindow}
-use Rattle.http_framing.specs.declared.FramingFault.TheVariants.{Head}
-use Rattle.http_framing.proofs.More.{RequestExceeds-append, NeverHasRequest-append}
+use Rattle.http_framing.proofs.More.{RequestExceeds-append}
 use Rattle.http_framing.proofs.Heads.{head_window-short}
+use Rattle.http_framing.proofs.InTarget.{all_newlines}
 use Rattle.http_framing.specs.Lines.{line_ends, line_limit, IsEnded, AreFirstLines}
 use Rattle.http_framing.proofs.ManyHeaders.{print_lines, print_request-lines, exceeding}
 use Rattle.http_framing.proofs.LineEnds.{line_ends-append, line_ends-token, line_ends-uri, line_ends-end, line_ends-past, print_first, line_ends-first, ended-append, ended-end, ended-first, later_end, same_lines}
 
 -- ---- the empty lines in front
-
-every_newline : (ends : List LineEnd) → list_all is_newline (print_blank ends) ≡ true
-every_newline [] = refl
-every_newline (lf ∷ ends) = every_newline ends
-every_newline (crlf ∷ ends) = every_newline ends
-
-all_newlines : (ends : List LineEnd) → AllPass is_newline (print_blank ends)
-all_newlines ends = AllPass-from_list_all is_newline (print_blank ends) (every_newline ends)
 
 behind_blank : (blank : List ℕ) (ends : List LineEnd) (xs ys : List ℕ) → AllPass is_newline blank → (xs ≡ []) ⊎ Stops is_newline xs → Stops is_newline ys
     → blank ++ xs ≡ print_blank ends ++ ys → (blank ≡ print_blank ends) × (xs ≡ ys)
@@ -212,41 +202,75 @@ module _ {bytes first : List ℕ} {many : Bool} (is_first : AreFirstLines bytes 
             none h [] (is, sym (append-nil first) ∙ ap (λ (x : List ℕ). first ++ x) (sym nothing) ∙ e)
       ]
 
+  -- the same where the lines are the first of such bytes
+  pub many_lines_in : many ≡ true → HasNoRequest bytes → MayBecomeRequest bytes → RequestExceeds header_limit first
+  many_lines_in enough none may = many_lines enough none_first (may_first may)
+    where
+      none_first : HasNoRequest first
+      none_first head rest reads =
+          let P : List ℕ → Type 0 = λ x. ReadsRequest x head (rest ++ is_first.rest) in
+          none head (rest ++ is_first.rest) (subst P (sym first-append) (ReadsRequest-append first head rest is_first.rest reads))
+
+      may_first : MayBecomeRequest bytes → MayBecomeRequest first
+      may_first (inl (more, head, reads)) =
+          let P : List ℕ → Type 0 = λ x. ReadsRequest x head [] in
+          let whole = ap (λ (x : List ℕ). x ++ more) first-append ∙ append_assoc first is_first.rest more in
+          inl (is_first.rest ++ more, head, subst P whole reads)
+      may_first (inr (blank, method, target, token, uri, parts)) =
+          let ends = is_first.enough enough in
+          let text : List ℕ = method ++ 32 ∷ target in
+          let whole : is_first.blank ++ (is_first.lines ++ is_first.rest) ≡ print_blank blank ++ text = sym is_first.parts ∙ parts ∙ append_assoc (print_blank blank) method (32 ∷ target) in
+          let behind = behind_blank is_first.blank blank (is_first.lines ++ is_first.rest) text is_first.newlines
+          (begins-append is_first.lines is_first.rest is_first.begins ends.1) (Stops_token method _ token.0 token.1) whole in
+          absurd (omega (
+            arith,
+            ends.0,
+            ap line_ends behind.1,
+            line_ends-append is_first.lines is_first.rest,
+            line_ends-past method 32 target refl,
+            line_ends-token method token.1,
+            line_ends-uri target uri,
+          ))
+
 -- ---- what they say of the bytes in which a head has to end
 
 module _ (bytes : List ℕ) {first : List ℕ} {many : Bool} (is_first : AreFirstLines (head_window bytes) first many) where
-  pub front_of_window : IsFrontOfWindow first bytes
-  front_of_window =
-      let size = length-append first is_first.rest in
-      let all = ap length (first-append is_first) in
-      let window = length-take head_limit bytes in
-      let front : first ≡ take (length first) (head_window bytes) =
-      sym (ap (take (length first)) (first-append is_first) ∙ take-append_seam first is_first.rest) in
-      (length first, omega (arith, size, all, window), front ∙ take-take (length first) head_limit bytes (omega (arith, size, all, window)))
-
-  pub part_of_head : many ≡ false → length bytes < head_limit → HasNoRequest first → MayBecomeRequest first → EndsInHead bytes
+  pub part_of_head : many ≡ false → length bytes < head_limit → HasNoRequest (head_window bytes) → MayBecomeRequest (head_window bytes) → EndsInHead bytes
   part_of_head few short none may =
-      let whole : first ≡ bytes = first-all is_first few ∙ head_window-short bytes short in
+      let whole = head_window-short bytes short in
       (short, subst HasNoRequest whole none, subst MayBecomeRequest whole may, few_headers is_first few)
-
-  pub full_window : many ≡ false → head_limit ≤ length bytes → HasNoRequest first → MayBecomeRequest first → HasLargeHead bytes
-  full_window few full none may =
-      let whole = first-all is_first few in
-      inl (full, subst HasNoRequest whole none, subst MayBecomeRequest whole may)
 
   pub exceeding_lines : RequestExceeds header_limit first → HasLargeHead bytes
   exceeding_lines exceeds =
       let P : List ℕ → Type 0 = RequestExceeds header_limit in
       inr (subst P (sym (first-append is_first)) (RequestExceeds-append header_limit first is_first.rest exceeds))
 
-  pub too_many_lines : many ≡ true → HasNoRequest first → MayBecomeRequest first → HasLargeHead bytes
-  too_many_lines enough none may = exceeding_lines (many_lines is_first enough none may)
+  pub too_many_lines : many ≡ true → HasNoRequest (head_window bytes) → MayBecomeRequest (head_window bytes) → HasLargeHead bytes
+  too_many_lines enough none may = exceeding_lines (many_lines_in is_first enough none may)
 
-  pub no_head : NeverHasRequest first → IsRefused bytes Head
-  no_head never = (
-    subst NeverHasRequest (sym (first-append is_first)) (NeverHasRequest-append first is_first.rest never),
-    never_many is_first never,
-  )
+  -- what is no head is a part of one as far as its first lines where those are too many
+  pub part_of_no_head : NeverHasRequest (head_window bytes) → ¬ (EndsInTarget (head_window bytes)) → HasNoRequest first → MayBecomeRequest first → HasLargeHead bytes
+  part_of_no_head never past none may = elim (either many) [
+    | inl few ↦ absurd (not_part (subst MayBecomeRequest (first-all is_first few) may))
+    | inr enough ↦ exceeding_lines (many_lines is_first enough none may)
+  ]
+    where
+      not_part : MayBecomeRequest (head_window bytes) → ⊥
+      not_part (inl (more, head, reads)) = never more head [] reads
+      not_part (inr in_target) = past in_target
+
+  pub no_whole_head : NeverHasRequest (head_window bytes) → (head : RequestHead) (rest : List ℕ) → ReadsRequest first head rest → ⊥
+  no_whole_head never head rest reads =
+      let P : List ℕ → Type 0 = λ x. ReadsRequest (x ++ []) head ((rest ++ is_first.rest) ++ []) in
+      never [] head ((rest ++ is_first.rest) ++ [])
+      (subst P (sym (first-append is_first)) (ReadsRequest-append (first ++ is_first.rest) head (rest ++ is_first.rest) [] (ReadsRequest-append first head rest is_first.rest reads)))
+
+  pub no_head : NeverHasRequest (head_window bytes) → ¬ (EndsInTarget (head_window bytes)) → NeverHasRequest first → HasNoHead bytes
+  no_head never past never_first = (never, past, never_many is_first never_first)
+
+-- the window is full of a part of a head
+pub full_window : (bytes : List ℕ) → head_limit ≤ length bytes → HasNoRequest (head_window bytes) → MayBecomeRequest (head_window bytes) → HasLargeHead bytes
+full_window bytes full none may = inl (full, none, may)
 
 -- ---- how they are found
 

@@ -5,6 +5,7 @@ pub mod More
 pub mod Heads
 pub mod ManyHeaders
 pub mod LineEnds
+pub mod InTarget
 pub mod FirstLines
 pub mod Part
 pub mod Unique

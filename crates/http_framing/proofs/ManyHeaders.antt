@@ -16,7 +16,7 @@ print_lines h =
 pub print_request-lines : (h : RequestHead) → print_request h ++ [] ≡ print_lines h ++ print_end h.last
 print_request-lines h = print_request-append h [] ∙ simp (append_assoc, cons-append, append-nil)
 
-print_lines-append : (h : RequestHead) (rest : List ℕ) → print_lines h ++ rest
+pub print_lines-append : (h : RequestHead) (rest : List ℕ) → print_lines h ++ rest
     ≡ print_blank h.blank ++ (h.method ++ 32 ∷ (h.target ++ 32 ∷ (print_version h.minor ++ (print_end h.line_end ++ (flat_map print_field h.fields ++ rest)))))
 print_lines-append h rest = simp (append_assoc, cons-append)
 

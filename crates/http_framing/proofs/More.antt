@@ -5,9 +5,10 @@ use Rattle.std.proofs.Math.Seq.{take-append-add, take-append_seam}
 use Rattle.std.proofs.lemmas.Bool.{cases_lt}
 use Rattle.std.proofs.lemmas.List.{take-append-le, take-append-drop, take_all, append-nil}
 use Rattle.std.proofs.lemmas.List.Elements.{All-head, All-tail}
-use Rattle.httparse.specs.Grammar.{lf, print_end, RequestHead, ReadsRequest, HasNoRequest, NeverHasRequest, MayBecomeRequest}
+use Rattle.httparse.specs.Grammar.{lf, print_end, RequestHead, ReadsRequest, HasNoRequest, NeverHasRequest, MayBecomeRequest, EndsInTarget}
 use Rattle.httparse.specs.Spans.{RequestExceeds}
 use Rattle.httparse.proofs.GrammarLemmas.{ReadsRequest-append}
+use Rattle.http_framing.proofs.InTarget.{past_target-append}
 use Rattle.http_framing.specs.Request.{head_limit, header_limit, Request, BeginsWithHead, BeginsWithRequest}
 use Rattle.http_framing.specs.Refusal.{head_window, HasLargeHead, HasBadBody, IsRefused}
 use Rattle.http_framing.specs.Input.{Item, Asked, Refused, closes_connection, Begins, Splits, AreOpen}
@@ -85,10 +86,12 @@ HasBadBody-append : (bytes more : List ℕ) (fault : FramingFault) → HasBadBod
 HasBadBody-append bytes more fault (head, after, begins, bad) = (head, after ++ more, BeginsWithHead-append bytes head after more begins, bad)
 
 pub IsRefused-append : (bytes more : List ℕ) (fault : FramingFault) → IsRefused bytes fault → IsRefused (bytes ++ more) fault
-IsRefused-append bytes more Head (never, few) =
+IsRefused-append bytes more Head (never, past, few) =
     let window = take-append head_limit bytes more in
-    let P : List ℕ → Type 0 = λ x. ¬ (RequestExceeds header_limit x) in (
+    let P : List ℕ → Type 0 = λ x. ¬ (RequestExceeds header_limit x) in
+    let Q : List ℕ → Type 0 = λ x. ¬ (EndsInTarget x) in (
       subst NeverHasRequest (sym window.1) (NeverHasRequest-append (head_window bytes) window.0 never),
+      subst Q (sym window.1) (past_target-append (head_window bytes) window.0 never past),
       subst P (sym window.1) (few_headers-append (head_window bytes) window.0 never few),
     )
 IsRefused-append bytes more LargeHead large = HasLargeHead-append bytes more large

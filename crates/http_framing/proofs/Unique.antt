@@ -1,14 +1,13 @@
 -- An input is read in one way.
 use Rattle.std.proofs.Common.{◌≡◌, ℕ, ◌+◌, ◌-◌, List, [], ◌∷◌, ◌++◌, length, take, drop, refl, ap, sym, ◌∙◌, subst, arith, Result, Ok, inl, inr, ◌⊎◌}
-use Rattle.std.specs.List.{AllZip}
 use Rattle.std.proofs.Math.Seq.{take-append_seam, drop-append_seam, take-append-add}
-use Rattle.httparse.specs.Grammar.{RequestHead, print_request, ReadsRequest, NeverHasRequest, EndsInTarget}
+use Rattle.httparse.specs.Grammar.{RequestHead, print_request, ReadsRequest, MayBecomeRequest}
 use Rattle.httparse.proofs.GrammarLemmas.{request_unique, ReadsRequest-append}
 use Rattle.http_framing.specs.Headers.{headers_of}
 use Rattle.http_framing.specs.Body.{body_length}
 use Rattle.http_framing.specs.Request.{head_limit, header_limit, Request, IsAskedBy, BeginsWithHead, BeginsWithRequest}
-use Rattle.http_framing.specs.Refusal.{head_window, HasLargeHead, HasBadBody, IsRefused, HasEitherFault, IsHeadFault}
-use Rattle.http_framing.specs.Input.{Item, Asked, Refused, Begins, Splits, AreAlike, EndsInHead, IsUnfinished}
+use Rattle.http_framing.specs.Refusal.{head_window, HasLargeHead, HasNoHead, HasBadBody, IsRefused}
+use Rattle.http_framing.specs.Input.{Item, Asked, Refused, Begins, Splits, EndsInHead, IsUnfinished}
 use Rattle.http_framing.proofs.Heads.{head_window-short}
 use Rattle.http_framing.proofs.ManyHeaders.{no_head_with_room}
 use Rattle.http_framing.specs.declared.FramingFault.{FramingFault}
@@ -47,6 +46,10 @@ head_in_window bytes head after begins =
     let fits : length (print_request head) + left ≡ head_limit = omega (arith, begins.size) in
     let P : ℕ → Type 0 = λ n. take n (print_request head ++ after) ≡ print_request head ++ take left after in
     (take left after, (begins.reads.0, ap (take head_limit) begins.reads.1 ∙ subst P fits (take-append-add (print_request head) after left)))
+
+-- the fault is about the head
+abbrev IsHeadFault : FramingFault → Type 0
+IsHeadFault fault = (fault ≡ Head) ⊎ (fault ≡ LargeHead)
 
 -- a head that keeps the limits is not refused
 head_not_refused : (bytes : List ℕ) (head : RequestHead) (after : List ℕ) (fault : FramingFault) → BeginsWithHead bytes head after
@@ -90,16 +93,28 @@ request_not_refused bytes request after fault (h, begins, asked) refused =
     not_both (inr (k, x, other, bad)) =
         let same = sym asked.body ∙ same_length bytes h k _ x begins other ∙ bad in absurd (cc)
 
--- the bytes are refused for one fault, unless it is of the head
-pub one_fault : (bytes : List ℕ) (f g : FramingFault) → IsRefused bytes f → IsRefused bytes g → (f ≡ g) ⊎ (IsHeadFault f × IsHeadFault g)
+-- no head is too large where there is none
+not_large : (bytes : List ℕ) → HasNoHead bytes → HasLargeHead bytes → ⊥
+not_large bytes (never, past, few) (inl (full, none, inl (more, head, reads))) = never more head [] reads
+not_large bytes (never, past, few) (inl (full, none, inr in_target)) = past in_target
+not_large bytes (never, past, few) (inr exceeds) = few exceeds
+
+one_head_fault : (bytes : List ℕ) (f g : FramingFault) → IsHeadFault f → IsHeadFault g → IsRefused bytes f → IsRefused bytes g → f ≡ g
+one_head_fault bytes f g (inl e) (inl k) x y = e ∙ sym k
+one_head_fault bytes f g (inl e) (inr k) x y = absurd (not_large bytes (subst (IsRefused bytes) e x) (subst (IsRefused bytes) k y))
+one_head_fault bytes f g (inr e) (inl k) x y = absurd (not_large bytes (subst (IsRefused bytes) k y) (subst (IsRefused bytes) e x))
+one_head_fault bytes f g (inr e) (inr k) x y = e ∙ sym k
+
+-- the bytes are refused for one fault
+pub one_fault : (bytes : List ℕ) (f g : FramingFault) → IsRefused bytes f → IsRefused bytes g → f ≡ g
 one_fault bytes f g x y = either (head_or_body bytes f x) (head_or_body bytes g y)
   where
-    either : IsHeadFault f ⊎ HasBadBody bytes f → IsHeadFault g ⊎ HasBadBody bytes g → (f ≡ g) ⊎ (IsHeadFault f × IsHeadFault g)
-    either (inl of_head) (inl also) = inr (of_head, also)
+    either : IsHeadFault f ⊎ HasBadBody bytes f → IsHeadFault g ⊎ HasBadBody bytes g → f ≡ g
+    either (inl of_head) (inl also) = one_head_fault bytes f g of_head also x y
     either (inl of_head) (inr (k, q, begins, bad)) = absurd (head_not_refused bytes k q f begins of_head x)
     either (inr (h, r, begins, bad)) (inl of_head) = absurd (head_not_refused bytes h r g begins of_head y)
     either (inr (h, r, b, bad)) (inr (k, q, c, worse)) =
-        let same = sym bad ∙ same_length bytes h k r q b c ∙ worse in inl (cc)
+        let same = sym bad ∙ same_length bytes h k r q b c ∙ worse in cc
 
 -- ---- what is unfinished
 
@@ -113,44 +128,42 @@ head_and_fault bytes head after len fault begins said refused =
     not_both (inl of_head) = head_not_refused bytes head after fault begins of_head refused
     not_both (inr (k, x, other, bad)) = let same = sym said ∙ same_length bytes head k after x begins other ∙ bad in absurd (cc)
 
--- what may become a head is not refused for its headers, nor for its body
-part_and_fault : (bytes : List ℕ) (fault : FramingFault) → EndsInHead bytes → IsHeadFault fault ⊎ HasBadBody bytes fault → IsRefused bytes fault
-    → (fault ≡ Head) × EndsInTarget bytes
-part_and_fault bytes fault (short, none, may, few) (inr (head, after, begins, bad)) refused = absurd (none head after begins.reads)
+-- what may become a head is not refused
+part_and_fault : (bytes : List ℕ) (fault : FramingFault) → EndsInHead bytes → IsHeadFault fault ⊎ HasBadBody bytes fault → IsRefused bytes fault → ⊥
+part_and_fault bytes fault (short, none, may, few) (inr (head, after, begins, bad)) refused = none head after begins.reads
 part_and_fault bytes fault (short, none, may, few) (inl (inr large)) refused =
-    not_large (subst (IsRefused bytes) large refused)
+    not_full (subst (IsRefused bytes) large refused)
   where
-    not_large : HasLargeHead bytes → (fault ≡ Head) × EndsInTarget bytes
-    not_large (inl (full, nothing, more)) = absurd (omega (arith, full, short))
-    not_large (inr exceeds) = absurd (few exceeds)
-part_and_fault bytes fault (short, none, inr in_target, few) (inl (inl of_head)) refused = (of_head, in_target)
-part_and_fault bytes fault (short, none, inl (more, head, reads), few) (inl (inl of_head)) refused =
-    let never = subst NeverHasRequest (head_window-short bytes short) (subst (IsRefused bytes) of_head refused).0 in
-    absurd (never more head [] reads)
+    not_full : HasLargeHead bytes → ⊥
+    not_full (inl (full, nothing, more)) = absurd (omega (arith, full, short))
+    not_full (inr exceeds) = few exceeds
+part_and_fault bytes fault (short, none, may, few) (inl (inl of_head)) refused =
+    let none_begins = subst (IsRefused bytes) of_head refused in
+    let whole = head_window-short bytes short in
+    not_part none_begins (subst MayBecomeRequest (sym whole) may)
+  where
+    not_part : HasNoHead bytes → MayBecomeRequest (head_window bytes) → ⊥
+    not_part (never, past, few) (inl (more, head, reads)) = never more head [] reads
+    not_part (never, past, few) (inr in_target) = past in_target
 
-pub unfinished_refused : (bytes : List ℕ) (fault : FramingFault) → IsUnfinished bytes → IsRefused bytes fault → (fault ≡ Head) × EndsInTarget bytes
+pub unfinished_refused : (bytes : List ℕ) (fault : FramingFault) → IsUnfinished bytes → IsRefused bytes fault → ⊥
 unfinished_refused bytes fault (inl part) refused = part_and_fault bytes fault part (head_or_body bytes fault refused) refused
 unfinished_refused bytes fault (inr (head, after, len, begins, said, short)) refused =
-    absurd (head_and_fault bytes head after len fault begins said refused)
+    head_and_fault bytes head after len fault begins said refused
 
-pub one_item : (bytes : List ℕ) (item other : Item) (x y : List ℕ) → Begins bytes item x → Begins bytes other y → AreAlike item other × (x ≡ y)
-one_item bytes (Asked r) (Asked q) x y b c = one_request bytes r q x y b c
+one_item : (bytes : List ℕ) (item other : Item) (x y : List ℕ) → Begins bytes item x → Begins bytes other y → (item ≡ other) × (x ≡ y)
+one_item bytes (Asked r) (Asked q) x y b c = let one = one_request bytes r q x y b c in (ap Asked one.0, one.1)
 one_item bytes (Asked r) (Refused g) x y b c = absurd (request_not_refused bytes r x g b c.0)
 one_item bytes (Refused f) (Asked q) x y b c = absurd (request_not_refused bytes q y f c b.0)
-one_item bytes (Refused f) (Refused g) x y b c = (one_fault bytes f g b.0 c.0, b.1 ∙ sym c.1)
+one_item bytes (Refused f) (Refused g) x y b c = (ap Refused (one_fault bytes f g b.0 c.0), b.1 ∙ sym c.1)
 
 pub one_reading : (bytes : List ℕ) (items others : List Item) (rest after : List ℕ) → Splits bytes items rest → Splits bytes others after
-    → length items ≡ length others → AllZip AreAlike items others × (rest ≡ after)
-one_reading bytes [] [] rest after s t n = (tt, sym s ∙ t)
+    → length items ≡ length others → (items ≡ others) × (rest ≡ after)
+one_reading bytes [] [] rest after s t n = (refl, sym s ∙ t)
 one_reading bytes [] (other ∷ others) rest after s t n = absurd (omega arith)
 one_reading bytes (item ∷ items) [] rest after s t n = absurd (omega arith)
 one_reading bytes (item ∷ items) (other ∷ others) rest after (x, b, last, s) (y, c, end, t) n =
     let one = one_item bytes item other x y b c in
     let P : List ℕ → Type 0 = λ z. Splits z items rest in
     let more = one_reading y items others rest after (subst P one.1 s) t (omega arith) in
-    ((one.0, more.0), more.1)
-
-pub either_fault : (bytes : List ℕ) → IsRefused bytes Head → IsRefused bytes LargeHead → HasEitherFault bytes
-either_fault bytes (never, few) (inl (full, none, inl (more, head, reads))) = absurd (never more head [] reads)
-either_fault bytes (never, few) (inl (full, none, inr in_target)) = (full, in_target)
-either_fault bytes (never, few) (inr exceeds) = absurd (few exceeds)
+    ((λ i. one.0 i ∷ more.0 i), more.1)

@@ -4,7 +4,7 @@ use Rattle.httparse.specs.Grammar.{RequestHead, HasNoRequest, MayBecomeRequest}
 use Rattle.http_framing.specs.Headers.{headers_of}
 use Rattle.http_framing.specs.Body.{body_length, body_limit}
 use Rattle.http_framing.specs.Request.{head_limit, Request, BeginsWithHead, BeginsWithRequest}
-use Rattle.http_framing.specs.Refusal.{HasManyHeaders, IsRefused, IsHeadFault}
+use Rattle.http_framing.specs.Refusal.{HasManyHeaders, IsRefused}
 use Rattle.http_framing.specs.declared.FramingFault.{FramingFault}
 
 -- the most bytes of a request
@@ -35,13 +35,6 @@ Splits bytes (item ∷ items) rest =
 -- none of the items closes the connection
 abbrev pub AreOpen : List Item → Type 0
 AreOpen items = All (λ item. IsFalse (closes_connection item)) items
-
--- two items are the same, but that a head may be refused for either of two faults
-abbrev pub AreAlike : Item → Item → Type 0
-AreAlike (Asked request) (Asked other) = request ≡ other
-AreAlike (Refused fault) (Refused other) = (fault ≡ other) ⊎ (IsHeadFault fault × IsHeadFault other)
-AreAlike (Asked request) (Refused fault) = ⊥
-AreAlike (Refused fault) (Asked request) = ⊥
 
 -- the bytes are a head and less than its body
 abbrev pub EndsInBody : List ℕ → Type 0

@@ -2,6 +2,7 @@ pub mod Headers
 pub mod Body
 pub mod Request
 pub mod Refusal
+pub mod Target
 pub mod Input
 pub mod Front
 pub mod Occurs

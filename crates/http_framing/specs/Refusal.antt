@@ -33,21 +33,18 @@ HasBadBody bytes fault =
     (head : RequestHead) × (after : List ℕ)
     × BeginsWithHead bytes head after × (body_length (headers_of head) ≡ Err fault)
 
+-- no head begins the bytes, whatever follows; a target is not looked at before it has ended
+abbrev pub HasNoHead : List ℕ → Type 0
+HasNoHead bytes =
+    NeverHasRequest (head_window bytes) × ¬ (EndsInTarget (head_window bytes)) × ¬ (HasManyHeaders bytes)
+
 -- the bytes are refused for this fault, whatever follows
 abbrev pub IsRefused : List ℕ → FramingFault → Type 0
-IsRefused bytes Head = NeverHasRequest (head_window bytes) × ¬ (HasManyHeaders bytes)
+IsRefused bytes Head = HasNoHead bytes
 IsRefused bytes LargeHead = HasLargeHead bytes
 IsRefused bytes TransferEncoding = HasBadBody bytes TransferEncoding
 IsRefused bytes ContentLength = HasBadBody bytes ContentLength
 IsRefused bytes LargeBody = HasBadBody bytes LargeBody
-
--- a head that may be refused for either of its two faults: its target does not end in the window
-abbrev pub HasEitherFault : List ℕ → Type 0
-HasEitherFault bytes = FillWindow bytes × EndsInTarget (head_window bytes)
-
--- the fault is about the head
-abbrev pub IsHeadFault : FramingFault → Type 0
-IsHeadFault fault = (fault ≡ Head) ⊎ (fault ≡ LargeHead)
 
 -- the bytes begin with a request line as far as the space after this target
 abbrev pub HasTarget : List ℕ → List ℕ → Type 0

@@ -1,14 +1,16 @@
 //! The first request of the bytes that have come.
 
 ghost use Rattle.std.specs.Prelude.{◌≡◌, ◌≤◌, length};
+ghost use Rattle.httparse.specs.Grammar.{EndsInTarget, HasNoRequest, MayBecomeRequest, NeverHasRequest};
 ghost use Rattle.httparse.specs.Spans.{IsRequestOf as IsHeadOf, IsRequestWithin as IsHeadWithin};
 ghost use Rattle.http_framing.specs.Request.{header_limit};
-ghost use Rattle.http_framing.specs.Refusal.{head_window};
+ghost use Rattle.http_framing.specs.Refusal.{head_window, IsRefused};
 ghost use Rattle.http_framing.specs.Front.{IsFrontOfWindow, IsRequestAt, IsFrontOf, request_at};
 
 use crate::headers::{body_length, closes};
 use crate::lines::first_lines;
 use crate::request::Request;
+use crate::target::ends_in_target;
 use crate::{FramingFault, HEAD_LIMIT, HEADER_LIMIT};
 use httparse::spans::{
     EMPTY_HEADER_SPAN, HeaderSpan, RequestSpans as HeadSpans, Span, parse_request,
@@ -99,16 +101,49 @@ fn front_of_head(bytes: &[u8], window: &[u8], headers: &[HeaderSpan], head: Head
     })
 }
 
+/// What the bytes begin with, where the window has no whole head yet.
+fn front_of_part(bytes: &[u8], window: &[u8]) -> Front
+    requires window { window.now ≡ head_window bytes.now }
+    requires none { HasNoRequest window.now }
+    requires may { MayBecomeRequest window.now }
+    ensures { IsFrontOf bytes.now result }
+{
+    if bytes.len() >= HEAD_LIMIT {
+        return Front::Refused(FramingFault::LargeHead);
+    }
+    if first_lines(window).are_many {
+        return Front::Refused(FramingFault::LargeHead);
+    }
+    Front::More(1)
+}
+
+/// Why the bytes are refused, where the window is no head, whatever follows.
+fn fault_of_no_head(bytes: &[u8], window: &[u8]) -> FramingFault
+    requires window { window.now ≡ head_window bytes.now }
+    requires never { NeverHasRequest window.now }
+    requires past { ¬ (EndsInTarget window.now) }
+    ensures { IsRefused bytes.now result }
+{
+    let lines = first_lines(window);
+    let mut headers = [EMPTY_HEADER_SPAN; HEADER_LIMIT];
+    match parse_request(lines.bytes, &mut headers) {
+        Ok(Status::Complete(_head)) => unreachable!(),
+        Ok(Status::Partial) | Err(Error::TooManyHeaders) => FramingFault::LargeHead,
+        Err(_) => FramingFault::Head,
+    }
+}
+
 /// What the bytes begin with: a request, a fault, or a part of a request.
 pub fn read_front(bytes: &[u8]) -> Front
     ensures { IsFrontOf bytes.now result }
 {
-    let lines = first_lines(head_window(bytes));
+    let window = head_window(bytes);
     let mut headers = [EMPTY_HEADER_SPAN; HEADER_LIMIT];
-    match parse_request(lines.bytes, &mut headers) {
-        Ok(Status::Complete(head)) => front_of_head(bytes, lines.bytes, &headers, head),
-        Ok(Status::Partial) if !lines.are_many && bytes.len() < HEAD_LIMIT => Front::More(1),
-        Ok(Status::Partial) | Err(Error::TooManyHeaders) => Front::Refused(FramingFault::LargeHead),
-        Err(_) => Front::Refused(FramingFault::Head),
+    match parse_request(window, &mut headers) {
+        Ok(Status::Complete(head)) => front_of_head(bytes, window, &headers, head),
+        Ok(Status::Partial) => front_of_part(bytes, window),
+        Err(Error::TooManyHeaders) => Front::Refused(FramingFault::LargeHead),
+        Err(_) if ends_in_target(window) => front_of_part(bytes, window),
+        Err(_) => Front::Refused(fault_of_no_head(bytes, window)),
     }
 }

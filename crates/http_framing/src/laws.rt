@@ -1,36 +1,31 @@
 //! What holds of every input, however it is read.
 
 ghost use Rattle.std.specs.Prelude.{◌≡◌, ℕ, ◌+◌, ◌<◌, ◌≤◌, List, [], ◌∷◌, ◌++◌, length, IsUtf8};
-ghost use Rattle.std.specs.List.{AllZip};
 ghost use Rattle.http_framing.specs.Request.{Request, BeginsWithRequest};
-ghost use Rattle.http_framing.specs.Input.{request_limit, Item, Begins, Splits, AreOpen, AreAlike, IsUnfinished};
-ghost use Rattle.httparse.specs.Grammar.{EndsInTarget};
+ghost use Rattle.http_framing.specs.Input.{request_limit, Item, Begins, Splits, AreOpen, IsUnfinished};
 ghost use Rattle.http_framing.specs.Front.{IsFrontOf};
-ghost use Rattle.http_framing.specs.Refusal.{head_window, IsRefused, HasEitherFault, HasTarget};
+ghost use Rattle.http_framing.specs.Refusal.{head_window, IsRefused, HasTarget};
 
 use crate::FramingFault;
 use crate::front::Front;
 
-/// Two readings of an input that have as many items are the same, but that a head may be refused
-/// for either of two faults.
+/// Two readings of an input that have as many items are the same.
 pub fn one_reading()
     ensures { (bytes : List ℕ) (items others : List Item) (rest after : List ℕ)
         → Splits bytes items rest → Splits bytes others after → length items ≡ length others
-        → AllZip AreAlike items others × (rest ≡ after) }
+        → (items ≡ others) × (rest ≡ after) }
 {}
 
-/// A head is refused for either of two faults only where its target does not end in the first
-/// [`HEAD_LIMIT`](crate::HEAD_LIMIT) bytes.
-pub fn either_fault()
-    ensures { (bytes : List ℕ) → IsRefused bytes FramingFault.Head
-        → IsRefused bytes FramingFault.LargeHead → HasEitherFault bytes }
+/// What is refused is refused for one fault.
+pub fn one_fault()
+    ensures { (bytes : List ℕ) (fault other : FramingFault)
+        → IsRefused bytes fault → IsRefused bytes other → fault ≡ other }
 {}
 
-/// What is unfinished is not refused, but where its target has not ended and is no text: that is
-/// told at its end.
+/// What is unfinished is not refused.
 pub fn unfinished_or_refused()
-    ensures { (bytes : List ℕ) (fault : FramingFault) → IsUnfinished bytes → IsRefused bytes fault
-        → (fault ≡ FramingFault.Head) × EndsInTarget bytes }
+    ensures { (bytes : List ℕ) (fault : FramingFault)
+        → IsUnfinished bytes → IsRefused bytes fault → ⊥ }
 {}
 
 /// What an input begins with stays there when more bytes have come.

@@ -10,6 +10,7 @@ mod headers;
 pub mod laws;
 mod lines;
 pub mod request;
+mod target;
 
 /// The most bytes of a head.
 pub const HEAD_LIMIT: usize = 16_384;

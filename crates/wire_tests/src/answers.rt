@@ -31,7 +31,10 @@ fn told(rt: &HostRuntime, query: QueryKind, told: AnswerKind) -> Result<String, 
 #[test]
 fn answers_to_other_queries(rt: HostRuntime) -> Result<(), Fail> {
     let limit = Answer::new(AnswerKind::Limit(1));
-    for query in [Query::new(QueryKind::Info), Query::new(QueryKind::AllDocuments)] {
+    for query in [
+        Query::new(QueryKind::Info),
+        Query::new(QueryKind::AllDocuments),
+    ] {
         let text = answer(rt.alloc(), 1, Connection::Open, &query, &limit)?;
         assert!(rt; text.is_none());
     }

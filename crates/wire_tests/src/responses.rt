@@ -84,14 +84,18 @@ fn bulks(rt: HostRuntime) -> Result<(), Fail> {
     let edits = Command::edits(edits).ok_or("command")?;
     let told = two_writes(alloc, RefusalKind::Conflict)?;
     assert_eq!(rt;
-        reply(alloc, 1, Connection::Open, Form::Whole, &edits, &told)?.ok_or("no text")?.as_str(),
+        reply(alloc, 1, Connection::Open, Form::Whole, &edits, &told)?
+            .ok_or("no text")?
+            .as_str(),
         "HTTP/1.1 201 Created\r\nContent-Type: application/json\r\nContent-Length: 132\r\nCouch-Place: 1\r\n\r\n[{\"id\":\"a\",\"ok\":true,\"rev\":\"1-0123456789abcdef0123456789abcdef\"},{\"error\":\"conflict\",\"id\":\"b\",\"reason\":\"Document update conflict.\"}]"
     );
     let merges = vec![in alloc; merge(alloc, "a")?, merge(alloc, "b")?]?;
     let merges = Command::merges(merges).ok_or("command")?;
     let told = two_writes(alloc, RefusalKind::BadHistory)?;
     assert_eq!(rt;
-        reply(alloc, 2, Connection::Open, Form::Whole, &merges, &told)?.ok_or("no text")?.as_str(),
+        reply(alloc, 2, Connection::Open, Form::Whole, &merges, &told)?
+            .ok_or("no text")?
+            .as_str(),
         "HTTP/1.1 201 Created\r\nContent-Type: application/json\r\nContent-Length: 82\r\nCouch-Place: 2\r\n\r\n[{\"error\":\"bad_history\",\"id\":\"b\",\"reason\":\"A known revision has another parent.\"}]"
     );
     Ok(())
