@@ -3,11 +3,13 @@ mod documents;
 mod history;
 mod limits;
 mod locals;
+mod purges;
 
 use crate::Version;
 use commands::{Command, Edit, Merge, Refusal, RefusalKind, ReplyKind, Seat};
 use document_id::DocId;
 use json_profile::Body;
+use purges::{Named, edits_of_many, purge, purge_of_many};
 use revision_id::RevId;
 use std::alloc::Global;
 use std::sync::Arc;
@@ -49,6 +51,13 @@ enum Change {
     /// Of the local document `a`, over the number that is named.
     Local(Option<u32>),
     LocalDeletion(Option<u32>),
+    /// Of documents, with the revisions that are named.
+    Purge(Named),
+    /// So many documents, which have their numbers from 0000 as ids.
+    EditMany(u32),
+    /// Of the first of these.
+    PurgeMany(u32),
+    Compaction,
 }
 
 /// What a command of one write is answered.
@@ -178,6 +187,10 @@ fn command(alloc: Global, change: Change) -> Result<Command, Fail> {
         Change::Limit(limit) => Ok(Command::set_limit(limit).ok_or("from 1")?),
         Change::Local(named) => put_local(alloc, named, Some(body(alloc)?)),
         Change::LocalDeletion(named) => put_local(alloc, named, None),
+        Change::Purge(named) => purge(alloc, named),
+        Change::EditMany(count) => edits_of_many(alloc, count),
+        Change::PurgeMany(count) => purge_of_many(alloc, count),
+        Change::Compaction => Ok(Command::compact()),
     }
 }
 
