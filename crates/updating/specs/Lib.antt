@@ -1,0 +1,3 @@
+pub mod Outcomes
+pub mod Drafts
+pub mod State

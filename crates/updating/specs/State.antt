@@ -1,0 +1,66 @@
+-- What the updater holds under its lock, and how that changes.
+use Rattle.std.specs.Prelude.{◌≡◌, ℕ, ◌+◌, ◌<◌, ◌≤◌, if◌then◌else◌, List, [], ◌∷◌, ◌++◌, length, slice_set, Option, None}
+use Rattle.model.specs.Command.{Entry, Job}
+use Rattle.model.specs.Database.{Database}
+use Rattle.model.specs.History.{replay, batch_entries}
+use Rattle.publications.specs.Histories.{newest, opening_base}
+use Rattle.updater.specs.Batches.{joins}
+use Rattle.updating.specs.Outcomes.{Fate, LeftOut, told, all_stand, GivesUp}
+
+-- the published histories, all jobs that were popped, the batch, and of each session what became of its last job, until that is taken
+pub record State : Type 0 where
+  pub published : List (List Entry)
+  pub popped : List Job
+  pub batch : List Job
+  pub outcomes : List (Option Fate)
+
+-- the database after what was published last
+abbrev pub database_of : State → Database
+database_of s = replay opening_base (newest s.published)
+
+-- a popped job goes last in the batch, or is dropped
+abbrev pub after_pop : State → Job → State
+after_pop s job =
+    let popped = s.popped ++ job ∷ [] in
+    if joins (database_of s) s.batch job
+    then record s { popped = popped; batch = s.batch ++ job ∷ [] }
+    else record s { popped = popped; outcomes = told s.outcomes job.seat.session LeftOut }
+
+-- a job is popped, whose session has a place for its outcome
+pub record Pops (old new : State) : Type 0 where
+  pub job : Job
+  pub known : job.seat.session < length old.outcomes
+  pub popped : new ≡ after_pop old job
+
+-- the entries of the batch, in its order
+abbrev pub entries_of_batch : State → List Entry
+entries_of_batch s = batch_entries (database_of s) s.batch
+
+-- one publication more, whose history gains the entries of the batch
+abbrev pub published_after : State → List (List Entry)
+published_after s = s.published ++ (newest s.published ++ entries_of_batch s) ∷ []
+
+-- the batch is published: its entries stand
+abbrev pub after_put : State → State
+after_put s = record s {
+  published = published_after s;
+  batch = [];
+  outcomes = all_stand (published_after s) (length (newest s.published)) s.outcomes (entries_of_batch s);
+}
+
+-- the batch is given up, with no entry
+pub record GivesUpBatch (max_places : ℕ) (old new : State) : Type 0 where
+  pub outcomes : GivesUp max_places old.published old.batch old.outcomes new.outcomes
+  pub others : new ≡ record old { batch = []; outcomes = new.outcomes }
+
+-- a session's outcome is taken
+abbrev pub after_taking : State → ℕ → State
+after_taking s session = record s { outcomes = slice_set s.outcomes session None }
+
+-- pops, publications of a batch that is not empty and leaves no place missing, batches given up, and outcomes taken
+pub data Goes (max_places : ℕ) : State → State → Type 0 where
+  stays : (s : State) → Goes max_places s s
+  pops : (s t : State) (job : Job) → Goes max_places s t → Goes max_places s (after_pop t job)
+  puts : (s t : State) → Goes max_places s t → 0 < length t.batch → length (newest t.published) + length t.batch ≤ max_places → Goes max_places s (after_put t)
+  gives_up : (s t u : State) → Goes max_places s t → GivesUpBatch max_places t u → Goes max_places s u
+  takes : (s t : State) (session : ℕ) → Goes max_places s t → Goes max_places s (after_taking t session)
