@@ -3,7 +3,8 @@ use Rattle.std.specs.Prelude.{◌≡◌, ℕ, ◌+◌, List, [], ◌∷◌, Opti
 use Rattle.model.specs.Command.{Entry, Reply}
 use Rattle.model.specs.History.{Chronicle}
 use Rattle.snapshots.specs.Version.{entry_at}
-use Rattle.updating.specs.Outcomes.{Fate, Stands, StoodAt, told}
+use Rattle.updating.specs.Answers.{Stands}
+use Rattle.updating.specs.Outcomes.{Fate, StoodAt, told}
 
 pub record Drafted : Type 0 where
   pub version : Chronicle

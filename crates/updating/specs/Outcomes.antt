@@ -1,22 +1,12 @@
 -- What became of the last popped job of each session.
-use Rattle.std.specs.Prelude.{◌≡◌, ℕ, ◌+◌, List, [], ◌∷◌, Option, Some, option_map, option_and_then, slice_get, slice_set}
-use Rattle.model.specs.Command.{Entry, Job, Reply}
-use Rattle.snapshots.specs.Version.{entry_at}
-use Rattle.publications.specs.Histories.{newest, Grows}
-use Rattle.updating.specs.declared.outcome.OutcomeKind.{OutcomeKind}
-use Rattle.updating.specs.declared.outcome.OutcomeKind.TheVariants as kinds
+use Rattle.std.specs.Prelude.{◌≡◌, ◌⊎◌, refl, Bool, true, false, ℕ, ◌+◌, List, [], ◌∷◌, length, Option, Some, option_and_then, slice_get, slice_set}
+use Rattle.std.specs.Coded.{Coded, code_by, coded⊎, coded_bool}
+use mathlib.Core.Logic.{inl, inr}
+use Rattle.model.specs.Command.{Entry, Job}
+use Rattle.publications.specs.Histories.{newest}
+use Rattle.updating.specs.Answers.{Stands}
 
--- an entry that stands: what was published with it, its place and its reply
-pub record Stands : Type 0 where
-  pub published : List (List Entry)
-  pub place : ℕ
-  pub reply : Reply
-
--- the last published history has an entry with that reply at that place
-pub record IsAnswer (s : Stands) : Type 0 where
-  pub grows : Grows s.published
-  pub stands : option_map (λ (e : Entry). e.reply) (entry_at (newest s.published) s.place) ≡ Some s.reply
-
+-- what became of a job
 pub data Fate : Type 0 where
   StoodAt : Stands → Fate
   -- these histories were published, and the last has no place left
@@ -24,11 +14,27 @@ pub data Fate : Type 0 where
   NoMemory : Fate
   LeftOut : Fate
 
-abbrev pub fate_of : {J : Type 0} → OutcomeKind J → Fate
-fate_of (kinds.Stood s) = StoodAt s
-fate_of (kinds.Full found) = NoPlaceLeft found
-fate_of kinds.Memory = NoMemory
-fate_of kinds.Dropped = LeftOut
+-- a fate as a choice of these, by which a model's value may hold it
+abbrev parts : Fate → Stands ⊎ (List (List Entry) ⊎ Bool)
+parts (StoodAt s) = inl s
+parts (NoPlaceLeft found) = inr (inl found)
+parts NoMemory = inr (inr true)
+parts LeftOut = inr (inr false)
+
+abbrev whole : Stands ⊎ (List (List Entry) ⊎ Bool) → Fate
+whole (inl s) = StoodAt s
+whole (inr (inl found)) = NoPlaceLeft found
+whole (inr (inr true)) = NoMemory
+whole (inr (inr false)) = LeftOut
+
+pub whole-parts : (f : Fate) → whole (parts f) ≡ f
+whole-parts (StoodAt s) = refl
+whole-parts (NoPlaceLeft found) = refl
+whole-parts NoMemory = refl
+whole-parts LeftOut = refl
+
+abbrev pub coded_fate : Coded Stands → Coded (List (List Entry)) → Coded Fate
+coded_fate stands published = code_by (Stands ⊎ (List (List Entry) ⊎ Bool)) (coded⊎ stands (coded⊎ published coded_bool)) parts whole whole-parts
 
 -- ---- the outcomes by session
 

@@ -1,11 +1,13 @@
 -- What the updater holds under its lock, and how that changes.
-use Rattle.std.specs.Prelude.{◌≡◌, ℕ, ◌+◌, ◌<◌, ◌≤◌, if◌then◌else◌, List, [], ◌∷◌, ◌++◌, length, slice_set, Option, None}
+use Rattle.std.specs.Prelude.{◌≡◌, ℕ, ◌+◌, ◌<◌, ◌≤◌, if◌then◌else◌, List, [], ◌∷◌, ◌++◌, length, slice_set, Option, None, refl}
+use Rattle.std.specs.Coded.{Coded, code_by, coded×, coded_list, coded_option}
 use Rattle.model.specs.Command.{Entry, Job}
 use Rattle.model.specs.Database.{Database}
 use Rattle.model.specs.History.{replay, batch_entries}
 use Rattle.publications.specs.Histories.{newest, opening_base}
 use Rattle.updater.specs.Batches.{joins}
-use Rattle.updating.specs.Outcomes.{Fate, LeftOut, told, all_stand, GivesUp}
+use Rattle.updating.specs.Answers.{Stands}
+use Rattle.updating.specs.Outcomes.{Fate, coded_fate, LeftOut, told, all_stand, GivesUp}
 
 -- the published histories, all jobs that were popped, the batch, and of each session what became of its last job, until that is taken
 pub record State : Type 0 where
@@ -13,6 +15,12 @@ pub record State : Type 0 where
   pub popped : List Job
   pub batch : List Job
   pub outcomes : List (Option Fate)
+
+-- a state as the tuple of its parts, by which a model's value may be one
+abbrev pub coded_state : Coded Stands → Coded (List (List Entry)) → Coded (List Job) → Coded State
+coded_state stands published jobs = code_by (List (List Entry) × (List Job × (List Job × List (Option Fate))))
+    (coded× published (coded× jobs (coded× jobs (coded_list (coded_option (coded_fate stands published))))))
+    (λ s. (s.published, (s.popped, (s.batch, s.outcomes)))) (λ t. record { published = t.0; popped = t.1.0; batch = t.1.1.0; outcomes = t.1.1.1 }) (λ _. refl)
 
 -- the database after what was published last
 abbrev pub database_of : State → Database
@@ -47,6 +55,12 @@ after_put s = record s {
   batch = [];
   outcomes = all_stand (published_after s) (length (newest s.published)) s.outcomes (entries_of_batch s);
 }
+
+-- a batch that is not empty, and leaves no place missing, is published
+pub record Puts (max_places : ℕ) (old new : State) : Type 0 where
+  pub some : 0 < length old.batch
+  pub room : length (newest old.published) + length old.batch ≤ max_places
+  pub put : new ≡ after_put old
 
 -- the batch is given up, with no entry
 pub record GivesUpBatch (max_places : ℕ) (old new : State) : Type 0 where

@@ -5,8 +5,9 @@ ghost use Rattle.publications.specs.Histories.{IsNewest};
 ghost use Rattle.updating.specs.Outcomes.{StoodAt, told};
 ghost use Rattle.updating.specs.Drafts.{Drafted, draft_of, drafts_from, stands_of, all_drafts_stand};
 
+use crate::answer::Answer;
 use crate::naming::Opening;
-use crate::outcome::{Answer, Outcome, OutcomeKind};
+use crate::outcome::{Outcome, OutcomeKind};
 use crate::outcomes::{Outcomes, tell};
 use commands::{Copied, Reply};
 use publications::{Front, Published};

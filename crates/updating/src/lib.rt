@@ -1,6 +1,7 @@
 //! What the updater does under its lock: it pops jobs into a batch, and publishes the batch or gives it up.
 #![tactic(auto)]
 
+mod answer;
 mod draft;
 mod fault;
 mod gate;
@@ -10,8 +11,9 @@ mod outcome;
 mod outcomes;
 mod rounds;
 
+pub use answer::{Answer, Filled};
 pub use fault::PutFault;
 pub use gate::{Gate, NoGate, Point};
 pub use locked::Core;
 pub use naming::Opening;
-pub use outcome::{Answer, Filled, Outcome, OutcomeKind};
+pub use outcome::{Outcome, OutcomeKind};

@@ -2,7 +2,7 @@
 ghost use Rattle.std.specs.Prelude.{◌≡◌, ◌↔◌, ◌+◌, ◌-◌, ◌<◌, ◌≤◌, [], Ok, Err, None, length, replicate, IfOk, OnErr, OnOk};
 ghost use Rattle.publications.specs.Histories.{newest};
 ghost use Rattle.updating.specs.Outcomes.{outcome_of};
-ghost use Rattle.updating.specs.State.{State, after_put, after_taking, GivesUpBatch};
+ghost use Rattle.updating.specs.State.{Puts, after_taking, GivesUpBatch};
 ghost use Rattle.updating.specs.declared.fault.PutFault.TheVariants.{Full};
 
 use crate::draft::{answer_all, drafts_after};
@@ -40,11 +40,11 @@ impl<R: Wait + Drop, J: Opening> Model for Core<R, J> {
     ghost use Rattle.model.specs.History.{replay};
     ghost use Rattle.publications.specs.Histories.{newest, opening_base};
     ghost use Rattle.updater.specs.Batches.{MayFollow};
-    ghost use Rattle.updating.specs.State.{State};
+    ghost use Rattle.updating.specs.State.{State, coded_state};
 
     ghost Value = { State };
 
-    ghost coded = { Prim.hlevel (codes, coded_members) };
+    ghost coded = { coded_state (Prim.hlevel (codes, coded_members)) (Prim.hlevel (codes, coded_members)) (Prim.hlevel (codes, coded_members)) };
 
     ghost view = { λ c. record { published = c.current; popped = c.clerk.taken; batch = c.batch.items; outcomes = c.outcomes.items } };
 
@@ -103,7 +103,7 @@ impl<R: Wait + Drop, J: Opening> Core<R, J> {
     /// All that grows, grows before the entries stand.
     pub fn put(&mut self) -> Result<(), PutFault>
         ensures empty { self.old.batch ≡ [] → (result ≡ Ok tt) × (self.new ≡ self.old) }
-        ensures put { OnOk result (0 < length self.old.batch → self.new ≡ after_put self.old) }
+        ensures put { OnOk result (0 < length self.old.batch → Puts J.max_places self.old self.new) }
         ensures kept { OnErr result (self.new ≡ self.old) }
         ensures full { 0 < length self.old.batch → (result ≡ Err Full) ↔ (J.max_places < length (newest self.old.published) + length self.old.batch) }
     {

@@ -3,22 +3,36 @@ ghost use Rattle.std.specs.Prelude.{◌≡◌, None, length, replicate, slice_se
 ghost use Rattle.publications.specs.Histories.{newest};
 ghost use Rattle.updating.specs.Outcomes.{told, outcome_of, IsGivenUp, GivesUp};
 
+use crate::answer::Filled;
 use crate::naming::Opening;
-use crate::outcome::{Filled, Outcome, OutcomeKind};
+use crate::outcome::{Outcome, OutcomeKind};
 use commands::Job;
 use publications::Published;
+use core::mem::replace;
 use std::alloc::{AllocError, Global};
 
 /// Of each session what became of its last popped job, until that is taken.
 pub(crate) type Outcomes<J> = Vec<Option<Outcome<J>>>;
 
+/// Puts what becomes of the session's job in the place of what was there, which it answers.
+fn exchange<J: Opening>(
+    outcomes: &mut Outcomes<J>,
+    session: u16,
+    outcome: Option<Outcome<J>>,
+) -> Option<Outcome<J>>
+    ensures { outcomes.new.items ≡ slice_set outcomes.old.items session outcome }
+{
+    let Some(slot) = outcomes.get_mut(session as usize) else {
+        return outcome;
+    };
+    replace(slot, outcome)
+}
+
 /// This is what became of the session's job.
 pub(crate) fn tell<J: Opening>(outcomes: &mut Outcomes<J>, session: u16, outcome: Outcome<J>)
     ensures { outcomes.new.items ≡ told outcomes.old.items session outcome }
 {
-    if let Some(slot) = outcomes.get_mut(session as usize) {
-        *slot = Some(outcome);
-    }
+    let _older = exchange(outcomes, session, Some(outcome));
 }
 
 /// Takes the session's outcome.
@@ -37,7 +51,7 @@ pub(crate) fn no_outcomes<J: Opening>(
     ensures { IfOk result (λ outcomes. outcomes.items ≡ replicate sessions None) }
 {
     let mut outcomes = Vec::with_capacity(alloc, sessions as usize)?;
-    for _ in 0..sessions {
+    for _made in 0..sessions {
         outcomes.push(None)?;
     }
     Ok(outcomes)

@@ -1,0 +1,2 @@
+pub mod DraftLists
+pub mod States

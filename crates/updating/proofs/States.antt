@@ -1,0 +1,22 @@
+-- Going from state to state.
+use Rattle.std.proofs.Common.{◌≡◌, ℕ, subst, sym}
+use Rattle.updating.specs.State.{State, Pops, Puts, Goes, stays, pops, puts, gives_up, takes, GivesUpBatch, after_taking}
+
+pub Goes-same : (max : ℕ) (s t u : State) → Goes max s t → u ≡ t → Goes max s u
+Goes-same max s t u g is = subst (Goes max s) (sym is) g
+
+pub Goes-pops : (max : ℕ) (s t u : State) → Goes max s t → Pops t u → Goes max s u
+Goes-pops max s t u g p = subst (Goes max s) (sym p.popped) (pops s t p.job g)
+
+pub Goes-puts : (max : ℕ) (s t u : State) → Goes max s t → Puts max t u → Goes max s u
+Goes-puts max s t u g p = subst (Goes max s) (sym p.put) (puts s t g p.some p.room)
+
+pub Goes-takes : (max : ℕ) (s t u : State) (session : ℕ) → Goes max s t → u ≡ after_taking t session → Goes max s u
+Goes-takes max s t u session g is = subst (Goes max s) (sym is) (takes s t session g)
+
+pub Goes-through : (max : ℕ) (s t u : State) → Goes max s t → Goes max t u → Goes max s u
+Goes-through max s t _ g (stays _) = g
+Goes-through max s t _ g (pops _ v job h) = pops s v job (Goes-through max s t v g h)
+Goes-through max s t _ g (puts _ v h some room) = puts s v (Goes-through max s t v g h) some room
+Goes-through max s t _ g (gives_up _ v w h up) = gives_up s v w (Goes-through max s t v g h) up
+Goes-through max s t _ g (takes _ v session h) = takes s v session (Goes-through max s t v g h)
