@@ -24,14 +24,17 @@ drafts_more v drafts whole n e at is =
     append_assoc drafts (draft_of v (n + 1) e ∷ []) (drafts_from v (n + 1) (drop (n + 1) v.entries))
     ∙ ap (λ (es : List Entry). drafts ++ drafts_from v n es) (sym (drop_at_item v.entries n e at)) ∙ is
 
+All-first : {X : Type 0} (P : X → Type 0) (x : X) (xs : List X) → P x → All P xs → All P (x ∷ xs)
+All-first {X} P x xs p all = at
+  where
+    at : (k : ℕ) (d : X) → k < length (x ∷ xs) → P (get_or (x ∷ xs) k d)
+    at zero d lt = p
+    at (suc k) d lt = all k d (omega (arith, lt))
+
 -- each draft is of the version
 pub all_drafts_of : (P : Chronicle → Type 0) (v : Chronicle) (n : ℕ) (es : List Entry) → P v → All (λ (d : Drafted). P d.version) (drafts_from v n es)
 all_drafts_of P v n [] p = λ k d lt. absurd (omega arith)
-all_drafts_of P v n (e ∷ es) p = λ k d lt. at k d lt
-  where
-    at : (k : ℕ) (d : Drafted) → k < length (drafts_from v n (e ∷ es)) → P (get_or (drafts_from v n (e ∷ es)) k d).version
-    at zero d lt = p
-    at (suc k) d lt = all_drafts_of P v (n + 1) es p k d (omega arith)
+all_drafts_of P v n (e ∷ es) p = All-first (λ (d : Drafted). P d.version) (draft_of v (n + 1) e) (drafts_from v (n + 1) es) p (all_drafts_of P v (n + 1) es p)
 
 pub all_drafts_stand-from : (published : List (List Entry)) (outcomes : List (Option Fate)) (v : Chronicle) (n : ℕ) (es : List Entry) → all_drafts_stand published outcomes (drafts_from v n es) ≡ all_stand published n outcomes es
 all_drafts_stand-from published outcomes v n [] = refl

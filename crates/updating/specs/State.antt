@@ -27,12 +27,18 @@ abbrev pub database_of : State → Database
 database_of s = replay opening_base (newest s.published)
 
 -- a popped job goes last in the batch, or is dropped
+abbrev pub batch_after : Database → List Job → Job → List Job
+batch_after d batch job = if joins d batch job then batch ++ job ∷ [] else batch
+
+abbrev pub outcomes_after : Database → List Job → Job → List (Option Fate) → List (Option Fate)
+outcomes_after d batch job outcomes = if joins d batch job then outcomes else told outcomes job.seat.session LeftOut
+
 abbrev pub after_pop : State → Job → State
-after_pop s job =
-    let popped = s.popped ++ job ∷ [] in
-    if joins (database_of s) s.batch job
-    then record s { popped = popped; batch = s.batch ++ job ∷ [] }
-    else record s { popped = popped; outcomes = told s.outcomes job.seat.session LeftOut }
+after_pop s job = record s {
+  popped = s.popped ++ job ∷ [];
+  batch = batch_after (database_of s) s.batch job;
+  outcomes = outcomes_after (database_of s) s.batch job s.outcomes;
+}
 
 -- a job is popped, whose session has a place for its outcome
 pub record Pops (old new : State) : Type 0 where
@@ -40,20 +46,20 @@ pub record Pops (old new : State) : Type 0 where
   pub known : job.seat.session < length old.outcomes
   pub popped : new ≡ after_pop old job
 
--- the entries of the batch, in its order
-abbrev pub entries_of_batch : State → List Entry
-entries_of_batch s = batch_entries (database_of s) s.batch
+-- the entries of jobs, after what was published last
+abbrev pub entries_after : List (List Entry) → List Job → List Entry
+entries_after published jobs = batch_entries (replay opening_base (newest published)) jobs
 
--- one publication more, whose history gains the entries of the batch
-abbrev pub published_after : State → List (List Entry)
-published_after s = s.published ++ (newest s.published ++ entries_of_batch s) ∷ []
+-- one publication more, whose history gains the entries of the jobs
+abbrev pub published_with : List (List Entry) → List Job → List (List Entry)
+published_with published jobs = published ++ (newest published ++ entries_after published jobs) ∷ []
 
 -- the batch is published: its entries stand
 abbrev pub after_put : State → State
 after_put s = record s {
-  published = published_after s;
+  published = published_with s.published s.batch;
   batch = [];
-  outcomes = all_stand (published_after s) (length (newest s.published)) s.outcomes (entries_of_batch s);
+  outcomes = all_stand (published_with s.published s.batch) (length (newest s.published)) s.outcomes (entries_after s.published s.batch);
 }
 
 -- a batch that is not empty, and leaves no place missing, is published

@@ -113,7 +113,8 @@ pub(crate) fn answer_all<J: Opening>(
     front: &Front<J>,
 )
     requires { All (λ (d : Drafted). IsNewest d.version front.now) drafts.items }
-    ensures { outcomes.new.items ≡ all_drafts_stand front.now outcomes.old.items drafts.items }
+    ensures told { outcomes.new.items ≡ all_drafts_stand front.now outcomes.old.items drafts.items }
+    ensures count { length outcomes.new.items ≡ length outcomes.old.items }
 {
     for draft in drafts {
         answer(outcomes, draft, front);

@@ -9,6 +9,7 @@ mod locked;
 mod naming;
 mod outcome;
 mod outcomes;
+mod publication;
 mod rounds;
 
 pub use answer::{Answer, Filled};

@@ -5,18 +5,18 @@ ghost use Rattle.updating.specs.Outcomes.{outcome_of};
 ghost use Rattle.updating.specs.State.{Puts, after_taking, GivesUpBatch};
 ghost use Rattle.updating.specs.declared.fault.PutFault.TheVariants.{Full};
 
-use crate::draft::{answer_all, drafts_after};
+use crate::draft::answer_all;
 use crate::fault::PutFault;
 use crate::naming::Opening;
 use crate::outcome::Outcome;
 use crate::outcomes::{Outcomes, give_up_all, no_outcomes, take};
+use crate::publication::{Publication, publish, put_in_place};
 use commands::{Config, Job};
 use publications::{Book, Press, Published};
 use std::alloc::{AllocError, Global};
 use std::marker::Model;
 use std::sync::Wait;
 use turns::Clerk;
-use updater::apply_batch;
 
 /// What the updater holds: the version that was published last, the batch that comes next, and of each
 /// session what became of its last job.
@@ -26,7 +26,7 @@ pub struct Core<R: Wait + Drop, J: Opening> {
     pub(crate) gather: u16,
     max_places: u32,
     book: Book<J>,
-    current: Published<J>,
+    pub(crate) current: Published<J>,
     pub(crate) batch: Vec<Job>,
     pub(crate) outcomes: Outcomes<J>,
     pub(crate) clerk: Clerk<J>,
@@ -113,14 +113,14 @@ impl<R: Wait + Drop, J: Opening> Core<R, J> {
         if self.batch.len() as u64 > self.room() {
             return Err(PutFault::Full);
         }
-        let version = apply_batch(self.current.version(), self.batch.as_slice())?;
-        let drafts = drafts_after(self.alloc, &version, self.current.version().place())?;
-        let mut front = self.current.front().again();
-        if !front.publish(&self.book, &version) {
-            return Err(PutFault::Memory);
-        }
-        answer_all(&mut self.outcomes, drafts, &front);
-        self.current = Published::new(version, front);
+        let Publication { found, drafts } = publish(
+            self.alloc,
+            &self.book,
+            &self.current,
+            self.batch.as_slice(),
+        )?;
+        answer_all(&mut self.outcomes, drafts, found.front());
+        put_in_place(&mut self.current, found);
         self.batch.clear();
         Ok(())
     }

@@ -1,17 +1,42 @@
 //! Rounds of the updater: a batch is popped, and published or given up.
-ghost use Rattle.std.specs.Prelude.{◌≡◌, ◌<◌, length, IfSome, MatchBool};
-ghost use Rattle.model.specs.Command.{Job as Waiting};
+ghost use Rattle.std.specs.Prelude.{◌≡◌, ◌<◌, IfSome, MatchBool, vec_len, vec_capacity};
+ghost use Rattle.model.specs.History.{now};
 ghost use Rattle.turns.specs.Turns.{count};
-ghost use Rattle.updating.specs.State.{Goes, Pops};
+ghost use Rattle.updater.specs.Batches.{MayFollow};
+ghost use Rattle.updating.specs.State.{batch_after, outcomes_after, Goes, Pops};
 
 use crate::gate::{Gate, Point};
 use crate::locked::Core;
 use crate::naming::Opening;
 use crate::outcome::{Outcome, OutcomeKind};
-use crate::outcomes::tell;
+use crate::outcomes::{Outcomes, tell};
+use commands::Job;
+use snapshots::Version;
 use std::sync::Wait;
 use turns::{Line, Ticket};
 use updater::may_join;
+
+/// A popped job goes last in the batch, or is dropped.
+fn take_in<J: Opening>(
+    version: &Version,
+    batch: &mut Vec<Job>,
+    outcomes: &mut Outcomes<J>,
+    job: Job,
+)
+    requires follow { MayFollow (now version.now) batch.old.items }
+    requires room { vec_len batch.old < vec_capacity batch.old }
+    ensures batch { batch.new.items ≡ batch_after (now version.now) batch.old.items job }
+    ensures outcomes { outcomes.new.items ≡ outcomes_after (now version.now) batch.old.items job outcomes.old.items }
+    ensures follow { MayFollow (now version.now) batch.new.items }
+    ensures capacity { vec_capacity batch.new ≡ vec_capacity batch.old }
+{
+    let session = job.seat.session();
+    if may_join(version, batch.as_slice(), &job) {
+        batch.push_reserved(job);
+        return;
+    }
+    tell(outcomes, session, Outcome::new(OutcomeKind::Dropped));
+}
 
 impl<R: Wait + Drop, J: Opening> Core<R, J> {
     /// Pops the job that waits longest: it goes last in the batch, or is dropped exactly where it is not
@@ -26,15 +51,12 @@ impl<R: Wait + Drop, J: Opening> Core<R, J> {
         let Some(job) = self.clerk.pop(rt, line) else {
             return false;
         };
-        if may_join(self.current().version(), self.batch.as_slice(), &job) {
-            self.batch.push_reserved(job);
-        } else {
-            tell(
-                &mut self.outcomes,
-                job.seat.session(),
-                Outcome::new(OutcomeKind::Dropped),
-            );
-        }
+        take_in(
+            self.current.version(),
+            &mut self.batch,
+            &mut self.outcomes,
+            job,
+        );
         true
     }
 
