@@ -88,11 +88,18 @@ impl<R: Wait + Drop, J: Opening> Core<R, J> {
             return;
         }
         gate.at(Point::Popped, session);
-        if self.put().is_err() {
+        let Ok(()) = self.put() else {
             self.give_up();
             return;
-        }
+        };
         let _shown = self.show();
+    }
+
+    fn has_outcome(&self, session: u16) -> bool {
+        match self.outcomes.get(session as usize) {
+            Some(outcome) => outcome.is_some(),
+            None => false,
+        }
     }
 
     /// Rounds, at most so many, until the session's outcome is known, which is taken.
@@ -107,9 +114,8 @@ impl<R: Wait + Drop, J: Opening> Core<R, J> {
         ensures { Goes J.max_places self.old self.new }
     {
         for _ in 0..most {
-            let outcome = self.take_outcome(session);
-            if outcome.is_some() {
-                return outcome;
+            if self.has_outcome(session) {
+                return self.take_outcome(session);
             }
             self.round(rt, line, gate, session);
         }
