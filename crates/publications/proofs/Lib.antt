@@ -1,0 +1,4 @@
+pub mod Prefixes
+pub mod Growing
+pub mod Publishing
+pub mod OneBook

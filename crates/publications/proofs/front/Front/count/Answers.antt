@@ -1,0 +1,5 @@
+use Rattle.publications.proofs.Growing.{few-publications}
+use Rattle.publications.proofs.front.Front.count.Goals as goal
+
+pub returns-clause-few : goal.returns-clause-few
+returns-clause-few g c = rw (← c.self.view_is) (few-publications c.self.inside.seen.log c.self.invariant.2)

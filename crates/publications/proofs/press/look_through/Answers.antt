@@ -1,0 +1,5 @@
+use Rattle.publications.proofs.OneBook.{finds}
+use Rattle.publications.proofs.press.look_through.Goals as goal
+
+pub enter_as-requires : goal.enter_as-requires
+enter_as-requires c = finds _ _

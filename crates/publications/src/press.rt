@@ -1,0 +1,217 @@
+//! The two ends of `left_right`, under the store's name: what shows a version, and what sees it.
+ghost use Rattle.std.specs.Prelude.{◌≡◌, ◌^◌, ◌<◌, ◌++◌, ◌∷◌, [], drop, All, IfOk, IfSome, Some};
+ghost use Rattle.publications.specs.declared.published.Shown.{Shown};
+ghost use Rattle.left_right.specs.Sides.{view as known};
+ghost use Rattle.publications.specs.Names.{Knows};
+
+use crate::front::Naming;
+use crate::published::{Published, Shown};
+use atomic_table::{Join, Split};
+use core::mem::replace_with;
+use crossbeam_utils::rule::{Outcome, Protocol};
+use left_right::reader::Reader;
+use left_right::writer::Writer;
+use std::alloc::{AllocError, Global};
+use std::marker::{Model, PhantomData};
+use std::sync::Wait;
+
+/// Whoever knows the book of what is shown knows it rightly.
+pub struct OneBook;
+
+impl Protocol<Shown, Option<Shown>> for OneBook {
+    ghost use Rattle.std.specs.Prelude.{None};
+    ghost use Rattle.publications.specs.Names.{OneBookOf};
+
+    ghost holds = { OneBookOf };
+
+    ghost first = { None };
+}
+
+/// A step that finds, or leaves, the same book.
+pub struct Finds;
+
+impl Outcome<Shown, Option<Shown>> for Finds {
+    ghost use Rattle.publications.specs.Names.{FindsBook};
+
+    ghost then = { FindsBook };
+}
+
+/// A step after which the book of what is shown is known.
+pub struct Opens;
+
+impl Outcome<Shown, Option<Shown>> for Opens {
+    ghost use Rattle.std.specs.Prelude.{◌≡◌, Some};
+
+    ghost then = { λ v x y w. (w ≡ Some y) × (y.0 ≡ x.0) };
+}
+
+/// The writer tells a reader its book, and keeps knowing it.
+pub struct Tells;
+
+impl Split<Option<Shown>> for Tells {
+    ghost left = { λ v. v };
+
+    ghost right = { λ v. v };
+}
+
+impl Join<Option<Shown>> for Tells {
+    ghost use Rattle.std.specs.Prelude.{None};
+
+    ghost both = { λ v w. w };
+
+    ghost spent = { None };
+}
+
+type ShownReader = Reader<Shown, Option<Shown>, OneBook>;
+
+type ShownWriter = Writer<Shown, Shown, Option<Shown>, OneBook>;
+
+/// A reader of the store `J`. It waits for nobody.
+#[derive(Drop)]
+pub struct Lens<J: Naming> {
+    reader: ShownReader,
+    of: PhantomData<J>,
+}
+
+impl<J: Naming> Model for Lens<J> {
+    ghost use Rattle.left_right.specs.Sides.{view as known};
+    ghost use Rattle.publications.specs.Names.{Knows};
+
+    ghost Value = { Unit {0} };
+
+    ghost view = { λ l. tt };
+
+    ghost invariant = { λ l. Knows J.book (known l.reader.place) };
+}
+
+// The reader, and what it found.
+fn look_through(reader: ShownReader) -> (ShownReader, Option<Shown>)
+    ensures kept { known result.0.place ≡ known reader.place }
+    ensures found { IfSome result.1 (λ s. (w : Shown) → known reader.place ≡ Some w → w.0 ≡ s.0) }
+{
+    match reader.enter_as::<Finds>() {
+        Ok(reading) => {
+            let found = reading.get().share().ok();
+            (reading.leave(), found)
+        }
+        Err(reader) => (reader, None),
+    }
+}
+
+impl<J: Naming> Lens<J> {
+    /// What is shown now; nothing where the entry or a share is refused. It takes no memory.
+    pub fn look(&mut self) -> Option<Published<J>> {
+        let found = replace_with(&mut self.reader, (), |reader, _| look_through(reader))?;
+        Some(Published::named(found))
+    }
+}
+
+/// The writer of the store `J`. Its runtime waits for readers.
+pub struct Press<R: Wait + Drop, J: Naming> {
+    writer: ShownWriter,
+    rt: R,
+    of: PhantomData<J>,
+}
+
+impl<R: Wait + Drop, J: Naming> Model for Press<R, J> {
+    ghost use Rattle.std.specs.Prelude.{◌≡◌, All, drop};
+    ghost use Rattle.left_right.specs.Sides.{view as known};
+    ghost use Rattle.publications.specs.declared.published.Shown.{Shown};
+    ghost use Rattle.publications.specs.Names.{Knows};
+
+    ghost Value = { Unit {0} };
+
+    ghost view = { λ p. tt };
+
+    ghost invariant = { λ p. Knows J.book (known p.writer.desk.place) × (p.writer.desk.shown.value.0 ≡ J.book) × All (λ (s : Shown). s.0 ≡ J.book) (drop p.writer.behind p.writer.log.items) };
+}
+
+impl<R: Wait + Drop, J: Naming> Drop for Press<R, J> {
+    fn drop(self) {
+        let Self { writer, rt, of: _ } = self;
+        drop(writer.take(&rt));
+    }
+}
+
+// Publishes what is pending, which is of the book of what is shown.
+fn publish_pending<R: Wait>(writer: ShownWriter, rt: &R) -> (ShownWriter, Result<(), AllocError>)
+    requires { All (λ (s : Shown). s.0 ≡ writer.desk.shown.value.0) (drop writer.behind writer.log.items) }
+    ensures kept { known result.0.desk.place ≡ known writer.desk.place }
+    ensures shows { result.0.desk.shown.value.0 ≡ writer.desk.shown.value.0 }
+    ensures pends { All (λ (s : Shown). s.0 ≡ writer.desk.shown.value.0) (drop result.0.behind result.0.log.items) }
+{
+    writer.publish_as::<Finds, R>(rt)
+}
+
+// Publishes what is pending, and then this version, of the same book.
+fn show_next<R: Wait>(
+    mut writer: ShownWriter,
+    shown: Shown,
+    rt: &R,
+) -> (ShownWriter, Result<(), AllocError>)
+    requires book { shown.0 ≡ writer.desk.shown.value.0 }
+    requires pends { All (λ (s : Shown). s.0 ≡ writer.desk.shown.value.0) (drop writer.behind writer.log.items) }
+    ensures kept { known result.0.desk.place ≡ known writer.desk.place }
+    ensures shows { result.0.desk.shown.value.0 ≡ writer.desk.shown.value.0 }
+    ensures pends { All (λ (s : Shown). s.0 ≡ writer.desk.shown.value.0) (drop result.0.behind result.0.log.items) }
+{
+    let Ok(()) = writer.append(shown) else {
+        return (writer, Err(AllocError));
+    };
+    publish_pending(writer, rt)
+}
+
+// Publishes once more what is shown, after which the writer knows its book.
+fn opened<R: Wait>(writer: ShownWriter, rt: &R) -> Result<ShownWriter, AllocError>
+    requires { drop writer.behind writer.log.items ≡ [] }
+    ensures { IfOk result (λ w. Knows writer.desk.shown.value.0 (known w.desk.place) × (w.desk.shown.value.0 ≡ writer.desk.shown.value.0) × (drop w.behind w.log.items ≡ [])) }
+{
+    let (writer, published) = writer.publish_as::<Opens, R>(rt);
+    if published.is_err() {
+        drop(writer.take(rt));
+        return Err(AllocError);
+    }
+    Ok(writer)
+}
+
+impl<R: Wait + Drop, J: Naming> Press<R, J> {
+    /// Shows this version first, to so many readers at once.
+    pub fn new(
+        alloc: Global,
+        rt: R,
+        first: &Published<J>,
+        readers: usize,
+    ) -> Result<Press<R, J>, AllocError>
+        requires readers { (0 < readers) × (readers < 2 ^ 32) }
+    {
+        let second = first.shown()?;
+        let writer = ShownWriter::new(alloc, first.shown()?, second, readers)?;
+        let writer = opened(writer, &rt)?;
+        Ok(Press {
+            writer,
+            rt,
+            of: PhantomData,
+        })
+    }
+
+    /// One more reader.
+    pub fn lens(&mut self) -> Result<Lens<J>, AllocError> {
+        let mut reader = self.writer.factory().reader()?;
+        reader.learn::<Tells>(self.writer.tell::<Tells>());
+        Ok(Lens {
+            reader,
+            of: PhantomData,
+        })
+    }
+
+    /// Shows readers this version. After a refusal they see what they saw, and a later call shows
+    /// what is pending first.
+    pub fn show(&mut self, version: &Published<J>) -> Result<(), AllocError> {
+        let shown = version.shown()?;
+        replace_with(
+            &mut self.writer,
+            (shown, &self.rt),
+            |writer, (shown, rt)| show_next(writer, shown, rt),
+        )
+    }
+}

@@ -1,0 +1,171 @@
+//! What readers take: a version, with the publications up to it.
+ghost use Rattle.std.specs.Prelude.{◌≡◌, ◌≤◌, length, IfOk, MatchBool};
+ghost use mathlib.Core.List.{IsPrefix};
+ghost use Rattle.publications.specs.Histories.{newest, opening_base, Grows, IsNewest};
+
+use crate::front::{Front, History, Law, Naming};
+use left_right::Absorb;
+use logbook::Seen;
+use snapshots::Version;
+use std::alloc::AllocError;
+use std::marker::Model;
+
+/// A published version that doesn't know its store, so that it has no type parameter. Contracts see
+/// its book, and the published histories.
+#[derive(Drop)]
+pub struct Shown {
+    version: Version,
+    count: u64,
+    seen: Seen<History, u64, Law>,
+}
+
+impl Model for Shown {
+    ghost use Rattle.std.specs.Prelude.{◌≡◌, List, length};
+    ghost use Rattle.logbook.specs.Pages.{Book};
+    ghost use Rattle.std.specs.Coded.{codes};
+    ghost use Rattle.model.specs.JsonCode.{coded_members};
+    ghost use Rattle.model.specs.Command.{Entry};
+    ghost use Rattle.publications.specs.Histories.{Grows, IsNewest};
+
+    ghost Value = { Book × List (List Entry) };
+
+    ghost coded = { Prim.hlevel (codes, coded_members) };
+
+    ghost view = { λ s. (s.seen.book, s.seen.log) };
+
+    ghost invariant = { λ s. IsNewest s.version s.seen.log × (s.count ≡ length s.seen.log) × Grows s.seen.log };
+}
+
+impl Shown {
+    /// The same version. It takes no memory.
+    pub fn share(&self) -> Result<Shown, AllocError>
+        ensures same { IfOk result (λ s. s ≡ self.now) }
+    {
+        Ok(Shown {
+            version: self.version.share()?,
+            count: self.count,
+            seen: self.seen.again(),
+        })
+    }
+}
+
+impl Absorb<Shown> for Shown {
+    type State = Shown;
+
+    ghost state = { λ s. s };
+
+    ghost applied = { λ old new. new };
+
+    fn absorb_first(&mut self, operation: &Shown, _other: &Shown) -> Result<(), AllocError> {
+        *self = operation.share()?;
+        Ok(())
+    }
+
+    fn absorb_second(&mut self, operation: Shown, _other: &Shown) -> Result<(), Shown> {
+        *self = operation;
+        Ok(())
+    }
+}
+
+/// A published version of the store `J`. Contracts see the published histories, of which its own is
+/// the newest.
+#[derive(Drop)]
+pub struct Published<J: Naming> {
+    version: Version,
+    front: Front<J>,
+}
+
+impl<J: Naming> Model for Published<J> {
+    ghost use Rattle.std.specs.Prelude.{List};
+    ghost use Rattle.std.specs.Coded.{codes};
+    ghost use Rattle.model.specs.JsonCode.{coded_members};
+    ghost use Rattle.model.specs.Command.{Entry};
+    ghost use Rattle.publications.specs.Histories.{IsNewest};
+
+    ghost Value = { List (List Entry) };
+
+    ghost coded = { Prim.hlevel (codes, coded_members) };
+
+    ghost view = { λ p. p.front };
+
+    ghost invariant = { λ p. IsNewest p.version p.front };
+}
+
+impl<J: Naming> Published<J> {
+    pub fn new(version: Version, front: Front<J>) -> Published<J>
+        requires newest { IsNewest version front }
+        ensures front { result ≡ front }
+    {
+        Published { version, front }
+    }
+
+    /// What is shown, under the store's name.
+    pub fn named(shown: Shown) -> Published<J>
+        requires name { shown.0 ≡ J.book }
+        ensures same { result ≡ shown.1 }
+    {
+        let Shown {
+            version,
+            count,
+            seen,
+        } = shown;
+        Published {
+            version,
+            front: Front::from_parts(count, seen),
+        }
+    }
+
+    /// The same version, without the store's name. It takes no memory.
+    pub fn shown(&self) -> Result<Shown, AllocError>
+        ensures name { IfOk result (λ s. s.0 ≡ J.book) }
+        ensures same { IfOk result (λ s. s.1 ≡ self.now) }
+    {
+        let version = self.version.share()?;
+        let count = self.front.count();
+        let seen = self.front.seen();
+        Ok(Shown {
+            version,
+            count,
+            seen,
+        })
+    }
+
+    pub fn version(&self) -> &Version
+        ensures newest { result.now ≡ record { base = opening_base; entries = newest self.now } }
+    {
+        &self.version
+    }
+
+    pub fn front(&self) -> &Front<J>
+        ensures front { result.now ≡ self.now }
+    {
+        &self.front
+    }
+
+    /// The number of publications up to it. Each added an entry at least.
+    pub fn publication(&self) -> u64
+        ensures count { result ≡ length self.now }
+        ensures few { length self.now ≤ length (newest self.now) }
+        ensures grows { Grows self.now }
+    {
+        self.front.count()
+    }
+
+    /// The same version. It takes no memory.
+    pub fn share(&self) -> Result<Published<J>, AllocError>
+        ensures same { IfOk result (λ p. p ≡ self.now) }
+    {
+        Ok(Published {
+            version: self.version.share()?,
+            front: self.front.again(),
+        })
+    }
+
+    /// Whether the other one is this one or a later one. Otherwise this one is the later.
+    pub fn precedes(&self, other: &Published<J>) -> bool
+        ensures published { MatchBool result (IsPrefix self.now other.now) (IsPrefix other.now self.now) }
+        ensures histories { MatchBool result (IsPrefix (newest self.now) (newest other.now)) (IsPrefix (newest other.now) (newest self.now)) }
+    {
+        self.front.precedes(&other.front)
+    }
+}
