@@ -1,5 +1,5 @@
 -- Each session keeps its place for an outcome.
-use Rattle.std.proofs.Common.{◌≡◌, ℕ, List, [], ◌∷◌, length, Option, Some, refl, ◌∙◌}
+use Rattle.std.proofs.Common.{◌≡◌, ℕ, List, length, Option, Some, refl, ◌∙◌}
 use Rattle.std.proofs.lemmas.List.{length-set}
 use Rattle.model.specs.Command.{Entry, Job}
 use Rattle.updating.specs.Outcomes.{Fate, told, GivesUp, none_left, next}

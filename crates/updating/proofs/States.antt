@@ -1,7 +1,7 @@
 -- Going from state to state.
 use Rattle.std.proofs.Common.{◌≡◌, ◌<◌, ℕ, List, [], ◌∷◌, length, refl, subst, sym, arith}
 use Rattle.model.specs.Command.{Job}
-use Rattle.updating.specs.State.{State, Pops, Puts, Goes, stays, pops, puts, gives_up, takes, GivesUpBatch, after_taking}
+use Rattle.updating.specs.State.{State, Pops, Puts, Goes, stays, pops, puts, gives_up, takes, after_taking}
 
 pub Goes-same : (max : ℕ) (s t u : State) → Goes max s t → u ≡ t → Goes max s u
 Goes-same max s t u g is = subst (Goes max s) (sym is) g

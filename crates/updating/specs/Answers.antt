@@ -1,5 +1,5 @@
 -- An entry that stands.
-use Rattle.std.specs.Prelude.{◌≡◌, ℕ, List, Option, Some, option_map}
+use Rattle.std.specs.Prelude.{◌≡◌, ℕ, List, Some, option_map}
 use Rattle.model.specs.Command.{Entry, Reply}
 use Rattle.snapshots.specs.Version.{entry_at}
 use Rattle.publications.specs.Histories.{newest, Grows}

@@ -7,8 +7,8 @@ use crate::answer::Filled;
 use crate::naming::Opening;
 use crate::outcome::{Outcome, OutcomeKind};
 use commands::Job;
-use publications::Published;
 use core::mem::replace;
+use publications::Published;
 use std::alloc::{AllocError, Global};
 
 /// Of each session what became of its last popped job, until that is taken.

@@ -1,4 +1,4 @@
-use Rattle.std.proofs.Common.{◌∷◌, ◌∙◌, List, Option, ap, subst, sym, length}
+use Rattle.std.proofs.Common.{◌∙◌, List, Option, ap, subst, sym, length}
 use Rattle.std.specs.List.{All}
 use Rattle.std.specs.Vec.Iter.{into_iter_items}
 use Rattle.publications.specs.Histories.{IsNewest}

@@ -1,4 +1,4 @@
-use Rattle.std.proofs.Common.{◌≡◌, ◌<◌, ◌∙◌, List, ap, sym, subst, length}
+use Rattle.std.proofs.Common.{◌<◌, ◌∙◌, List, ap, sym, subst, length}
 use Rattle.model.specs.Command.{Entry}
 use Rattle.model.specs.History.{Chronicle, replay}
 use Rattle.publications.specs.Histories.{opening_base, newest, IsNewest}

@@ -1,5 +1,5 @@
 use Rattle.updating.specs.State.{stays}
-use Rattle.updating.proofs.States.{Goes-same, Goes-pops}
+use Rattle.updating.proofs.States.{Goes-pops}
 use Rattle.updating.proofs.locked.Core.gather.Goals as goal
 
 pub loop-init : goal.loop-init

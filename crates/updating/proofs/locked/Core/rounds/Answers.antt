@@ -1,4 +1,4 @@
-use Rattle.updating.specs.State.{stays, takes}
+use Rattle.updating.specs.State.{stays}
 use Rattle.updating.proofs.States.{Goes-takes, Goes-through}
 use Rattle.updating.proofs.locked.Core.rounds.Goals as goal
 
