@@ -78,6 +78,16 @@ const FOUR_LEAVES: &[Change] = &[
 /// A path that got an ancestor.
 const GROWN_PATH: &[Change] = &[Change::Merge("d", "2-b"), Change::Merge("d", "3-c 2-b 1-a")];
 
+/// Two documents of which one is purged, and two leaves of which one is.
+const PURGED: &[Change] = &[
+    Change::Edit("a", "{}"),
+    Change::Edit("b", "{}"),
+    Change::Merge("d", "1-a"),
+    Change::Merge("d", "1-b"),
+    Change::Purge("a", "A1"),
+    Change::Purge("d", "1-b 2-f"),
+];
+
 const MERGED_TWICE: &[Change] = &[Change::Merge("d", "1-a"), Change::Merge("d", "1-a")];
 
 /// Asks a query by its own call and by the one for all, and compares both answers with a text.
@@ -319,6 +329,27 @@ fn a_merge_that_changes_nothing_takes_no_number(rt: HostRuntime) -> Result<(), F
         rt.alloc(),
         MERGED_TWICE,
         &[(Asked::Counts, "live 1 deleted 0 update 1 purge 0")],
+    )
+}
+
+#[test]
+fn what_was_purged_is_not_there(rt: HostRuntime) -> Result<(), Fail> {
+    compare_after(
+        &rt,
+        rt.alloc(),
+        PURGED,
+        &[
+            (Asked::Counts, "live 2 deleted 0 update 5 purge 2"),
+            (
+                Asked::Changes(0, None, StyleKind::AllDocs),
+                "[2 b A1][5 d 1-a][last 5 pending 0]",
+            ),
+            (Asked::Documents, "[b A1][d 1-a]"),
+            (Asked::Winner("a", PLAIN), "missing"),
+            (Asked::Revision("a", "A1", PLAIN), "missing"),
+            (Asked::Revisions("d", "1-b", PLAIN), "[missing 1-b]"),
+            (Asked::Missing(&[("a", "A1")]), "[a missing A1]"),
+        ],
     )
 }
 

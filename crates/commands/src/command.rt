@@ -9,7 +9,7 @@ use crate::copied::{Copied, copy_all};
 use crate::edit::{Edit, read_all_limits};
 use crate::merge::{Merge, read_all_merges};
 use crate::named::{NamedRevisions, read_all_named};
-use crate::same::{Same, are_same, is_same_body, is_same_id};
+use crate::same::{Same, are_same, is_same_id, is_same_option};
 use document_id::DocId;
 use json_profile::Body;
 use std::alloc::{AllocError, Global};
@@ -203,7 +203,7 @@ fn is_same_kind(one: &CommandKind, other: &CommandKind) -> bool
                 named: other_named,
                 body: other_body,
             },
-        ) => { is_same_id(id, other_id) && named == other_named && is_same_body(body, other_body) }
+        ) => { is_same_id(id, other_id) && named == other_named && is_same_option(body.as_deref(), other_body.as_deref()) }
         (CommandKind::Purge(one), CommandKind::Purge(other)) => one.is_same(other),
         (CommandKind::SetLimit(one), CommandKind::SetLimit(other)) => one == other,
         (CommandKind::Compact, CommandKind::Compact) => true,

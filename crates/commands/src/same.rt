@@ -1,6 +1,5 @@
 //! Whether two things that are asked are one, told without memory.
-ghost use Rattle.std.specs.Prelude.{◌≡◌, ◌↔◌, IsTrue, option_map};
-ghost use Rattle.std.specs.Arc.{arc_value};
+ghost use Rattle.std.specs.Prelude.{◌≡◌, ◌↔◌, IsTrue, option_copied};
 
 use crate::edit::Edit;
 use crate::merge::Merge;
@@ -8,7 +7,6 @@ use crate::named::{AskedRevisions, NamedRevisions};
 use document_id::DocId;
 use json_profile::Body;
 use revision_id::RevId;
-use std::sync::Arc;
 
 /// What can be told from another of its kind.
 pub(crate) trait Same: Drop {
@@ -38,10 +36,16 @@ impl Same for RevId {
     }
 }
 
+impl Same for Body {
+    fn is_same(&self, other: &Body) -> bool {
+        Body::is_same(self, other)
+    }
+}
+
 impl Same for Edit {
     fn is_same(&self, other: &Edit) -> bool {
         is_same_id(&self.id, &other.id)
-            && is_same_rev(self.named, other.named)
+            && is_same_option(self.named.as_ref(), other.named.as_ref())
             && self.deleted == other.deleted
             && self.body.is_same(&other.body)
     }
@@ -75,20 +79,9 @@ pub(crate) fn is_same_id(one: &DocId, other: &DocId) -> bool
     one.as_str() == other.as_str()
 }
 
-/// Whether both name one revision, or none.
-fn is_same_rev(one: Option<RevId>, other: Option<RevId>) -> bool
-    ensures same { IsTrue result ↔ (one ≡ other) }
-{
-    match (one, other) {
-        (Some(one), Some(other)) => one.is_same(&other),
-        (None, None) => true,
-        _ => false,
-    }
-}
-
-/// Whether both have one body, or none.
-pub(crate) fn is_same_body(one: &Option<Arc<Body>>, other: &Option<Arc<Body>>) -> bool
-    ensures same { IsTrue result ↔ (option_map arc_value one.now ≡ option_map arc_value other.now) }
+/// Whether there are two equal things, or none of either.
+pub(crate) fn is_same_option<T: Same>(one: Option<&T>, other: Option<&T>) -> bool
+    ensures same { IsTrue result ↔ (option_copied one.entry ≡ option_copied other.entry) }
 {
     match (one, other) {
         (Some(one), Some(other)) => one.is_same(other),

@@ -1,6 +1,6 @@
 //! Small databases, by what is done to the empty one.
 use super::names::{revision, revisions};
-use commands::{Command, Edit, Merge, Seat};
+use commands::{AskedRevisions, Command, Edit, Merge, NamedRevisions, Seat};
 use document_id::DocId;
 use json_profile::{Body, read};
 use revision_id::RevId;
@@ -26,6 +26,8 @@ pub(super) enum Change {
     Local(Option<u32>),
     LocalDeletion(u32),
     RevsLimit(u32),
+    /// A purge of a document with the revisions named.
+    Purge(&'static str, &'static str),
 }
 
 /// The version after these changes.
@@ -65,6 +67,7 @@ fn as_command(alloc: Global, change: &Change) -> Result<Option<Command>, Fail> {
         Change::Local(named) => local(alloc, *named, Some(body(alloc, LOCAL_BODY)?)),
         Change::LocalDeletion(named) => local(alloc, Some(*named), None),
         Change::RevsLimit(limit) => Ok(Command::set_limit(*limit)),
+        Change::Purge(id, revs) => purged(alloc, id, revs),
     }
 }
 
@@ -110,6 +113,15 @@ fn local(
     body: Option<Arc<Body>>,
 ) -> Result<Option<Command>, Fail> {
     Ok(Command::put_local(DocId::new(alloc, "r")?, named, body))
+}
+
+fn purged(alloc: Global, id: &str, revs: &str) -> Result<Option<Command>, Fail> {
+    let document = AskedRevisions {
+        id: DocId::new(alloc, id)?,
+        revisions: revisions(alloc, revs)?,
+    };
+    let documents = Vec::from_array(alloc, [document])?;
+    Ok(NamedRevisions::new(documents).and_then(Command::purge))
 }
 
 fn empty_body(alloc: Global) -> Result<Arc<Body>, Fail> {
