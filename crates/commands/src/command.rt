@@ -203,7 +203,11 @@ fn is_same_kind(one: &CommandKind, other: &CommandKind) -> bool
                 named: other_named,
                 body: other_body,
             },
-        ) => { is_same_id(id, other_id) && named == other_named && is_same_option(body.as_deref(), other_body.as_deref()) }
+        ) => {
+            is_same_id(id, other_id)
+                && named == other_named
+                && is_same_option(body.as_deref(), other_body.as_deref())
+        }
         (CommandKind::Purge(one), CommandKind::Purge(other)) => one.is_same(other),
         (CommandKind::SetLimit(one), CommandKind::SetLimit(other)) => one == other,
         (CommandKind::Compact, CommandKind::Compact) => true,
