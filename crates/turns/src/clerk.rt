@@ -1,0 +1,102 @@
+//! The updater's end of the queue.
+ghost use Rattle.std.specs.Prelude.{◌≡◌, ◌+◌, ◌<◌, ◌≤◌, [], ◌∷◌, ◌++◌, length, IfOk, OnErr, IsTrue, MatchOption};
+ghost use Rattle.crossbeam_queue.specs.Passes.{view as known};
+ghost use Rattle.turns.specs.Turns.{count, updater};
+
+use crate::line::{Line, Queued};
+use crate::rule::{Hand, inform, pop, seat};
+use crate::ticket::Ticket;
+use commands::Job;
+use crossbeam_queue::Pass;
+use std::alloc::{AllocError, Global};
+use std::marker::{Model, PhantomData};
+use std::sync::Wait;
+
+/// The updater of the queue `J`. Contracts see what it took, and how many tickets it made.
+#[derive(Drop)]
+pub struct Clerk<J: Queued> {
+    pass: Pass<Job, Hand>,
+    /// How many jobs were taken.
+    total: u64,
+    /// How many of each session.
+    popped: Vec<u64>,
+    of: PhantomData<J>,
+}
+
+impl<J: Queued> Model for Clerk<J> {
+    ghost use Rattle.std.specs.Prelude.{◌≡◌, ◌<◌, ℕ, [], length, slice_index_or};
+    ghost use Rattle.std.specs.Coded.{codes};
+    ghost use Rattle.model.specs.JsonCode.{coded_members};
+    ghost use Rattle.crossbeam_queue.specs.Passes.{view as known};
+    ghost use Rattle.turns.specs.Turns.{Counter, count, updater};
+
+    ghost Value = { Counter };
+
+    ghost coded = { Prim.hlevel (codes, coded_members) };
+
+    ghost view = { λ c. record { taken = (known c.pass).taken; made = length c.popped.items } };
+
+    ghost invariant = { λ c. (c.pass.table_id ≡ J.table) × (c.pass.me.1 ≡ []) × (known c.pass ≡ updater (known c.pass).taken (length c.popped.items) J.sessions)
+        × (c.total ≡ length (known c.pass).taken) × ((s d : ℕ) → s < length c.popped.items → slice_index_or c.popped.items s d ≡ count s (known c.pass).taken) };
+}
+
+impl<J: Queued> Clerk<J> {
+    pub(crate) fn new(alloc: Global, pass: Pass<Job, Hand>) -> Clerk<J>
+        requires { (pass.table_id ≡ J.table) × (pass.me.1 ≡ []) × (known pass ≡ updater [] 0 J.sessions) }
+        ensures { (result.taken ≡ []) × (result.made ≡ 0) }
+    {
+        Clerk {
+            pass,
+            total: 0,
+            popped: Vec::new(alloc),
+            of: PhantomData,
+        }
+    }
+
+    /// The next session's ticket. All are made before the first job is taken.
+    pub fn ticket(&mut self, line: &Line<J>) -> Result<Ticket<J>, AllocError>
+        requires { (self.old.taken ≡ []) × (self.old.made < J.sessions) × (self.old.made < 64) }
+        ensures ticket { IfOk result (λ t. (t ≡ record { number = self.old.made; pushed = 0; gone = 0 }) × (self.new ≡ record self.old { made = self.old.made + 1 })) }
+        ensures kept { OnErr result (self.new ≡ self.old) }
+    {
+        let made = self.popped.len();
+        self.popped.push(0)?;
+        let pass = seat(&line.jobs, &mut self.pass, made as u64);
+        Ok(Ticket {
+            pass,
+            number: made as u16,
+            pushed: 0,
+            of: PhantomData,
+        })
+    }
+
+    /// Takes the job that waits longest.
+    pub fn pop<R: Wait>(&mut self, rt: &R, line: &Line<J>) -> Option<Job>
+        ensures taken { MatchOption result (self.new ≡ self.old) (λ job. (self.new ≡ record self.old { taken = self.old.taken ++ job ∷ [] }) × (job.seat.session < self.old.made)) }
+    {
+        if self.total == u64::MAX {
+            return None;
+        }
+        let job = pop(rt, &line.jobs, &mut self.pass)?;
+        self.total += 1;
+        self.popped[job.seat.session() as usize] += 1;
+        Some(job)
+    }
+
+    /// Tells a session how many of its jobs were taken, and answers whether these are all that it pushed.
+    pub fn tell(&mut self, line: &Line<J>, ticket: &mut Ticket<J>) -> bool
+        ensures same { self.new ≡ self.old }
+        ensures told { ticket.new ≡ record ticket.old { gone = count ticket.old.number self.old.taken } }
+        ensures all { IsTrue result → ticket.new.gone ≡ ticket.new.pushed }
+    {
+        let number = ticket.number as usize;
+        inform(
+            &line.jobs,
+            &mut self.pass,
+            &mut ticket.pass,
+            ticket.pushed,
+            ticket.number as u64,
+        );
+        number < self.popped.len() && self.popped[number] == ticket.pushed
+    }
+}

@@ -1,0 +1,62 @@
+//! A session's end of the queue.
+ghost use Rattle.std.specs.Prelude.{◌≡◌, ◌⊎◌, ◌+◌, ◌<◌, ◌≤◌, ◌^◌, [], MatchResult};
+
+use crate::line::{Line, Queued};
+use crate::rule::{Hand, push};
+use commands::Job;
+use crossbeam_queue::Pass;
+use std::marker::{Model, PhantomData};
+use std::sync::Wait;
+
+/// A session's pass of the queue `J`. Contracts see its number, how many jobs it pushed, and how many of them
+/// it knows to be taken.
+#[derive(Drop)]
+pub struct Ticket<J: Queued> {
+    pub(crate) pass: Pass<Job, Hand>,
+    pub(crate) number: u16,
+    pub(crate) pushed: u64,
+    pub(crate) of: PhantomData<J>,
+}
+
+impl<J: Queued> Model for Ticket<J> {
+    ghost use Rattle.std.specs.Prelude.{◌≡◌, []};
+    ghost use Rattle.crossbeam_queue.specs.Passes.{view as known};
+    ghost use Rattle.turns.specs.Turns.{Turn, pusher};
+
+    ghost Value = { Turn };
+
+    ghost view = { λ t. record { number = t.number; pushed = t.pushed; gone = (known t.pass).gone } };
+
+    ghost invariant = { λ t. (t.pass.table_id ≡ J.table) × (t.pass.me.1 ≡ []) × (known t.pass ≡ pusher t.number t.pushed (known t.pass).gone J.sessions) };
+}
+
+impl<J: Queued> Ticket<J> {
+    /// The session's number.
+    pub fn number(&self) -> u16
+        ensures { result ≡ self.now.number }
+    {
+        self.number
+    }
+
+    /// How many jobs it pushed.
+    pub fn pushed(&self) -> u64
+        ensures { result ≡ self.now.pushed }
+    {
+        self.pushed
+    }
+
+    /// Pushes a job, where all earlier ones are known to be taken. It is refused only where there are more
+    /// sessions than the queue holds, or after 2^62 jobs.
+    pub fn push<R: Wait>(&mut self, rt: &R, line: &Line<J>, job: Job) -> Result<(), Job>
+        requires own { job.seat.session ≡ self.old.number }
+        requires turn { self.old.gone ≡ self.old.pushed }
+        ensures pushed { MatchResult result (λ _. self.new ≡ record self.old { pushed = self.old.pushed + 1 }) (λ same. (same ≡ job) × (self.new ≡ self.old) × ((J.capacity < J.sessions) ⊎ (2 ^ 62 ≤ self.old.pushed))) }
+    {
+        if self.pushed >= 1 << 62 {
+            return Err(job);
+        }
+        push(rt, &line.jobs, &mut self.pass, self.pushed, job)?;
+        self.pushed += 1;
+        Ok(())
+    }
+}

@@ -1,0 +1,4 @@
+pub mod DraftLists
+pub mod Published
+pub mod Slots
+pub mod States

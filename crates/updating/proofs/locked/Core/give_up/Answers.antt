@@ -1,0 +1,15 @@
+use Rattle.std.proofs.Common.{subst, sym, arith}
+use Rattle.model.specs.History.{replay}
+use Rattle.publications.specs.Histories.{opening_base, newest}
+use Rattle.updater.specs.Batches.{MayFollow}
+use Rattle.updating.proofs.Slots.{length-given_up}
+use Rattle.updating.proofs.locked.Core.give_up.Goals as goal
+
+pub invariant_of-self : goal.invariant_of-self
+invariant_of-self g c =
+    let old = c.self.invariant in (
+      old.0,
+      omega (arith, old.1, c.clear.ensures.capacity),
+      omega (arith, old.2, length-given_up _ _ _ c.self.inside.outcomes.items c.give_up_all.new.outcomes.items c.give_up_all.ensures),
+      subst (MayFollow (replay opening_base (newest c.self.inside.current))) (sym c.clear.ensures.items) tt,
+    )

@@ -1,0 +1,16 @@
+-- An entry that stands.
+use Rattle.std.specs.Prelude.{◌≡◌, ℕ, List, Option, Some, option_map}
+use Rattle.model.specs.Command.{Entry, Reply}
+use Rattle.snapshots.specs.Version.{entry_at}
+use Rattle.publications.specs.Histories.{newest, Grows}
+
+-- an entry that stands: what was published with it, its place and its reply
+pub record Stands : Type 0 where
+  pub published : List (List Entry)
+  pub place : ℕ
+  pub reply : Reply
+
+-- the last published history has an entry with that reply at that place
+pub record IsAnswer (s : Stands) : Type 0 where
+  pub grows : Grows s.published
+  pub stands : option_map (λ (e : Entry). e.reply) (entry_at (newest s.published) s.place) ≡ Some s.reply

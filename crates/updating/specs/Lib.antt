@@ -1,0 +1,5 @@
+pub mod Answers
+pub mod Outcomes
+pub mod Fates
+pub mod Drafts
+pub mod State

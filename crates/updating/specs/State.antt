@@ -1,0 +1,86 @@
+-- What the updater holds under its lock, and how that changes.
+use Rattle.std.specs.Prelude.{◌≡◌, ℕ, ◌+◌, ◌<◌, ◌≤◌, if◌then◌else◌, List, [], ◌∷◌, ◌++◌, length, slice_set, Option, None, refl}
+use Rattle.std.specs.Coded.{Coded, code_by, coded×, coded_list, coded_option}
+use Rattle.model.specs.Command.{Entry, Job}
+use Rattle.model.specs.Database.{Database}
+use Rattle.model.specs.History.{replay, batch_entries}
+use Rattle.publications.specs.Histories.{newest, opening_base}
+use Rattle.updater.specs.Batches.{joins}
+use Rattle.updating.specs.Answers.{Stands}
+use Rattle.updating.specs.Outcomes.{Fate, coded_fate, LeftOut, told, all_stand, GivesUp}
+
+-- the published histories, all jobs that were popped, the batch, and of each session what became of its last job, until that is taken
+pub record State : Type 0 where
+  pub published : List (List Entry)
+  pub popped : List Job
+  pub batch : List Job
+  pub outcomes : List (Option Fate)
+
+-- a state as the tuple of its parts, by which a model's value may be one
+abbrev pub coded_state : Coded Stands → Coded (List (List Entry)) → Coded (List Job) → Coded State
+coded_state stands published jobs = code_by (List (List Entry) × (List Job × (List Job × List (Option Fate))))
+    (coded× published (coded× jobs (coded× jobs (coded_list (coded_option (coded_fate stands published))))))
+    (λ s. (s.published, (s.popped, (s.batch, s.outcomes)))) (λ t. record { published = t.0; popped = t.1.0; batch = t.1.1.0; outcomes = t.1.1.1 }) (λ _. refl)
+
+-- the database after what was published last
+abbrev pub database_of : State → Database
+database_of s = replay opening_base (newest s.published)
+
+-- a popped job goes last in the batch, or is dropped
+abbrev pub batch_after : Database → List Job → Job → List Job
+batch_after d batch job = if joins d batch job then batch ++ job ∷ [] else batch
+
+abbrev pub outcomes_after : Database → List Job → Job → List (Option Fate) → List (Option Fate)
+outcomes_after d batch job outcomes = if joins d batch job then outcomes else told outcomes job.seat.session LeftOut
+
+abbrev pub after_pop : State → Job → State
+after_pop s job = record s {
+  popped = s.popped ++ job ∷ [];
+  batch = batch_after (database_of s) s.batch job;
+  outcomes = outcomes_after (database_of s) s.batch job s.outcomes;
+}
+
+-- a job is popped, whose session has a place for its outcome
+pub record Pops (old new : State) : Type 0 where
+  pub job : Job
+  pub known : job.seat.session < length old.outcomes
+  pub popped : new ≡ after_pop old job
+
+-- the entries of jobs, after what was published last
+abbrev pub entries_after : List (List Entry) → List Job → List Entry
+entries_after published jobs = batch_entries (replay opening_base (newest published)) jobs
+
+-- one publication more, whose history gains the entries of the jobs
+abbrev pub published_with : List (List Entry) → List Job → List (List Entry)
+published_with published jobs = published ++ (newest published ++ entries_after published jobs) ∷ []
+
+-- the batch is published: its entries stand
+abbrev pub after_put : State → State
+after_put s = record s {
+  published = published_with s.published s.batch;
+  batch = [];
+  outcomes = all_stand (published_with s.published s.batch) (length (newest s.published)) s.outcomes (entries_after s.published s.batch);
+}
+
+-- a batch that is not empty, and leaves no place missing, is published
+pub record Puts (max_places : ℕ) (old new : State) : Type 0 where
+  pub some : 0 < length old.batch
+  pub room : length (newest old.published) + length old.batch ≤ max_places
+  pub put : new ≡ after_put old
+
+-- the batch is given up, with no entry
+pub record GivesUpBatch (max_places : ℕ) (old new : State) : Type 0 where
+  pub outcomes : GivesUp max_places old.published old.batch old.outcomes new.outcomes
+  pub others : new ≡ record old { batch = []; outcomes = new.outcomes }
+
+-- a session's outcome is taken
+abbrev pub after_taking : State → ℕ → State
+after_taking s session = record s { outcomes = slice_set s.outcomes session None }
+
+-- pops, publications of a batch that is not empty and leaves no place missing, batches given up, and outcomes taken
+pub data Goes (max_places : ℕ) : State → State → Type 0 where
+  stays : (s : State) → Goes max_places s s
+  pops : (s t : State) (job : Job) → Goes max_places s t → Goes max_places s (after_pop t job)
+  puts : (s t : State) → Goes max_places s t → 0 < length t.batch → length (newest t.published) + length t.batch ≤ max_places → Goes max_places s (after_put t)
+  gives_up : (s t u : State) → Goes max_places s t → GivesUpBatch max_places t u → Goes max_places s u
+  takes : (s t : State) (session : ℕ) → Goes max_places s t → Goes max_places s (after_taking t session)

@@ -1,0 +1,122 @@
+//! Entries of a version that is not yet published.
+ghost use Rattle.std.specs.Prelude.{◌≡◌, ◌≤◌, All, length, drop, IfOk, option_map};
+ghost use Rattle.snapshots.specs.Version.{entry_at};
+ghost use Rattle.publications.specs.Histories.{IsNewest};
+ghost use Rattle.updating.specs.Outcomes.{StoodAt, told};
+ghost use Rattle.updating.specs.Drafts.{Drafted, draft_of, drafts_from, stands_of, all_drafts_stand};
+
+use crate::answer::Answer;
+use crate::naming::Opening;
+use crate::outcome::{Outcome, OutcomeKind};
+use crate::outcomes::{Outcomes, tell};
+use commands::{Copied, Reply};
+use publications::{Front, Published};
+use snapshots::Version;
+use std::alloc::{AllocError, Global};
+use std::marker::Model;
+
+/// An entry of a version that is not yet published, with its own share of the version and its own copy
+/// of the reply: with it the answer takes no memory once the entry stands.
+#[derive(Drop)]
+pub(crate) struct Draft {
+    version: Version,
+    session: u16,
+    place: u64,
+    reply: Reply,
+}
+
+impl Model for Draft {
+    ghost use Rattle.std.specs.Coded.{codes};
+    ghost use Rattle.model.specs.JsonCode.{coded_members};
+    ghost use Rattle.updating.specs.Drafts.{Drafted, IsDraft};
+
+    ghost Value = { Drafted };
+
+    ghost coded = { Prim.hlevel (codes, coded_members) };
+
+    ghost view = { λ d. record { version = d.version; session = d.session; place = d.place; reply = d.reply } };
+
+    ghost invariant = { λ d. IsDraft (record { version = d.version; session = d.session; place = d.place; reply = d.reply }) };
+}
+
+impl Draft {
+    /// The answer that the entry stands, once its version is published.
+    fn into_outcome<J: Opening>(self, front: Front<J>) -> Outcome<J>
+        requires { IsNewest self.version front }
+        ensures { result ≡ StoodAt (stands_of front self) }
+    {
+        let Draft {
+            version,
+            session: _,
+            place,
+            reply,
+        } = self;
+        let _count = front.count();
+        let found = Published::new(version, front);
+        Outcome::new(OutcomeKind::Stood(Answer::new(found, place, reply)))
+    }
+
+    fn session(&self) -> u16
+        ensures { result ≡ self.now.session }
+    {
+        self.session
+    }
+}
+
+/// The draft of the entry at a place.
+fn draft_at(alloc: Global, version: &Version, place: u64) -> Result<Option<Draft>, AllocError>
+    ensures { IfOk result (λ found. found ≡ option_map (draft_of version.now place) (entry_at version.now.entries place)) }
+{
+    let Some(entry) = version.entry(place) else {
+        return Ok(None);
+    };
+    Ok(Some(Draft {
+        version: version.share()?,
+        session: entry.seat.session(),
+        place,
+        reply: entry.reply.copy(alloc)?,
+    }))
+}
+
+/// The drafts of the entries behind a place.
+pub(crate) fn drafts_after(
+    alloc: Global,
+    version: &Version,
+    after: u64,
+) -> Result<Vec<Draft>, AllocError>
+    requires { after ≤ length version.now.entries }
+    ensures { IfOk result (λ drafts. drafts.items ≡ drafts_from version.now after (drop after version.now.entries)) }
+{
+    let mut drafts = Vec::new(alloc);
+    for place in after..version.place() {
+        let Some(draft) = draft_at(alloc, version, place + 1)? else {
+            unreachable!()
+        };
+        drafts.push(draft)?;
+    }
+    Ok(drafts)
+}
+
+/// The entry stands.
+fn answer<J: Opening>(outcomes: &mut Outcomes<J>, draft: Draft, front: &Front<J>)
+    requires { IsNewest draft.version front.now }
+    ensures { outcomes.new.items ≡ told outcomes.old.items draft.session (StoodAt (stands_of front.now draft)) }
+{
+    let session = draft.session();
+    tell(outcomes, session, draft.into_outcome(front.again()));
+}
+
+/// Each entry stands.
+pub(crate) fn answer_all<J: Opening>(
+    outcomes: &mut Outcomes<J>,
+    drafts: Vec<Draft>,
+    front: &Front<J>,
+)
+    requires { All (λ (d : Drafted). IsNewest d.version front.now) drafts.items }
+    ensures told { outcomes.new.items ≡ all_drafts_stand front.now outcomes.old.items drafts.items }
+    ensures count { length outcomes.new.items ≡ length outcomes.old.items }
+{
+    for draft in drafts {
+        answer(outcomes, draft, front);
+    }
+}

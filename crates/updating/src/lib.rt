@@ -1,0 +1,20 @@
+//! What the updater does under its lock: it pops jobs into a batch, and publishes the batch or gives it up.
+#![tactic(auto)]
+
+mod answer;
+mod draft;
+mod fault;
+mod gate;
+mod locked;
+mod naming;
+mod outcome;
+mod outcomes;
+mod publication;
+mod rounds;
+
+pub use answer::{Answer, Filled};
+pub use fault::PutFault;
+pub use gate::{Gate, NoGate, Point};
+pub use locked::Core;
+pub use naming::Opening;
+pub use outcome::{Outcome, OutcomeKind};

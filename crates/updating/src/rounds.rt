@@ -1,0 +1,146 @@
+//! Rounds of the updater: a batch is popped, and published or given up.
+ghost use Rattle.std.specs.Prelude.{◌≡◌, ◌<◌, IfSome, MatchBool, vec_len, vec_capacity};
+ghost use Rattle.model.specs.History.{now};
+ghost use Rattle.turns.specs.Turns.{count};
+ghost use Rattle.updater.specs.Batches.{MayFollow};
+ghost use Rattle.updating.specs.State.{batch_after, outcomes_after, Goes, Pops};
+
+use crate::gate::{Gate, Point};
+use crate::locked::Core;
+use crate::naming::Opening;
+use crate::outcome::{Outcome, OutcomeKind};
+use crate::outcomes::{Outcomes, tell};
+use commands::Job;
+use snapshots::Version;
+use std::sync::Wait;
+use turns::{Line, Ticket};
+use updater::may_join;
+
+/// A popped job goes last in the batch, or is dropped.
+fn take_in<J: Opening>(
+    version: &Version,
+    batch: &mut Vec<Job>,
+    outcomes: &mut Outcomes<J>,
+    job: Job,
+)
+    requires follow { MayFollow (now version.now) batch.old.items }
+    requires room { vec_len batch.old < vec_capacity batch.old }
+    ensures batch { batch.new.items ≡ batch_after (now version.now) batch.old.items job }
+    ensures outcomes { outcomes.new.items ≡ outcomes_after (now version.now) batch.old.items job outcomes.old.items }
+    ensures follow { MayFollow (now version.now) batch.new.items }
+    ensures capacity { vec_capacity batch.new ≡ vec_capacity batch.old }
+{
+    let session = job.seat.session();
+    if may_join(version, batch.as_slice(), &job) {
+        batch.push_reserved(job);
+        return;
+    }
+    tell(outcomes, session, Outcome::new(OutcomeKind::Dropped));
+}
+
+impl<R: Wait + Drop, J: Opening> Core<R, J> {
+    /// Pops the job that waits longest: it goes last in the batch, or is dropped exactly where it is not
+    /// its session's next call or the session has a job in the batch. It answers whether a job was
+    /// popped, and pops none where the batch has as many as it may.
+    pub fn pop<W: Wait>(&mut self, rt: &W, line: &Line<J>) -> bool
+        ensures { MatchBool result (Pops self.old self.new) (self.new ≡ self.old) }
+    {
+        if self.batch.len() >= self.gather as usize {
+            return false;
+        }
+        let Some(job) = self.clerk.pop(rt, line) else {
+            return false;
+        };
+        take_in(
+            self.current.version(),
+            &mut self.batch,
+            &mut self.outcomes,
+            job,
+        );
+        true
+    }
+
+    /// How many jobs the next batch may have: those past the last place are batches of their own.
+    fn most(&self) -> u64 {
+        match self.room() {
+            0 => self.gather as u64,
+            room => room.min(self.gather as u64),
+        }
+    }
+
+    /// Pops a batch.
+    fn gather<W: Wait>(&mut self, rt: &W, line: &Line<J>)
+        ensures { Goes J.max_places self.old self.new }
+    {
+        for _ in 0..self.most() {
+            if !self.pop(rt, line) {
+                return;
+            }
+        }
+    }
+
+    /// Pops a batch, and publishes it or gives it up.
+    fn round<W: Wait, G: Gate>(&mut self, rt: &W, line: &Line<J>, gate: &G, session: u16)
+        ensures { Goes J.max_places self.old self.new }
+    {
+        self.gather(rt, line);
+        if self.batch.is_empty() {
+            return;
+        }
+        gate.at(Point::Popped, session);
+        let Ok(()) = self.put() else {
+            self.give_up();
+            return;
+        };
+        let _shown = self.show();
+    }
+
+    fn has_outcome(&self, session: u16) -> bool {
+        match self.outcomes.get(session as usize) {
+            Some(outcome) => outcome.is_some(),
+            None => false,
+        }
+    }
+
+    /// Rounds, at most so many, until the session's outcome is known, which is taken.
+    fn rounds<W: Wait, G: Gate>(
+        &mut self,
+        rt: &W,
+        line: &Line<J>,
+        gate: &G,
+        session: u16,
+        most: u16,
+    ) -> Option<Outcome<J>>
+        ensures { Goes J.max_places self.old self.new }
+    {
+        for _ in 0..most {
+            if self.has_outcome(session) {
+                return self.take_outcome(session);
+            }
+            self.round(rt, line, gate, session);
+        }
+        self.take_outcome(session)
+    }
+
+    /// Serves the session of a ticket: rounds, at most so many, until the outcome of its last job is
+    /// known, which is taken. The session then learns that all its jobs are gone from the queue; there is
+    /// no answer where the rounds ended, or where a job of the session still waits.
+    pub fn serve<W: Wait, G: Gate>(
+        &mut self,
+        rt: &W,
+        line: &Line<J>,
+        gate: &G,
+        ticket: &mut Ticket<J>,
+        most: u16,
+    ) -> Option<Outcome<J>>
+        ensures goes { Goes J.max_places self.old self.new }
+        ensures ticket { ticket.new ≡ record ticket.old { gone = count ticket.old.number self.new.popped } }
+        ensures gone { IfSome result (λ _. ticket.new.gone ≡ ticket.new.pushed) }
+    {
+        let outcome = self.rounds(rt, line, gate, ticket.number(), most);
+        if !self.clerk.tell(line, ticket) {
+            return None;
+        }
+        outcome
+    }
+}
