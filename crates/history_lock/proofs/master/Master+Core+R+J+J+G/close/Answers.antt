@@ -4,6 +4,7 @@ use mathlib.Core.List.{IsPrefix}
 use Rattle.publications.specs.Histories.{newest}
 use Rattle.publications.proofs.Growing.{newest_grows, newest_legal}
 use Rattle.sessions.specs.Known.{Known}
+use Rattle.history_lock.specs.Ending.{Ending, Ends}
 use Rattle.sessions.specs.Ends.{is_lost, IsExact}
 use Rattle.history_lock.proofs.master.Master+Core+R+J+J+G.close.Goals as goal
 
@@ -15,10 +16,10 @@ returns g c =
     let grows = all.last.1 in
     let items = c.as_slice.ensures.value ∙ all.ended in
     record {
-      end = record {
+      end = subst (λ (e : Ending). Ends c.args.sessions.items e) (sym c.new.ensures) (record {
         legal = newest_legal [] last tt grows;
         extends = subst (All (λ (k : Known). IsPrefix (newest k.published) h)) all.ended (λ i d lt. newest_grows _ last grows (all.extends i d lt));
         exact = subst (All (IsExact h)) items c.lost_of-lost.ensures.exact;
         lost = c.lost_of-lost.ensures.lost ∙ ap (λ (l : List Known). map (λ (k : Known). k.number) (filter (is_lost h) l)) items;
-      };
+      });
     }
