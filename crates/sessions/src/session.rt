@@ -159,10 +159,7 @@ impl<C: Drop, J: Opening, G: Drop> Session<C, J, G> {
     }
 
     /// The later of what both see now, for each of them.
-    fn observe_both(
-        &mut self,
-        other: &mut Session<C, J, G>,
-    ) -> Option<(Published<J>, Published<J>)>
+    fn observe_both(&mut self, other: &mut Session<C, J, G>) -> Option<(Published<J>, Published<J>)>
         ensures same { self.new ≡ self.old }
         ensures other_same { other.new ≡ other.old }
         ensures later { IfSome result (λ found. IsPrefix self.old.published found.0) }

@@ -12,5 +12,5 @@ returns c =
     let called = sym (ap (λ (x : Entry). x.seat.call) view) ∙ sym c.call.ensures.call ∙ c.if-call.false ∙ c.call-else-session.ensures.call in
     let same : e.command ≡ c.args.asked.now = sym (ap (λ (x : Entry). x.command) view) ∙ c.if-not-is_same.ensures.same.0 refl in
     λ t.
-        let last : c.next_call.result - 1 ≡ c.args.seat.call = (let eq : (c.next_call.result - 1 == c.call-2.result) ≡ true = t in grind (arith, nat_tests, c.call-2.ensures.call)) in
-        told c.args.version.now c.args.place c.session-3.result c.next_call.result c.args.seat c.args.asked.now e c.requires.base (sym c.in-Some.ensures) c.session-3.ensures.session mine called same c.next_call.ensures last
+    let last : c.next_call.result - 1 ≡ c.args.seat.call = (let eq : (c.next_call.result - 1 == c.call-2.result) ≡ true = t in grind (arith, nat_tests, c.call-2.ensures.call)) in
+    told c.args.version.now c.args.place c.session-3.result c.next_call.result c.args.seat c.args.asked.now e c.requires.base (sym c.in-Some.ensures) c.session-3.ensures.session mine called same c.next_call.ensures last

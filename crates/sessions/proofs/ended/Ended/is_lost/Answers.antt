@@ -13,4 +13,4 @@ returns-clause-exact g c =
     let view = c.self.view_is in
     let number = ap (λ (q : Known). q.number) view in
     exact_by k receipted c.args.last.now (sym (ap (λ (q : Known). q.receipts) view) ∙ ap (λ n. of_session n (newest receipted)) number)
-        (subst (IsPrefix receipted) (ap (λ (q : Known). q.published) view) c.self.invariant.1) c.publication-count.ensures.grows
+    (subst (IsPrefix receipted) (ap (λ (q : Known). q.published) view) c.self.invariant.1) c.publication-count.ensures.grows

@@ -26,15 +26,15 @@ returns-clause-receipt g c =
     let seat_is = c.requires.seat in
     let count : length (of_session old.number (newest found)) ≡ length old.receipts + 1 = ap (λ (q : Seat). length (of_session q.session (newest found))) (sym seat_is) ∙ t.last ∙ ap (λ (q : Seat). q.call) seat_is in
     writes old c.keep.new.self receipted found asked receipt t.entry
-        (sym (ap (λ (k : Known). k.receipts) view) ∙ ap (λ n. of_session n (newest receipted)) number)
-        (subst (IsPrefix receipted) published holds.within)
-        (subst (λ (l : List (List Entry)). IsPrefix l found) published c.if-not-precedes.ensures.published)
-        parts.grows
-        (omega (arith, holds.placed, c.if-place-self.false))
-        t.at
-        (entry_is (newest found) place seat asked c.into_parts-found.result.2 t parts.stands)
-        seat_is
-        count
-        c.publication-publication.ensures.count
-        (omega (arith, c.publication-publication.ensures.count, c.if-publication-place.false))
-        c.keep.ensures
+    (sym (ap (λ (k : Known). k.receipts) view) ∙ ap (λ n. of_session n (newest receipted)) number)
+    (subst (IsPrefix receipted) published holds.within)
+    (subst (λ (l : List (List Entry)). IsPrefix l found) published c.if-not-precedes.ensures.published)
+    parts.grows
+    (omega (arith, holds.placed, c.if-place-self.false))
+    t.at
+    (entry_is (newest found) place seat asked c.into_parts-found.result.2 t parts.stands)
+    seat_is
+    count
+    c.publication-publication.ensures.count
+    (omega (arith, c.publication-publication.ensures.count, c.if-publication-place.false))
+    c.keep.ensures
