@@ -1,0 +1,14 @@
+-- What names an opened database.
+use Rattle.std.specs.Prelude.{ℕ, refl}
+use Rattle.std.specs.Coded.{Coded, code_by, coded×, coded_ℕ}
+use Rattle.logbook.specs.Pages.{Book, book_coded}
+use Rattle.turns.specs.Turns.{Places, coded_places}
+
+-- its book of publications, its queue, and the most entries of its history
+pub record Names : Type 0 where
+  pub book : Book
+  pub queue : Places
+  pub max_places : ℕ
+
+abbrev pub coded_names : Coded Names
+coded_names = code_by (Book × (Places × ℕ)) (coded× book_coded (coded× coded_places coded_ℕ)) (λ n. (n.book, (n.queue, n.max_places))) (λ p. record { book = p.0; queue = p.1.0; max_places = p.1.1 }) (λ _. refl)

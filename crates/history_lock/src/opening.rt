@@ -1,0 +1,122 @@
+//! How a master and its sessions are made.
+ghost use Rattle.std.specs.Prelude.{◌≡◌, ◌<◌, ◌≤◌, [], map, IfOk};
+ghost use Rattle.std.specs.List.{range_with_len};
+ghost use Rattle.sessions.specs.Known.{fresh};
+
+use crate::ends::{Ends, all_ends, all_sessions};
+use crate::master::Master;
+use crate::opened::Opened;
+use commands::Config;
+use publications::{Book, Front, Press, Published};
+use sessions::{Fault, Session, Shared};
+use snapshots::Version;
+use std::alloc::{AllocError, Global};
+use std::sync::{Arc, Wait};
+use turns::{Clerk, Line};
+use updating::{Core, Gate, Opening};
+
+/// What the updater holds at the beginning, the version of no entries, and what sessions are made of.
+fn begin<R: Wait + Drop, J: Opening>(
+    alloc: Global,
+    config: Config,
+    rt: R,
+    book: Book<J>,
+    front: Front<J>,
+    line: &Line<J>,
+    mut clerk: Clerk<J>,
+) -> Result<(Core<R, J>, Published<J>, Vec<Ends<J>>), Fault>
+    requires front { front ≡ [] }
+    requires taken { clerk.taken ≡ [] }
+    requires made { clerk.made ≡ 0 }
+    requires sessions { config.sessions ≡ J.sessions }
+    requires max_places { config.max_places ≡ J.max_places }
+    ensures ends { IfOk result (λ r. r.2.items ≡ range_with_len 0 config.sessions) }
+{
+    let sessions = config.limits().sessions;
+    let first = Published::new(Version::empty(alloc), front);
+    let (press, ends) = connect(alloc, sessions, rt, &first, line, &mut clerk)?;
+    let Ok(current) = first.share() else {
+        return Err(Fault::OutOfMemory);
+    };
+    let Ok(mut core) = Core::new(alloc, config, book, current, clerk, press) else {
+        return Err(Fault::OutOfMemory);
+    };
+    if !show_twice(&mut core) {
+        return Err(Fault::OutOfMemory);
+    }
+    Ok((core, first, ends))
+}
+
+/// The writer of what readers see, and what sessions are made of.
+fn connect<R: Wait + Drop, J: Opening>(
+    alloc: Global,
+    sessions: u16,
+    rt: R,
+    first: &Published<J>,
+    line: &Line<J>,
+    clerk: &mut Clerk<J>,
+) -> Result<(Press<R, J>, Vec<Ends<J>>), Fault>
+    requires seen { first.now ≡ [] }
+    requires clerk { (clerk.old.taken ≡ []) × (clerk.old.made ≡ 0) }
+    requires sessions { (sessions ≡ J.sessions) × (0 < sessions) × (sessions ≤ 64) }
+    ensures ends { IfOk result (λ r. r.1.items ≡ range_with_len 0 sessions) }
+    ensures made { IfOk result (λ r. clerk.new.made ≡ sessions) }
+{
+    let Ok(mut press) = Press::new(alloc, rt, first, sessions as usize) else {
+        return Err(Fault::OutOfMemory);
+    };
+    let ends = all_ends(alloc, sessions, first, &mut press, clerk, line)?;
+    Ok((press, ends))
+}
+
+/// Shown twice, both copies that `left_right` keeps have the room that a later showing takes.
+fn show_twice<R: Wait + Drop, J: Opening>(core: &mut Core<R, J>) -> bool {
+    core.show().is_ok() && core.show().is_ok()
+}
+
+/// The master and the sessions that share what the updater holds.
+fn share<R: Wait + Drop, J: Opening, G: Gate + Drop>(
+    alloc: Global,
+    config: Config,
+    shared: Shared<Core<R, J>, J, G>,
+    first: Published<J>,
+    ends: Vec<Ends<J>>,
+) -> Result<(Master<Core<R, J>, J, G>, Vec<Session<Core<R, J>, J, G>>), AllocError>
+    requires sessions { config.sessions ≡ J.sessions }
+    ensures sessions { IfOk result (λ r. r.1.items ≡ map fresh ends.items) }
+{
+    let shared = Arc::new(alloc, shared)?;
+    let sessions = all_sessions(alloc, ends, &shared)?;
+    let master = Master::new(alloc, shared, first, config.limits().sessions)?;
+    Ok((master, sessions))
+}
+
+/// A master and its sessions, numbered from 0, each having seen the empty history. The writer's
+/// runtime is `rt`, and the gate is called between the steps of a write.
+pub fn open<R: Wait + Drop, J: Opening, G: Gate + Drop>(
+    rt: R,
+    opened: Opened,
+    gate: G,
+) -> Result<(Master<Core<R, J>, J, G>, Vec<Session<Core<R, J>, J, G>>), Fault>
+    requires book { opened.book ≡ J.book }
+    requires table { opened.queue.table ≡ J.table }
+    requires capacity { opened.queue.capacity ≡ J.capacity }
+    requires sessions { opened.queue.sessions ≡ J.sessions }
+    requires max_places { opened.max_places ≡ J.max_places }
+    ensures sessions { IfOk result (λ r. r.1.items ≡ map fresh (range_with_len 0 opened.queue.sessions)) }
+{
+    let Opened {
+        alloc,
+        config,
+        book,
+        queue,
+    } = opened;
+    let (book, front) = book.named::<J>();
+    let (line, clerk) = queue.named::<J>();
+    let (core, first, ends) = begin(alloc, config, rt, book, front, &line, clerk)?;
+    let shared = Shared::new(line, gate, config.limits().queue, core);
+    match share(alloc, config, shared, first, ends) {
+        Ok(made) => Ok(made),
+        Err(_) => Err(Fault::OutOfMemory),
+    }
+}

@@ -1,0 +1,48 @@
+-- What the calls of a session do.
+use Rattle.std.specs.Prelude.{◌≡◌, ℕ, ◌+◌, ◌<◌, ◌≤◌, List, [], ◌∷◌, ◌++◌, length, Some}
+use mathlib.Core.List.{IsPrefix}
+use Rattle.model.specs.Command.{Command, Entry, Reply, Seat}
+use Rattle.model.specs.History.{IsLegal, of_session}
+use Rattle.model.specs.World.{WroteAt}
+use Rattle.model.specs.Told.{Tells}
+use Rattle.snapshots.specs.Version.{entry_at}
+use Rattle.publications.specs.Histories.{opening_base}
+use Rattle.sessions.specs.Known.{Known, seen}
+
+-- after a look: a legal history is seen, which extends what was seen, and nothing else changed
+pub record Looks (old new : Known) : Type 0 where
+  pub legal : IsLegal opening_base (seen new)
+  pub extends : IsPrefix (seen old) (seen new)
+  pub same : new ≡ record old { published = new.published }
+
+-- the seat of the session's next call
+abbrev pub next_seat : Known → Seat
+next_seat k = record { session = k.number; call = length k.receipts + 1 }
+
+-- what a receipt tells
+pub record Told : Type 0 where
+  pub place : ℕ
+  pub seat : Seat
+  pub reply : Reply
+  pub publication : ℕ
+
+-- After a receipt: a legal history is seen, which extends what was seen, tells the call, and has of this session exactly
+-- its earlier entries with a receipt and this one. The publication is one of those up to the place.
+pub record Writes (old : Known) (command : Command) (receipt : Told) (new : Known) : Type 0 where
+  pub legal : IsLegal opening_base (seen new)
+  pub extends : IsPrefix (seen old) (seen new)
+  pub seat : receipt.seat ≡ next_seat old
+  pub told : Tells opening_base (seen new) (WroteAt receipt.seat command receipt.place receipt.reply)
+  pub receipts : new.receipts ≡ old.receipts ++ record { seat = receipt.seat; command = command; reply = receipt.reply } ∷ []
+  pub only : of_session new.number (seen new) ≡ new.receipts
+  pub first : 0 < receipt.publication
+  pub bound : receipt.publication ≤ receipt.place
+  pub same : new ≡ record old { published = new.published; receipts = new.receipts; pushes = new.pushes }
+
+-- the entry at the place has this seat and command, and is its session's last
+pub record IsTold (h : List Entry) (place : ℕ) (seat : Seat) (command : Command) : Type 0 where
+  pub entry : Entry
+  pub at : entry_at h place ≡ Some entry
+  pub seat_is : entry.seat ≡ seat
+  pub command_is : entry.command ≡ command
+  pub last : length (of_session seat.session h) ≡ seat.call

@@ -1,0 +1,36 @@
+-- What is known of a session.
+use Rattle.std.specs.Prelude.{◌≡◌, ℕ, ◌<◌, ◌≤◌, Bool, false, List, [], length}
+use mathlib.Core.List.{IsPrefix}
+use Rattle.model.specs.Command.{Entry}
+use Rattle.model.specs.History.{of_session}
+use Rattle.turns.specs.Turns.{Turn}
+use Rattle.publications.specs.Histories.{newest, Grows}
+
+-- a session's number, the published histories that it has seen, its entries with a receipt, how many jobs it pushed, and
+-- whether it is lost
+pub record Known : Type 0 where
+  pub number : ℕ
+  pub published : List (List Entry)
+  pub receipts : List Entry
+  pub pushes : ℕ
+  pub lost : Bool
+
+-- the history that a session has seen
+abbrev pub seen : Known → List Entry
+seen k = newest k.published
+
+-- a session that has seen the empty history
+abbrev pub fresh : ℕ → Known
+fresh number = record { number = number; published = []; receipts = []; pushes = 0; lost = false }
+
+-- its receipts are its entries in the publications up to its last receipt, which are among those that it has seen
+pub record Holds (number calls last_place : ℕ) (lost : Bool) (receipted latest : List (List Entry)) (ticket : Turn) : Type 0 where
+  pub counted : calls ≡ length (of_session number (newest receipted))
+  pub placed : last_place ≡ length (newest receipted)
+  pub few : last_place ≤ 4294967295
+  pub within : IsPrefix receipted latest
+  pub grows : Grows latest
+  pub session : number < 64
+  pub ticket_is : ticket.number ≡ number
+  -- no job of a session waits that is not lost
+  pub gone : lost ≡ false → ticket.gone ≡ ticket.pushed

@@ -1,0 +1,101 @@
+//! What is left of a session at the end.
+ghost use Rattle.std.specs.Prelude.{◌≡◌, length};
+ghost use mathlib.Core.List.{IsPrefix};
+ghost use Rattle.model.specs.History.{of_session};
+ghost use Rattle.publications.specs.Histories.{newest, opening_base, Grows};
+ghost use Rattle.sessions.specs.Ends.{is_lost, IsExact};
+
+use crate::session::Session;
+use publications::{Front, Published};
+use snapshots::Version;
+use std::marker::Model;
+use updating::Opening;
+
+/// What is left of a session at the end. Contracts see what was known of the session.
+#[derive(Drop)]
+pub struct Ended<J: Opening> {
+    number: u16,
+    calls: u64,
+    pushes: u64,
+    lost: bool,
+    receipted: Front<J>,
+    seen: Front<J>,
+}
+
+impl<J: Opening> Model for Ended<J> {
+    ghost use Rattle.std.specs.Prelude.{◌≡◌, length};
+    ghost use Rattle.std.specs.Coded.{codes};
+    ghost use Rattle.model.specs.JsonCode.{coded_members};
+    ghost use mathlib.Core.List.{IsPrefix};
+    ghost use Rattle.model.specs.History.{of_session};
+    ghost use Rattle.publications.specs.Histories.{newest};
+    ghost use Rattle.sessions.specs.Known.{Known};
+
+    ghost Value = { Known };
+
+    ghost coded = { Prim.hlevel (codes, coded_members) };
+
+    ghost view = { λ e. record { number = e.number; published = e.seen; receipts = of_session e.number (newest e.receipted); pushes = e.pushes; lost = e.lost } };
+
+    ghost invariant = { λ e. (e.calls ≡ length (of_session e.number (newest e.receipted))) × IsPrefix e.receipted e.seen };
+}
+
+impl<J: Opening> Ended<J> {
+    /// The session's number.
+    pub fn number(&self) -> u16
+        ensures { result ≡ self.now.number }
+    {
+        self.number
+    }
+
+    /// Whether the session is lost, by the last version. Where it is not, that has exactly its entries
+    /// with a receipt.
+    pub fn is_lost(&self, last: &Published<J>) -> bool
+        ensures lost { result ≡ is_lost (newest last.now) self.now }
+        ensures exact { IsPrefix self.now.published last.now → IsExact (newest last.now) self.now }
+    {
+        if self.lost {
+            return true;
+        }
+        let _count = last.publication();
+        calls_of(last.version(), self.number) != self.calls
+    }
+}
+
+impl<C: Drop, J: Opening, G: Drop> Session<C, J, G> {
+    /// What the session has seen last, and what is left of it.
+    pub fn into_end(self) -> (Published<J>, Ended<J>)
+        ensures latest { result.0 ≡ self.published }
+        ensures grows { Grows result.0 }
+        ensures end { result.1 ≡ self }
+    {
+        let Session {
+            number,
+            calls,
+            lost,
+            receipted,
+            latest,
+            ticket,
+            ..
+        } = self;
+        let _count = latest.publication();
+        let seen = latest.front().again();
+        let ended = Ended {
+            number,
+            calls,
+            pushes: ticket.pushed(),
+            lost,
+            receipted,
+            seen,
+        };
+        (latest, ended)
+    }
+}
+
+/// How many calls of a session the version has.
+fn calls_of(version: &Version, session: u16) -> u64
+    requires base { version.now.base ≡ opening_base }
+    ensures { result ≡ length (of_session session version.now.entries) }
+{
+    version.next_call(session) - 1
+}

@@ -1,0 +1,24 @@
+//! Why a call has no answer.
+
+use thiserror::Error;
+
+/// Why a call has no answer. Only after `Lost` is the session of no more use.
+#[derive(Clone, Copy, Debug, PartialEq, Eq, Drop, Error)]
+pub enum Fault {
+    /// Memory was refused. The call left no entry.
+    #[error("out of memory")]
+    OutOfMemory,
+    /// The queue was full. The call left no entry, and nothing changed.
+    #[error("busy")]
+    Busy,
+    /// What became of a call of this session is not known: it may have left an entry. All later
+    /// calls answer this.
+    #[error("lost")]
+    Lost,
+    /// The history is full. The call left no entry.
+    #[error("the history is full")]
+    Full,
+    /// A reader, an entry or a share was refused. The call left no entry, and nothing changed.
+    #[error("the entry was refused")]
+    EntryRefused,
+}

@@ -1,0 +1,17 @@
+//! A session of a database that many threads share: its calls, and what it has seen.
+#![tactic(auto)]
+
+mod ended;
+mod fault;
+mod receipt;
+mod session;
+mod shared;
+mod snapshot;
+mod writing;
+
+pub use ended::Ended;
+pub use fault::Fault;
+pub use receipt::Receipt;
+pub use session::{Session, later_of};
+pub use shared::Shared;
+pub use snapshot::Snapshot;

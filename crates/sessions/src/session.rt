@@ -1,0 +1,197 @@
+//! A session: what it has seen, and its calls with a receipt.
+ghost use Rattle.std.specs.Prelude.{◌≡◌, ◌↔◌, ◌⊎◌, ◌+◌, ◌<◌, ◌≤◌, [], length, true, Err, IfOk, IfErr, IfSome, OnErr};
+ghost use mathlib.Core.List.{IsPrefix};
+ghost use Rattle.model.specs.History.{IsLegal, of_session};
+ghost use Rattle.publications.specs.Histories.{newest, opening_base, Grows};
+ghost use Rattle.sessions.specs.Known.{Known, seen, fresh};
+ghost use Rattle.sessions.specs.Calls.{Looks};
+ghost use Rattle.sessions.specs.declared.fault.Fault.TheVariants as fault;
+
+use crate::fault::Fault;
+use crate::shared::Shared;
+use crate::snapshot::Snapshot;
+use publications::{Front, Lens, Published};
+use std::alloc::Global;
+use std::marker::Model;
+use std::sync::Arc;
+use turns::Ticket;
+use updating::Opening;
+
+/// A session over what the updater holds, `C`. Contracts see what it has seen, and its receipts.
+#[derive(Drop)]
+pub struct Session<C: Drop, J: Opening, G: Drop> {
+    pub(crate) alloc: Global,
+    pub(crate) number: u16,
+    /// How many receipts it has.
+    pub(crate) calls: u64,
+    /// How many entries the history of its last receipt has.
+    pub(crate) last_place: u64,
+    pub(crate) lost: bool,
+    /// The publications up to its last receipt.
+    pub(crate) receipted: Front<J>,
+    pub(crate) latest: Published<J>,
+    pub(crate) reader: Lens<J>,
+    pub(crate) ticket: Ticket<J>,
+    pub(crate) shared: Arc<Shared<C, J, G>, Global>,
+}
+
+impl<C: Drop, J: Opening, G: Drop> Model for Session<C, J, G> {
+    ghost use Rattle.std.specs.Coded.{codes};
+    ghost use Rattle.model.specs.JsonCode.{coded_members};
+    ghost use Rattle.model.specs.History.{of_session};
+    ghost use Rattle.publications.specs.Histories.{newest};
+    ghost use Rattle.sessions.specs.Known.{Known, Holds};
+
+    ghost Value = { Known };
+
+    ghost coded = { Prim.hlevel (codes, coded_members) };
+
+    ghost view = { λ s. record { number = s.number; published = s.latest; receipts = of_session s.number (newest s.receipted); pushes = s.ticket.pushed; lost = s.lost } };
+
+    ghost invariant = { λ s. Holds s.number s.calls s.last_place s.lost s.receipted s.latest s.ticket };
+}
+
+impl<C: Drop, J: Opening, G: Drop> Session<C, J, G> {
+    /// A session that has seen the empty history.
+    pub fn new(
+        alloc: Global,
+        latest: Published<J>,
+        reader: Lens<J>,
+        ticket: Ticket<J>,
+        shared: Arc<Shared<C, J, G>, Global>,
+    ) -> Session<C, J, G>
+        requires seen { latest ≡ [] }
+        requires number { ticket.number < 64 }
+        requires unused { (ticket.pushed ≡ 0) × (ticket.gone ≡ 0) }
+        ensures { result ≡ fresh ticket.number }
+    {
+        Session {
+            alloc,
+            number: ticket.number(),
+            calls: 0,
+            last_place: 0,
+            lost: false,
+            receipted: latest.front().again(),
+            latest,
+            reader,
+            ticket,
+            shared,
+        }
+    }
+
+    /// The number of entries that the session has seen.
+    pub fn place(&self) -> u64
+        ensures place { result ≡ length (seen self.now) }
+        ensures legal { IsLegal opening_base (seen self.now) }
+    {
+        self.latest.version().place()
+    }
+
+    /// Sees what is published now. It waits for nobody and takes no memory.
+    pub fn look(&mut self) -> Result<Snapshot<J>, Fault>
+        ensures snapshot { IfOk result (λ snapshot. snapshot ≡ seen self.new) }
+        ensures looks { IfOk result (λ _. Looks self.old self.new) }
+        ensures kept { OnErr result (self.new ≡ self.old) }
+        ensures lost { (result ≡ Err fault.Lost) ↔ (self.old.lost ≡ true) }
+        ensures refused { IfErr result (λ e. (e ≡ fault.Lost) ⊎ (e ≡ fault.EntryRefused)) }
+    {
+        if self.lost {
+            return Err(Fault::Lost);
+        }
+        let Some(found) = self.observe() else {
+            return Err(Fault::EntryRefused);
+        };
+        let Ok(shared) = found.share() else {
+            return Err(Fault::EntryRefused);
+        };
+        self.see(found);
+        Ok(Snapshot::new(shared))
+    }
+
+    /// Afterwards both sessions, which are of one opened database, have seen one history. The answer
+    /// is its length. It waits for nobody and takes no memory.
+    pub fn meet(&mut self, other: &mut Session<C, J, G>) -> Result<u64, Fault>
+        ensures place { IfOk result (λ place. place ≡ length (seen self.new)) }
+        ensures one { IfOk result (λ _. self.new.published ≡ other.new.published) }
+        ensures looks { IfOk result (λ _. Looks self.old self.new) }
+        ensures other_looks { IfOk result (λ _. Looks other.old other.new) }
+        ensures kept { OnErr result (self.new ≡ self.old) }
+        ensures other_kept { OnErr result (other.new ≡ other.old) }
+        ensures lost { (result ≡ Err fault.Lost) ↔ ((self.old.lost ≡ true) ⊎ (other.old.lost ≡ true)) }
+        ensures refused { IfErr result (λ e. (e ≡ fault.Lost) ⊎ (e ≡ fault.EntryRefused)) }
+    {
+        if self.lost || other.lost {
+            return Err(Fault::Lost);
+        }
+        let Some((mine, theirs)) = self.observe_both(other) else {
+            return Err(Fault::EntryRefused);
+        };
+        let place = mine.version().place();
+        self.see(mine);
+        other.see(theirs);
+        Ok(place)
+    }
+
+    /// What is published now, which is what was seen or later. Nothing where that is refused.
+    fn observe(&mut self) -> Option<Published<J>>
+        ensures same { self.new ≡ self.old }
+        ensures later { IfSome result (λ found. IsPrefix self.old.published found) }
+        ensures grows { IfSome result (λ found. Grows found) }
+    {
+        let found = self.reader.look()?;
+        let _count = found.publication();
+        if !self.latest.precedes(&found) {
+            return None;
+        }
+        Some(found)
+    }
+
+    /// What is published now, or what another session saw, whichever is later.
+    fn observe_with(&mut self, theirs: Published<J>) -> Option<Published<J>>
+        requires grows { Grows theirs }
+        ensures same { self.new ≡ self.old }
+        ensures later { IfSome result (λ found. IsPrefix self.old.published found) }
+        ensures theirs { IfSome result (λ found. IsPrefix theirs found) }
+        ensures grows { IfSome result (λ found. Grows found) }
+    {
+        let mine = self.observe()?;
+        Some(later_of(mine, theirs))
+    }
+
+    /// The later of what both see now, for each of them.
+    fn observe_both(&mut self, other: &mut Session<C, J, G>) -> Option<(Published<J>, Published<J>)>
+        ensures same { self.new ≡ self.old }
+        ensures other_same { other.new ≡ other.old }
+        ensures later { IfSome result (λ found. IsPrefix self.old.published found.0) }
+        ensures other_later { IfSome result (λ found. IsPrefix other.old.published found.0) }
+        ensures one { IfSome result (λ found. found.1 ≡ found.0) }
+        ensures grows { IfSome result (λ found. Grows found.0) }
+    {
+        let mine = self.observe()?;
+        let last = other.observe_with(mine)?;
+        let same = last.share().ok()?;
+        Some((last, same))
+    }
+
+    /// This has been seen.
+    pub(crate) fn see(&mut self, found: Published<J>)
+        requires later { IsPrefix self.old.published found }
+        requires grows { Grows found }
+        ensures seen { self.new.published ≡ found }
+        ensures looks { Looks self.old self.new }
+    {
+        self.latest = found;
+    }
+}
+
+/// The later of two published versions.
+pub fn later_of<J: Opening>(mine: Published<J>, theirs: Published<J>) -> Published<J>
+    requires grows { Grows mine × Grows theirs }
+    ensures extends { IsPrefix mine result × IsPrefix theirs result }
+    ensures grows { Grows result }
+{
+    if mine.precedes(&theirs) {
+        return theirs;
+    }
+    mine
+}

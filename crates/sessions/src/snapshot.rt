@@ -1,0 +1,64 @@
+//! What a look answers.
+ghost use Rattle.std.specs.Prelude.{◌≡◌, ℕ, length, IfOk};
+ghost use Rattle.model.specs.History.{IsLegal};
+ghost use Rattle.model.specs.World.{Asked};
+ghost use Rattle.model.specs.Told.{Tells};
+ghost use Rattle.publications.specs.Histories.{newest, opening_base};
+
+use commands::{Answer, Query};
+use publications::{Naming, Published};
+use snapshots::Version;
+use std::alloc::{AllocError, Global};
+use std::marker::Model;
+
+/// A version that a session has seen, which never changes. Its queries wait for nobody. Contracts see
+/// its history.
+#[derive(Drop)]
+pub struct Snapshot<J: Naming> {
+    found: Published<J>,
+}
+
+impl<J: Naming> Model for Snapshot<J> {
+    ghost use Rattle.std.specs.Prelude.{List};
+    ghost use Rattle.std.specs.Coded.{codes};
+    ghost use Rattle.model.specs.JsonCode.{coded_members};
+    ghost use Rattle.model.specs.Command.{Entry};
+    ghost use Rattle.publications.specs.Histories.{newest};
+
+    ghost Value = { List Entry };
+
+    ghost coded = { Prim.hlevel (codes, coded_members) };
+
+    ghost view = { λ s. newest s.found };
+}
+
+impl<J: Naming> Snapshot<J> {
+    pub(crate) fn new(found: Published<J>) -> Snapshot<J>
+        ensures { result ≡ newest found }
+    {
+        Snapshot { found }
+    }
+
+    /// How many entries its history has.
+    pub fn place(&self) -> u64
+        ensures place { result ≡ length self.now }
+        ensures legal { IsLegal opening_base self.now }
+    {
+        self.found.version().place()
+    }
+
+    /// The version, for the calls of `changes_feed`.
+    pub fn version(&self) -> &Version
+        ensures { result.now ≡ record { base = opening_base; entries = self.now } }
+    {
+        self.found.version()
+    }
+
+    /// What its history tells of a query, at its place.
+    pub fn answer(&self, alloc: Global, query: &Query) -> Result<Answer, AllocError>
+        ensures told { IfOk result (λ answer. (session : ℕ)
+            → Tells opening_base self.now (Asked session query.now (length self.now) answer)) }
+    {
+        changes_feed::answer(alloc, self.found.version(), query)
+    }
+}

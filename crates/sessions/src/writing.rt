@@ -1,0 +1,203 @@
+//! How a session writes.
+ghost use Rattle.std.specs.Prelude.{◌≡◌, ◌≢◌, ◌⊎◌, ◌+◌, ◌-◌, ◌<◌, ◌≤◌, ◌^◌, length, true, false, Err, IfOk, IfErr, IfSome, IfNone, IsTrue, MatchBool};
+ghost use mathlib.Core.List.{IsPrefix};
+ghost use Rattle.model.specs.History.{of_session};
+ghost use Rattle.publications.specs.Histories.{newest, opening_base, Grows};
+ghost use Rattle.sessions.specs.Known.{Known, seen};
+ghost use Rattle.sessions.specs.Calls.{Looks, Writes, IsTold, next_seat};
+ghost use Rattle.sessions.specs.declared.fault.Fault.TheVariants as fault;
+
+use crate::fault::Fault;
+use crate::receipt::Receipt;
+use crate::session::Session;
+use crate::shared::Shared;
+use commands::{Command, Copied, Job, Seat};
+use publications::Published;
+use snapshots::Version;
+use std::sync::Wait;
+use turns::Ticket;
+use updating::{Answer, Core, Filled, Gate, Opening, Outcome, OutcomeKind, Point};
+
+impl<R: Wait + Drop, J: Opening, G: Gate + Drop> Session<Core<R, J>, J, G> {
+    /// Writes a command, which is no compaction. It waits for the updater's lock, and under it publishes
+    /// batches of jobs until its own is answered.
+    ///
+    /// After a fault but `Lost` it left no entry: the next receipt has exactly the calls with a receipt.
+    pub fn write<W: Wait>(&mut self, rt: &W, command: Command) -> Result<Receipt, Fault>
+        ensures receipt { IfOk result (λ receipt. Writes self.old command receipt self.new) }
+        ensures memory { result ≡ Err fault.OutOfMemory → self.new ≡ record self.old { pushes = self.new.pushes } }
+        ensures busy { result ≡ Err fault.Busy → self.new ≡ self.old }
+        ensures when_busy { result ≡ Err fault.Busy → (J.capacity < J.sessions) ⊎ (2 ^ 62 ≤ self.old.pushes) }
+        ensures full { result ≡ Err fault.Full → Looks (record self.old { pushes = self.new.pushes }) self.new }
+        ensures when_full { result ≡ Err fault.Full → length (seen self.new) ≡ J.max_places }
+        ensures lost { result ≡ Err fault.Lost → self.new ≡ record self.old { pushes = self.new.pushes; lost = true } }
+        ensures for_ever { self.old.lost ≡ true → result ≡ Err fault.Lost }
+        ensures for_ever_same { self.old.lost ≡ true → self.new ≡ self.old }
+        ensures entered { result ≢ Err fault.EntryRefused }
+    {
+        if self.lost {
+            return Err(Fault::Lost);
+        }
+        let Ok(asked) = command.copy(self.alloc) else {
+            return Err(Fault::OutOfMemory);
+        };
+        let seat = self.seat();
+        if !self.ask(rt, Job { seat, command }) {
+            return Err(Fault::Busy);
+        }
+        let Some(outcome) = self.wait_for_outcome(rt) else {
+            return Err(Fault::Lost);
+        };
+        self.settle(outcome, &asked, seat)
+    }
+
+    /// Pushes the job, and says whether there was room. Until there is an outcome, the session is lost.
+    fn ask<W: Wait>(&mut self, rt: &W, job: Job) -> bool
+        requires known { self.old.lost ≡ false }
+        requires own { job.seat.session ≡ self.old.number }
+        ensures pushed { IsTrue result → self.new ≡ record self.old { pushes = self.old.pushes + 1; lost = true } }
+        ensures kept { result ≡ false → self.new ≡ self.old }
+        ensures busy { result ≡ false → (J.capacity < J.sessions) ⊎ (2 ^ 62 ≤ self.old.pushes) }
+    {
+        if self.ticket.push(rt, &self.shared.line, job).is_err() {
+            return false;
+        }
+        self.lost = true;
+        true
+    }
+
+    /// Takes the lock, and publishes batches until there is an outcome.
+    fn wait_for_outcome<W: Wait>(&mut self, rt: &W) -> Option<Outcome<J>>
+        ensures some { IfSome result (λ _. self.new ≡ record self.old { lost = false }) }
+        ensures none { IfNone result (self.new ≡ record self.old { lost = true }) }
+    {
+        self.lost = true;
+        self.shared.gate.at(Point::Pushed, self.number);
+        let outcome = serve(rt, &self.shared, &mut self.ticket)?;
+        self.lost = false;
+        Some(outcome)
+    }
+}
+
+/// Rounds under the lock.
+fn serve<R: Wait + Drop, J: Opening, G: Gate + Drop, W: Wait>(
+    rt: &W,
+    shared: &Shared<Core<R, J>, J, G>,
+    ticket: &mut Ticket<J>,
+) -> Option<Outcome<J>>
+    ensures ticket { ticket.new ≡ record ticket.old { gone = ticket.new.gone } }
+    ensures gone { IfSome result (λ _. ticket.new.gone ≡ ticket.new.pushed) }
+{
+    let mut core = shared.core.lock(rt);
+    core.serve(rt, &shared.line, &shared.gate, ticket, shared.rounds)
+}
+
+impl<C: Drop, J: Opening, G: Drop> Session<C, J, G> {
+    /// The seat of the next call.
+    fn seat(&self) -> Seat
+        ensures { result ≡ next_seat self.now }
+    {
+        let Some(seat) = Seat::new(self.number, self.calls + 1) else {
+            unreachable!()
+        };
+        seat
+    }
+
+    /// What became of the call.
+    fn settle(&mut self, outcome: Outcome<J>, asked: &Command, seat: Seat) -> Result<Receipt, Fault>
+        requires seat { seat ≡ next_seat self.old }
+        ensures receipt { IfOk result (λ receipt. Writes self.old asked.now receipt self.new) }
+        ensures memory { result ≡ Err fault.OutOfMemory → self.new ≡ self.old }
+        ensures full { result ≡ Err fault.Full → Looks self.old self.new }
+        ensures when_full { result ≡ Err fault.Full → length (seen self.new) ≡ J.max_places }
+        ensures lost { result ≡ Err fault.Lost → self.new ≡ record self.old { lost = true } }
+        ensures not_busy { result ≢ Err fault.Busy }
+        ensures entered { result ≢ Err fault.EntryRefused }
+    {
+        match outcome.into_kind() {
+            OutcomeKind::Stood(answer) => self.receive(answer, asked, seat),
+            OutcomeKind::Full(filled) => Err(self.receive_full(filled)),
+            OutcomeKind::Memory => Err(Fault::OutOfMemory),
+            OutcomeKind::Dropped => Err(self.lose()),
+        }
+    }
+
+    /// The call has an entry: a receipt, where that is this session's next call, as it was asked.
+    fn receive(&mut self, answer: Answer<J>, asked: &Command, seat: Seat) -> Result<Receipt, Fault>
+        requires seat { seat ≡ next_seat self.old }
+        ensures receipt { IfOk result (λ receipt. Writes self.old asked.now receipt self.new) }
+        ensures lost { IfErr result (λ e. e ≡ fault.Lost) }
+        ensures lost_same { IfErr result (λ _. self.new ≡ record self.old { lost = true }) }
+    {
+        let (found, place, reply) = answer.into_parts();
+        let publication = found.publication();
+        if publication > place || place <= self.last_place || !self.latest.precedes(&found) {
+            return Err(self.lose());
+        }
+        if !is_told(found.version(), place, seat, asked) {
+            return Err(self.lose());
+        }
+        self.keep(found, seat.call());
+        Ok(Receipt {
+            place,
+            seat,
+            reply,
+            publication,
+        })
+    }
+
+    /// The history has no place left.
+    fn receive_full(&mut self, filled: Filled<J>) -> Fault
+        ensures fault { (result ≡ fault.Full) ⊎ (result ≡ fault.Lost) }
+        ensures full { result ≡ fault.Full → Looks self.old self.new }
+        ensures when_full { result ≡ fault.Full → length (seen self.new) ≡ J.max_places }
+        ensures lost { result ≡ fault.Lost → self.new ≡ record self.old { lost = true } }
+    {
+        let found = filled.into_found();
+        let _count = found.publication();
+        if !self.latest.precedes(&found) {
+            return self.lose();
+        }
+        self.see(found);
+        Fault::Full
+    }
+
+    /// What was found has been seen, with a receipt for each of the session's entries in it.
+    fn keep(&mut self, found: Published<J>, calls: u64)
+        requires later { IsPrefix self.old.published found }
+        requires grows { Grows found }
+        requires calls { calls ≡ length (of_session self.old.number (newest found)) }
+        ensures { self.new ≡ record self.old { published = found; receipts = of_session self.old.number (newest found) } }
+    {
+        self.receipted = found.front().again();
+        self.last_place = found.version().place();
+        self.calls = calls;
+        self.latest = found;
+    }
+
+    /// What became of a call is not known.
+    fn lose(&mut self) -> Fault
+        ensures fault { result ≡ fault.Lost }
+        ensures lost { self.new ≡ record self.old { lost = true } }
+    {
+        self.lost = true;
+        Fault::Lost
+    }
+}
+
+/// Whether the entry at the place is what was asked, as the last call of its session.
+fn is_told(version: &Version, place: u64, seat: Seat, asked: &Command) -> bool
+    requires base { version.now.base ≡ opening_base }
+    ensures { IsTrue result → IsTold version.now.entries place seat asked.now }
+{
+    let Some(entry) = version.entry(place) else {
+        return false;
+    };
+    if entry.seat.session() != seat.session() || entry.seat.call() != seat.call() {
+        return false;
+    }
+    if !entry.command.is_same(asked) {
+        return false;
+    }
+    version.next_call(seat.session()) - 1 == seat.call()
+}
