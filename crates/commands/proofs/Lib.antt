@@ -1,3 +1,4 @@
 pub mod Merges
 pub mod Rising
 pub mod Steps
+pub mod Crossing

@@ -4,3 +4,4 @@ pub mod Paths
 pub mod Runs
 pub mod Sides
 pub mod Turns
+pub mod Crossing

@@ -1,2 +1,4 @@
 pub mod Lists
 pub mod Noted
+pub mod Lending
+pub mod Refused

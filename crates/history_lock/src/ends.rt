@@ -1,7 +1,8 @@
 //! What sessions are made of.
-ghost use Rattle.std.specs.Prelude.{◌≡◌, ◌+◌, ◌<◌, ◌≤◌, [], map, IfOk};
+ghost use Rattle.std.specs.Prelude.{◌≡◌, ◌+◌, ◌<◌, ◌≤◌, [], map, IfOk, IfErr};
 ghost use Rattle.std.specs.List.{range_with_len};
 ghost use Rattle.sessions.specs.Known.{fresh};
+ghost use Rattle.history_lock.specs.Refusals.{IsRefusal};
 
 use publications::{Lens, Press, Published};
 use sessions::{Fault, Session, Shared};
@@ -56,6 +57,7 @@ fn next_ends<R: Wait + Drop, J: Opening>(
     requires seen { current.now ≡ [] }
     requires clerk { (clerk.old.taken ≡ []) × (clerk.old.made < J.sessions) × (clerk.old.made < 64) }
     ensures ends { IfOk result (λ e. (e ≡ clerk.old.made) × (clerk.new ≡ record clerk.old { made = clerk.old.made + 1 })) }
+    ensures refused { IfErr result IsRefusal }
 {
     let Ok(latest) = current.share() else {
         return Err(Fault::OutOfMemory);
@@ -87,6 +89,7 @@ pub(crate) fn all_ends<R: Wait + Drop, J: Opening>(
     requires clerk { (clerk.old.taken ≡ []) × (clerk.old.made ≡ 0) }
     requires count { (count ≡ J.sessions) × (count ≤ 64) }
     ensures ends { IfOk result (λ ends. ends.items ≡ range_with_len 0 count) }
+    ensures refused { IfErr result IsRefusal }
     ensures made { IfOk result (λ ends. clerk.new.made ≡ count) }
 {
     let Ok(mut ends) = Vec::with_capacity(alloc, count as usize) else {

@@ -1,7 +1,8 @@
 //! How a master and its sessions are made.
-ghost use Rattle.std.specs.Prelude.{◌≡◌, ◌<◌, ◌≤◌, [], map, IfOk};
+ghost use Rattle.std.specs.Prelude.{◌≡◌, ◌<◌, ◌≤◌, [], map, IfOk, IfErr};
 ghost use Rattle.std.specs.List.{range_with_len};
 ghost use Rattle.sessions.specs.Known.{fresh};
+ghost use Rattle.history_lock.specs.Refusals.{IsRefusal};
 
 use crate::ends::{Ends, all_ends, all_sessions};
 use crate::master::Master;
@@ -31,6 +32,7 @@ fn begin<R: Wait + Drop, J: Opening>(
     requires sessions { config.sessions ≡ J.sessions }
     requires max_places { config.max_places ≡ J.max_places }
     ensures ends { IfOk result (λ r. r.2.items ≡ range_with_len 0 config.sessions) }
+    ensures refused { IfErr result IsRefusal }
 {
     let sessions = config.limits().sessions;
     let first = Published::new(Version::empty(alloc), front);
@@ -61,6 +63,7 @@ fn connect<R: Wait + Drop, J: Opening>(
     requires sessions { (sessions ≡ J.sessions) × (0 < sessions) × (sessions ≤ 64) }
     ensures ends { IfOk result (λ r. r.1.items ≡ range_with_len 0 sessions) }
     ensures made { IfOk result (λ r. clerk.new.made ≡ sessions) }
+    ensures refused { IfErr result IsRefusal }
 {
     let Ok(mut press) = Press::new(alloc, rt, first, sessions as usize) else {
         return Err(Fault::OutOfMemory);
@@ -92,7 +95,8 @@ fn share<R: Wait + Drop, J: Opening, G: Gate + Drop>(
 }
 
 /// A master and its sessions, numbered from 0, each having seen the empty history. The writer's
-/// runtime is `rt`, and the gate is called between the steps of a write.
+/// runtime is `rt`, and the gate is called between the steps of a write. A fault is want of memory, or
+/// that a reader was refused.
 pub fn open<R: Wait + Drop, J: Opening, G: Gate + Drop>(
     rt: R,
     opened: Opened,
@@ -104,6 +108,7 @@ pub fn open<R: Wait + Drop, J: Opening, G: Gate + Drop>(
     requires sessions { opened.queue.sessions ≡ J.sessions }
     requires max_places { opened.max_places ≡ J.max_places }
     ensures sessions { IfOk result (λ r. r.1.items ≡ map fresh (range_with_len 0 opened.queue.sessions)) }
+    ensures refused { IfErr result IsRefusal }
 {
     let Opened {
         alloc,

@@ -6,3 +6,4 @@ pub mod Sameness
 pub mod Specials
 pub mod Taken
 pub mod Texts
+pub mod Crossing

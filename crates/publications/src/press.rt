@@ -1,7 +1,9 @@
 //! The two ends of `left_right`, under the store's name: what shows a version, and what sees it.
 ghost use Rattle.std.specs.Prelude.{◌≡◌, ◌^◌, ◌<◌, ◌++◌, ◌∷◌, [], drop, All, IfOk, IfSome, Some};
+ghost use mathlib.Core.List.{IsPrefix};
 ghost use Rattle.publications.specs.declared.published.Shown.{Shown};
 ghost use Rattle.left_right.specs.Sides.{view as known};
+ghost use Rattle.publications.specs.Histories.{Grows};
 ghost use Rattle.publications.specs.Names.{Knows};
 
 use crate::front::Naming;
@@ -84,25 +86,40 @@ impl<J: Naming> Model for Lens<J> {
     ghost invariant = { λ l. Knows J.book (known l.reader.place) };
 }
 
-// The reader, and what it found.
-fn look_through(reader: ShownReader) -> (ShownReader, Option<Shown>)
+// The reader, and what it found, unless that is of so many publications.
+fn look_through(reader: ShownReader, count: u64) -> (ShownReader, Result<Option<Shown>, AllocError>)
     ensures kept { known result.0.place ≡ known reader.place }
-    ensures found { IfSome result.1 (λ s. (w : Shown) → known reader.place ≡ Some w → w.0 ≡ s.0) }
+    ensures found { IfOk result.1 (λ found. IfSome found (λ s. (w : Shown) → known reader.place ≡ Some w → w.0 ≡ s.0)) }
 {
     match reader.enter_as::<Finds>() {
         Ok(reading) => {
-            let found = reading.get().share().ok();
+            let found = reading.get().share_unless(count);
             (reading.leave(), found)
         }
-        Err(reader) => (reader, None),
+        Err(reader) => (reader, Err(AllocError)),
     }
 }
 
 impl<J: Naming> Lens<J> {
-    /// What is shown now; nothing where the entry or a share is refused. It takes no memory.
-    pub fn look(&mut self) -> Option<Published<J>> {
-        let found = replace_with(&mut self.reader, (), |reader, _| look_through(reader))?;
-        Some(Published::named(found))
+    /// What is shown now, where that is later than what was seen. An error says that the entry or a
+    /// share is refused. It takes no memory.
+    pub fn look_past(&mut self, seen: &Published<J>) -> Result<Option<Published<J>>, AllocError>
+        ensures later { IfOk result (λ found. IfSome found (λ p. IsPrefix seen.now p)) }
+        ensures grows { IfOk result (λ found. IfSome found (λ p. Grows p)) }
+    {
+        let count = seen.publication();
+        let found = replace_with(&mut self.reader, count, |reader, count| {
+            look_through(reader, count)
+        })?;
+        let Some(shown) = found else {
+            return Ok(None);
+        };
+        let found = Published::named(shown);
+        if !seen.precedes(&found) {
+            return Ok(None);
+        }
+        let _count = found.publication();
+        Ok(Some(found))
     }
 }
 

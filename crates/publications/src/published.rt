@@ -1,5 +1,5 @@
 //! What readers take: a version, with the publications up to it.
-ghost use Rattle.std.specs.Prelude.{◌≡◌, ◌≤◌, length, IfOk, MatchBool};
+ghost use Rattle.std.specs.Prelude.{◌≡◌, ◌≤◌, length, IfOk, IfSome, MatchBool};
 ghost use mathlib.Core.List.{IsPrefix};
 ghost use Rattle.publications.specs.Histories.{newest, opening_base, Grows, IsNewest};
 
@@ -46,6 +46,17 @@ impl Shown {
             count: self.count,
             seen: self.seen.again(),
         })
+    }
+
+    /// The same version, unless it is that of so many publications. It takes no memory.
+    pub(crate) fn share_unless(&self, count: u64) -> Result<Option<Shown>, AllocError>
+        ensures same { IfOk result (λ found. IfSome found (λ s. s ≡ self.now)) }
+    {
+        if self.count == count {
+            return Ok(None);
+        }
+        let shared = self.share()?;
+        Ok(Some(shared))
     }
 }
 

@@ -3,3 +3,4 @@ pub mod Places
 pub mod Marked
 pub mod InOrder
 pub mod Ranked
+pub mod Crossing

@@ -11,7 +11,8 @@ use crate::fault::Fault;
 use crate::shared::Shared;
 use crate::snapshot::Snapshot;
 use publications::{Front, Lens, Published};
-use std::alloc::Global;
+use snapshots::Version;
+use std::alloc::{AllocError, Global};
 use std::marker::Model;
 use std::sync::Arc;
 use turns::Ticket;
@@ -87,7 +88,37 @@ impl<C: Drop, J: Opening, G: Drop> Session<C, J, G> {
         self.latest.version().place()
     }
 
-    /// Sees what is published now. It waits for nobody and takes no memory.
+    /// The version that the session has seen.
+    pub fn version(&self) -> &Version
+        ensures { result.now ≡ record { base = opening_base; entries = seen self.now } }
+    {
+        self.latest.version()
+    }
+
+    /// Sees what is published now, and nothing else: where that was seen already, it writes to no
+    /// memory that other sessions read. It waits for nobody and takes no memory.
+    pub fn refresh(&mut self) -> Result<(), Fault>
+        ensures looks { IfOk result (λ _. Looks self.old self.new) }
+        ensures kept { OnErr result (self.new ≡ self.old) }
+        ensures lost { (result ≡ Err fault.Lost) ↔ (self.old.lost ≡ true) }
+        ensures refused { IfErr result (λ e. (e ≡ fault.Lost) ⊎ (e ≡ fault.EntryRefused)) }
+    {
+        if self.lost {
+            return Err(Fault::Lost);
+        }
+        let Ok(later) = self.later() else {
+            return Err(Fault::EntryRefused);
+        };
+        let Some(found) = later else {
+            let _place = self.place();
+            return Ok(());
+        };
+        self.see(found);
+        Ok(())
+    }
+
+    /// Sees what is published now, and keeps a share of it apart from the session. It waits for nobody
+    /// and takes no memory.
     pub fn look(&mut self) -> Result<Snapshot<J>, Fault>
         ensures snapshot { IfOk result (λ snapshot. snapshot ≡ seen self.new) }
         ensures looks { IfOk result (λ _. Looks self.old self.new) }
@@ -98,13 +129,29 @@ impl<C: Drop, J: Opening, G: Drop> Session<C, J, G> {
         if self.lost {
             return Err(Fault::Lost);
         }
-        let Some(found) = self.observe() else {
+        let Ok(later) = self.later() else {
             return Err(Fault::EntryRefused);
+        };
+        let Some(found) = later else {
+            return self.seen_again();
         };
         let Ok(shared) = found.share() else {
             return Err(Fault::EntryRefused);
         };
         self.see(found);
+        Ok(Snapshot::new(shared))
+    }
+
+    /// What was seen already.
+    fn seen_again(&self) -> Result<Snapshot<J>, Fault>
+        ensures snapshot { IfOk result (λ snapshot. snapshot ≡ seen self.now) }
+        ensures looks { Looks self.now self.now }
+        ensures refused { IfErr result (λ e. e ≡ fault.EntryRefused) }
+    {
+        let _place = self.place();
+        let Ok(shared) = self.latest.share() else {
+            return Err(Fault::EntryRefused);
+        };
         Ok(Snapshot::new(shared))
     }
 
@@ -132,18 +179,26 @@ impl<C: Drop, J: Opening, G: Drop> Session<C, J, G> {
         Ok(place)
     }
 
+    /// What is published now, where that is later than what was seen.
+    fn later(&mut self) -> Result<Option<Published<J>>, AllocError>
+        ensures same { self.new ≡ self.old }
+        ensures later { IfOk result (λ found. IfSome found (λ p. IsPrefix self.old.published p)) }
+        ensures grows { IfOk result (λ found. IfSome found (λ p. Grows p)) }
+    {
+        self.reader.look_past(&self.latest)
+    }
+
     /// What is published now, which is what was seen or later. Nothing where that is refused.
     fn observe(&mut self) -> Option<Published<J>>
         ensures same { self.new ≡ self.old }
         ensures later { IfSome result (λ found. IsPrefix self.old.published found) }
         ensures grows { IfSome result (λ found. Grows found) }
     {
-        let found = self.reader.look()?;
-        let _count = found.publication();
-        if !self.latest.precedes(&found) {
-            return None;
+        if let Some(found) = self.later().ok()? {
+            return Some(found);
         }
-        Some(found)
+        let same = self.latest.share().ok()?;
+        Some(same)
     }
 
     /// What is published now, or what another session saw, whichever is later.

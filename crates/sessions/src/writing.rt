@@ -131,7 +131,7 @@ impl<C: Drop, J: Opening, G: Drop> Session<C, J, G> {
     {
         let (found, place, reply) = answer.into_parts();
         let publication = found.publication();
-        if publication > place || place <= self.last_place || !self.latest.precedes(&found) {
+        if place <= self.last_place || !self.latest.precedes(&found) {
             return Err(self.lose());
         }
         if !is_told(found.version(), place, seat, asked) {

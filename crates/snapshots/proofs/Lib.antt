@@ -11,3 +11,4 @@ pub mod Histories
 pub mod Purges
 pub mod Shown
 pub mod TouchedCount
+pub mod Crossing

@@ -4,6 +4,7 @@ mod history;
 mod limits;
 mod locals;
 mod purges;
+mod threads;
 
 use crate::Version;
 use commands::{Command, Edit, Merge, Refusal, RefusalKind, ReplyKind, Seat};

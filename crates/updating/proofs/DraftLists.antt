@@ -1,5 +1,5 @@
 -- Drafts of the entries behind a place, and what is told of them.
-use Rattle.std.proofs.Common.{◌≡◌, ℕ, zero, suc, ◌+◌, ◌<◌, List, [], ◌∷◌, ◌++◌, length, drop, get_or, Option, Some, refl, sym, ap, ◌∙◌, arith, append_assoc}
+use Rattle.std.proofs.Common.{◌≡◌, ℕ, zero, suc, ◌+◌, ◌<◌, ◌≤◌, List, [], ◌∷◌, ◌++◌, length, drop, get_or, Option, Some, refl, sym, ap, ◌∙◌, arith, append_assoc}
 use Rattle.std.specs.Prelude.{slice_get, option_map, None}
 use Rattle.snapshots.specs.Version.{entry_at}
 use Rattle.std.specs.List.{All}
@@ -7,7 +7,8 @@ use Rattle.std.proofs.lemmas.Option.{none-some, same_Some}
 use Rattle.model.specs.Command.{Entry}
 use Rattle.model.specs.History.{Chronicle}
 use Rattle.updating.specs.Outcomes.{Fate, StoodAt, told, all_stand}
-use Rattle.updating.specs.Drafts.{Drafted, draft_of, drafts_from, stands_of, all_drafts_stand}
+use Rattle.publications.specs.Histories.{IsNewest}
+use Rattle.updating.specs.Drafts.{Drafted, IsPublished, draft_of, drafts_from, stands_of, all_drafts_stand}
 
 -- the item that stands at a place is the first of those behind
 pub drop_at_item : {X : Type 0} (xs : List X) (n : ℕ) (x : X) → slice_get xs n ≡ Some x → drop n xs ≡ x ∷ drop (n + 1) xs
@@ -31,10 +32,10 @@ All-first {X} P x xs p all = at
     at zero d lt = p
     at (suc k) d lt = all k d (omega (arith, lt))
 
--- each draft is of the version
-pub all_drafts_of : (P : Chronicle → Type 0) (v : Chronicle) (n : ℕ) (es : List Entry) → P v → All (λ (d : Drafted). P d.version) (drafts_from v n es)
-all_drafts_of P v n [] p = λ k d lt. absurd (omega arith)
-all_drafts_of P v n (e ∷ es) p = All-first (λ (d : Drafted). P d.version) (draft_of v (n + 1) e) (drafts_from v (n + 1) es) p (all_drafts_of P v (n + 1) es p)
+-- each draft behind a place is of what was published last
+pub all_published : (published : List (List Entry)) (v : Chronicle) (n : ℕ) (es : List Entry) → IsNewest v published → length published ≤ n + 1 → All (IsPublished published) (drafts_from v n es)
+all_published published v n [] is le = λ k d lt. absurd (omega arith)
+all_published published v n (e ∷ es) is le = All-first (IsPublished published) (draft_of v (n + 1) e) (drafts_from v (n + 1) es) (record { newest = is; counted = le }) (all_published published v (n + 1) es is (omega (arith, le)))
 
 pub all_drafts_stand-from : (published : List (List Entry)) (outcomes : List (Option Fate)) (v : Chronicle) (n : ℕ) (es : List Entry) → all_drafts_stand published outcomes (drafts_from v n es) ≡ all_stand published n outcomes es
 all_drafts_stand-from published outcomes v n [] = refl

@@ -1,5 +1,5 @@
 -- What is published after a batch.
-use Rattle.std.proofs.Common.{◌≡◌, ℕ, ◌<◌, List, [], ◌∷◌, ◌++◌, length, drop, Option, refl, sym, ap, ◌∙◌, subst, arith, length-append}
+use Rattle.std.proofs.Common.{◌≡◌, ℕ, ◌+◌, ◌<◌, ◌≤◌, List, [], ◌∷◌, ◌++◌, length, drop, Option, refl, sym, ap, ◌∙◌, subst, arith, length-append}
 use Rattle.std.proofs.lemmas.List.{drop_at}
 use Rattle.std.specs.List.{All}
 use Rattle.model.specs.Command.{Entry, Job}
@@ -8,9 +8,9 @@ use Rattle.model.specs.History.{Chronicle, now, extended, batch_entries}
 use Rattle.publications.specs.Histories.{opening_base, newest, IsNewest}
 use Rattle.publications.proofs.Growing.{newest_after-append}
 use Rattle.updating.specs.Outcomes.{Fate, all_stand}
-use Rattle.updating.specs.Drafts.{Drafted, drafts_from, all_drafts_stand}
+use Rattle.updating.specs.Drafts.{Drafted, IsPublished, drafts_from, all_drafts_stand}
 use Rattle.updating.specs.State.{entries_after}
-use Rattle.updating.proofs.DraftLists.{all_drafts_of, all_drafts_stand-from}
+use Rattle.updating.proofs.DraftLists.{all_published, all_drafts_stand-from}
 
 -- the version of what was published last
 abbrev pub chronicle_of : List (List Entry) → Chronicle
@@ -34,5 +34,9 @@ drafts_told found v place h es drafts are is at outcomes =
     ap (λ (ds : List Drafted). all_drafts_stand found outcomes ds) (are ∙ ap (λ (l : List Entry). drafts_from v place (drop place l)) is ∙ ap (λ (l : List Entry). drafts_from v place l) (drop_at h es place (sym at)))
     ∙ all_drafts_stand-from found outcomes v place es ∙ ap (λ n. all_stand found n outcomes es) at
 
-pub drafts_newest : (found : List (List Entry)) (v : Chronicle) (place : ℕ) (drafts : List Drafted) → drafts ≡ drafts_from v place (drop place v.entries) → IsNewest v found → All (λ (d : Drafted). IsNewest d.version found) drafts
-drafts_newest found v place drafts are is = subst (All (λ (d : Drafted). IsNewest d.version found)) (sym are) (all_drafts_of (λ (c : Chronicle). IsNewest c found) v place (drop place v.entries) is)
+pub drafts_published : (found : List (List Entry)) (v : Chronicle) (place : ℕ) (drafts : List Drafted) → drafts ≡ drafts_from v place (drop place v.entries) → IsNewest v found → length found ≤ place + 1 → All (IsPublished found) drafts
+drafts_published found v place drafts are is le = subst (All (IsPublished found)) (sym are) (all_published found v place (drop place v.entries) is le)
+
+-- one publication more than there were, of which each added an entry
+pub one_more : (found before : List (List Entry)) (h : List Entry) (place : ℕ) → found ≡ before ++ h ∷ [] → length before ≤ place → length found ≤ place + 1
+one_more found before h place is le = omega (arith, ap length is, length-append before (h ∷ []), le)

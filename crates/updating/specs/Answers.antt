@@ -1,5 +1,5 @@
 -- An entry that stands.
-use Rattle.std.specs.Prelude.{◌≡◌, ℕ, List, Some, option_map}
+use Rattle.std.specs.Prelude.{◌≡◌, ◌≤◌, ℕ, List, length, Some, option_map}
 use Rattle.model.specs.Command.{Entry, Reply}
 use Rattle.snapshots.specs.Version.{entry_at}
 use Rattle.publications.specs.Histories.{newest, Grows}
@@ -10,7 +10,8 @@ pub record Stands : Type 0 where
   pub place : ℕ
   pub reply : Reply
 
--- the last published history has an entry with that reply at that place
+-- the last published history has an entry with that reply at that place, and there were at most as many publications
 pub record IsAnswer (s : Stands) : Type 0 where
   pub grows : Grows s.published
+  pub counted : length s.published ≤ s.place
   pub stands : option_map (λ (e : Entry). e.reply) (entry_at (newest s.published) s.place) ≡ Some s.reply

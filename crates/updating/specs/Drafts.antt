@@ -1,8 +1,9 @@
 -- Entries of a version that is not yet published.
-use Rattle.std.specs.Prelude.{◌≡◌, ℕ, ◌+◌, List, [], ◌∷◌, Option, Some, option_map}
+use Rattle.std.specs.Prelude.{◌≡◌, ℕ, ◌+◌, ◌≤◌, List, [], ◌∷◌, length, Option, Some, option_map}
 use Rattle.model.specs.Command.{Entry, Reply}
 use Rattle.model.specs.History.{Chronicle}
 use Rattle.snapshots.specs.Version.{entry_at}
+use Rattle.publications.specs.Histories.{IsNewest}
 use Rattle.updating.specs.Answers.{Stands}
 use Rattle.updating.specs.Outcomes.{Fate, StoodAt, told}
 
@@ -15,6 +16,11 @@ pub record Drafted : Type 0 where
 -- the version has an entry with that reply at that place
 pub record IsDraft (d : Drafted) : Type 0 where
   pub stands : option_map (λ (e : Entry). e.reply) (entry_at d.version.entries d.place) ≡ Some d.reply
+
+-- the version was published last, with at most as many publications as the draft's place
+pub record IsPublished (published : List (List Entry)) (d : Drafted) : Type 0 where
+  pub newest : IsNewest d.version published
+  pub counted : length published ≤ d.place
 
 abbrev pub draft_of : Chronicle → ℕ → Entry → Drafted
 draft_of version place e = record { version = version; session = e.seat.session; place = place; reply = e.reply }

@@ -3,3 +3,4 @@ pub mod Outcomes
 pub mod Fates
 pub mod Drafts
 pub mod State
+pub mod Worlds

@@ -1,6 +1,6 @@
 //! What the updater tells of a job that it took. The types carry what is told, so that who takes an answer need
 //! know nothing of where it lay.
-ghost use Rattle.std.specs.Prelude.{◌≡◌, Some, length, option_map};
+ghost use Rattle.std.specs.Prelude.{◌≡◌, ◌≤◌, Some, length, option_map};
 ghost use Rattle.model.specs.Command.{Entry};
 ghost use Rattle.snapshots.specs.Version.{entry_at};
 ghost use Rattle.publications.specs.Histories.{newest, Grows};
@@ -36,6 +36,7 @@ impl<J: Naming> Answer<J> {
     /// The answer at a place of a published version.
     pub(crate) fn new(found: Published<J>, place: u64, reply: Reply) -> Answer<J>
         requires grows { Grows found }
+        requires counted { length found ≤ place }
         requires stands { option_map (λ (e : Entry). e.reply) (entry_at (newest found) place) ≡ Some reply }
         ensures { result ≡ record { published = found; place = place; reply = reply } }
     {
@@ -50,6 +51,7 @@ impl<J: Naming> Answer<J> {
     pub fn into_parts(self) -> (Published<J>, u64, Reply)
         ensures parts { (result.0 ≡ self.published) × (result.1 ≡ self.place) × (result.2 ≡ self.reply) }
         ensures grows { Grows result.0 }
+        ensures counted { length result.0 ≤ result.1 }
         ensures stands { option_map (λ (e : Entry). e.reply) (entry_at (newest result.0) result.1) ≡ Some result.2 }
     {
         let Answer {

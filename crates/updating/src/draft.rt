@@ -1,9 +1,8 @@
 //! Entries of a version that is not yet published.
 ghost use Rattle.std.specs.Prelude.{◌≡◌, ◌≤◌, All, length, drop, IfOk, option_map};
 ghost use Rattle.snapshots.specs.Version.{entry_at};
-ghost use Rattle.publications.specs.Histories.{IsNewest};
 ghost use Rattle.updating.specs.Outcomes.{StoodAt, told};
-ghost use Rattle.updating.specs.Drafts.{Drafted, draft_of, drafts_from, stands_of, all_drafts_stand};
+ghost use Rattle.updating.specs.Drafts.{draft_of, drafts_from, stands_of, all_drafts_stand, IsPublished};
 
 use crate::answer::Answer;
 use crate::naming::Opening;
@@ -42,7 +41,7 @@ impl Model for Draft {
 impl Draft {
     /// The answer that the entry stands, once its version is published.
     fn into_outcome<J: Opening>(self, front: Front<J>) -> Outcome<J>
-        requires { IsNewest self.version front }
+        requires { IsPublished front self }
         ensures { result ≡ StoodAt (stands_of front self) }
     {
         let Draft {
@@ -99,7 +98,7 @@ pub(crate) fn drafts_after(
 
 /// The entry stands.
 fn answer<J: Opening>(outcomes: &mut Outcomes<J>, draft: Draft, front: &Front<J>)
-    requires { IsNewest draft.version front.now }
+    requires { IsPublished front.now draft }
     ensures { outcomes.new.items ≡ told outcomes.old.items draft.session (StoodAt (stands_of front.now draft)) }
 {
     let session = draft.session();
@@ -112,7 +111,7 @@ pub(crate) fn answer_all<J: Opening>(
     drafts: Vec<Draft>,
     front: &Front<J>,
 )
-    requires { All (λ (d : Drafted). IsNewest d.version front.now) drafts.items }
+    requires { All (IsPublished front.now) drafts.items }
     ensures told { outcomes.new.items ≡ all_drafts_stand front.now outcomes.old.items drafts.items }
     ensures count { length outcomes.new.items ≡ length outcomes.old.items }
 {

@@ -1,8 +1,10 @@
 //! The state behind the updater's lock.
 ghost use Rattle.std.specs.Prelude.{◌≡◌, ◌↔◌, ◌+◌, ◌-◌, ◌<◌, ◌≤◌, [], Ok, Err, None, length, replicate, IfOk, OnErr, OnOk};
+ghost use Rattle.model.specs.World.{Put, GiveUp};
 ghost use Rattle.publications.specs.Histories.{newest};
 ghost use Rattle.updating.specs.Outcomes.{outcome_of};
 ghost use Rattle.updating.specs.State.{Puts, after_taking, GivesUpBatch};
+ghost use Rattle.updating.specs.Worlds.{IsEvent};
 ghost use Rattle.updating.specs.declared.fault.PutFault.TheVariants.{Full};
 
 use crate::draft::answer_all;
@@ -105,6 +107,7 @@ impl<R: Wait + Drop, J: Opening> Core<R, J> {
         ensures empty { self.old.batch ≡ [] → (result ≡ Ok tt) × (self.new ≡ self.old) }
         ensures put { OnOk result (0 < length self.old.batch → Puts J.max_places self.old self.new) }
         ensures kept { OnErr result (self.new ≡ self.old) }
+        ensures event { OnOk result (IsEvent Put J.max_places self.old self.new) }
         ensures full { 0 < length self.old.batch → (result ≡ Err Full) ↔ (J.max_places < length (newest self.old.published) + length self.old.batch) }
     {
         if self.batch.is_empty() {
@@ -128,7 +131,8 @@ impl<R: Wait + Drop, J: Opening> Core<R, J> {
     /// Gives up the batch, with no entry: each of its jobs is told want of memory, or that no place is
     /// left. It takes no memory.
     pub fn give_up(&mut self)
-        ensures { GivesUpBatch J.max_places self.old self.new }
+        ensures given_up { GivesUpBatch J.max_places self.old self.new }
+        ensures event { IsEvent GiveUp J.max_places self.old self.new }
     {
         let is_full = self.current.version().place() == self.max_places as u64;
         give_up_all(

@@ -1,10 +1,10 @@
 //! One publication: a batch is applied to what was published last, and the history that it makes is published.
 ghost use Rattle.std.specs.Prelude.{◌≡◌, ◌+◌, ◌<◌, ◌≤◌, List, Option, All, length, IfOk};
 ghost use Rattle.model.specs.History.{replay};
-ghost use Rattle.publications.specs.Histories.{opening_base, newest, IsNewest};
+ghost use Rattle.publications.specs.Histories.{opening_base, newest};
 ghost use Rattle.updater.specs.Batches.{MayFollow};
 ghost use Rattle.updating.specs.Outcomes.{Fate, all_stand};
-ghost use Rattle.updating.specs.Drafts.{Drafted, all_drafts_stand};
+ghost use Rattle.updating.specs.Drafts.{all_drafts_stand, IsPublished};
 ghost use Rattle.updating.specs.State.{entries_after, published_with};
 
 use crate::draft::{Draft, drafts_after};
@@ -33,8 +33,9 @@ pub(crate) fn publish<J: Naming>(
     requires room { length (newest current.now) + length jobs.now ≤ 4294967295 }
     ensures found { IfOk result (λ p. p.found ≡ published_with current.now jobs.now) }
     ensures drafts { IfOk result (λ p. (outcomes : List (Option Fate)) → all_drafts_stand p.found outcomes p.drafts.items ≡ all_stand p.found (length (newest current.now)) outcomes (entries_after current.now jobs.now)) }
-    ensures newest { IfOk result (λ p. All (λ (d : Drafted). IsNewest d.version p.found) p.drafts.items) }
+    ensures published { IfOk result (λ p. All (IsPublished p.found) p.drafts.items) }
 {
+    let _count = current.publication();
     let latest = current.version();
     let version = apply_batch(latest, jobs)?;
     let drafts = drafts_after(alloc, &version, latest.place())?;

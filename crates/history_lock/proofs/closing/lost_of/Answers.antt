@@ -1,8 +1,8 @@
-use Rattle.std.proofs.Common.{◌≡◌, ◌+◌, ◌≤◌, ◌++◌, ◌∷◌, [], if◌then◌else◌, ap, sym, ◌∙◌, subst, arith, List, length, ℕ}
+use Rattle.std.proofs.Common.{◌++◌, ◌∷◌, [], if◌then◌else◌, ap, sym, ◌∙◌, subst, arith, ℕ}
 use mathlib.Core.List.{IsPrefix}
 use Rattle.publications.specs.Histories.{newest}
 use Rattle.sessions.specs.Known.{Known}
-use Rattle.sessions.specs.Ends.{is_lost, IsExact}
+use Rattle.sessions.specs.Ends.{IsExact}
 use Rattle.history_lock.proofs.Noted.{noted, all_more}
 use Rattle.history_lock.proofs.closing.lost_of.Goals as goal
 

@@ -1,6 +1,7 @@
 use Rattle.std.proofs.Common.{ap, sym, ◌∙◌}
 use Rattle.model.specs.History.{Chronicle}
 use Rattle.publications.specs.Histories.{newest, opening_base}
+use Rattle.history_lock.proofs.Refused.{passed_on}
 use Rattle.history_lock.proofs.opening.begin.Goals as goal
 
 pub new-first-requires : goal.new-first-requires
@@ -11,3 +12,6 @@ new-first-requires g c = record {
     entries = ap (λ (k : Chronicle). k.entries) c.empty.ensures ∙ sym (ap newest c.requires.front);
   };
 }
+
+pub returns-in_err-press-clause-refused : goal.returns-in_err-press-clause-refused
+returns-in_err-press-clause-refused g c = passed_on c.from_residual.result c.in_err-press.field-0.0 c.from_residual.ensures.1 c.in_err-press.ensures.refused

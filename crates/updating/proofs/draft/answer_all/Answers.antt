@@ -1,9 +1,8 @@
 use Rattle.std.proofs.Common.{◌∙◌, List, Option, ap, subst, sym, length}
 use Rattle.std.specs.List.{All}
 use Rattle.std.specs.Vec.Iter.{into_iter_items}
-use Rattle.publications.specs.Histories.{IsNewest}
 use Rattle.updating.specs.Outcomes.{Fate}
-use Rattle.updating.specs.Drafts.{Drafted, all_drafts_stand}
+use Rattle.updating.specs.Drafts.{Drafted, IsPublished, all_drafts_stand}
 use Rattle.updating.proofs.DraftLists.{All-tail}
 use Rattle.updating.proofs.Slots.{length-told}
 use Rattle.updating.proofs.draft.answer_all.Goals as goal
@@ -13,7 +12,7 @@ loop-draft-preserved g c =
     let front = c.args.front.now in
     let rest = into_iter_items c.next.new.self in
     let step = c.in-Some.ensures.steps.0 in record {
-      of_version = All-tail (λ (d : Drafted). IsNewest d.version front) c.in-Some.draft rest (subst (All (λ (d : Drafted). IsNewest d.version front)) step c.loop-draft.invariant.of_version);
+      published = All-tail (IsPublished front) c.in-Some.draft rest (subst (All (IsPublished front)) step c.loop-draft.invariant.published);
       told = ap (λ (o : List (Option Fate)). all_drafts_stand front o rest) c.answer.ensures ∙ ap (λ (ds : List Drafted). all_drafts_stand front c.loop-draft.outcomes.items ds) (sym step) ∙ c.loop-draft.invariant.told;
       count = ap (λ (o : List (Option Fate)). length o) c.answer.ensures ∙ length-told c.loop-draft.outcomes.items _ _ ∙ c.loop-draft.invariant.count;
     }

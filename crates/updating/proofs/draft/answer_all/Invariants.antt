@@ -1,13 +1,12 @@
 use Rattle.std.proofs.Common.{◌≡◌, length}
 use Rattle.std.specs.List.{All}
 use Rattle.std.specs.Vec.Iter.{into_iter_items}
-use Rattle.publications.specs.Histories.{IsNewest}
-use Rattle.updating.specs.Drafts.{Drafted, all_drafts_stand}
+use Rattle.updating.specs.Drafts.{IsPublished, all_drafts_stand}
 use Rattle.updating.proofs.draft.answer_all.Given as goal
 
 abbrev pub invariant-loop-draft : goal.invariant-loop-draft
 invariant-loop-draft g l = record {
-  of_version : All (λ (d : Drafted). IsNewest d.version l.front) (into_iter_items l.draft-iterator);
+  published : All (IsPublished l.front) (into_iter_items l.draft-iterator);
   told : all_drafts_stand l.front l.outcomes.items (into_iter_items l.draft-iterator) ≡ all_drafts_stand l.front l.initial.outcomes.items l.fn.drafts.items;
   count : length l.outcomes.items ≡ length l.initial.outcomes.items;
 }

@@ -1,9 +1,9 @@
-use Rattle.std.proofs.Common.{◌<◌, ◌∙◌, List, ap, sym, subst, length}
+use Rattle.std.proofs.Common.{◌<◌, ◌∙◌, ◌∷◌, ◌++◌, List, [], ap, sym, subst, length, arith}
 use Rattle.model.specs.Command.{Entry}
 use Rattle.model.specs.History.{Chronicle, replay}
 use Rattle.publications.specs.Histories.{opening_base, newest, IsNewest}
 use Rattle.updating.specs.State.{entries_after}
-use Rattle.updating.proofs.Published.{applied, longer, is_newest, drafts_told, drafts_newest}
+use Rattle.updating.proofs.Published.{applied, longer, is_newest, drafts_told, drafts_published, one_more}
 use Rattle.updating.proofs.publication.publish.Goals as goal
 
 pub publish-requires-clause-longer : goal.publish-requires-clause-longer
@@ -29,9 +29,13 @@ returns-clause-drafts g c =
     drafts_told c.new-found.result v c.place.result (newest current) (entries_after current c.args.jobs.now) c.in_ok-drafts.drafts.items
     c.in_ok-drafts.ensures (ap (λ (k : Chronicle). k.entries) made) (c.place.ensures.place ∙ ap (λ (k : Chronicle). length k.entries) c.version-latest.ensures.newest)
 
-pub returns-clause-newest : goal.returns-clause-newest
-returns-clause-newest g c =
+pub returns-clause-published : goal.returns-clause-published
+returns-clause-published g c =
     let v = c.in_ok-version.version in
-    let made = applied v c.version-latest.result.now c.args.current.now c.args.jobs.now c.in_ok-version.ensures.all c.version-latest.ensures.newest in
-    drafts_newest c.new-found.result v c.place.result c.in_ok-drafts.drafts.items c.in_ok-drafts.ensures
+    let current = c.args.current.now in
+    let made = applied v c.version-latest.result.now current c.args.jobs.now c.in_ok-version.ensures.all c.version-latest.ensures.newest in
+    drafts_published c.new-found.result v c.place.result c.in_ok-drafts.drafts.items c.in_ok-drafts.ensures
     (subst (IsNewest v) (sym c.new-found.ensures.front) (is_newest v c.again-front.result c.publish.new.self (ap (λ (k : Chronicle). k.base) made) c.if-not-publish.ensures.published))
+    (one_more c.new-found.result current v.entries c.place.result
+    (c.new-found.ensures.front ∙ c.if-not-publish.ensures.published ∙ ap (λ (l : List (List Entry)). l ++ v.entries ∷ []) (c.again-front.ensures.same ∙ c.front.ensures.front))
+    (omega (arith, c.publication-count.ensures.few, c.place.ensures.place, ap (λ (k : Chronicle). length k.entries) c.version-latest.ensures.newest)))

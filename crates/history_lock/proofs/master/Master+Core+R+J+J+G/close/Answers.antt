@@ -1,4 +1,4 @@
-use Rattle.std.proofs.Common.{◌≡◌, ap, sym, ◌∙◌, subst, [], List, map, filter}
+use Rattle.std.proofs.Common.{ap, sym, ◌∙◌, subst, [], List, map, filter}
 use Rattle.std.specs.List.{All}
 use mathlib.Core.List.{IsPrefix}
 use Rattle.publications.specs.Histories.{newest}

@@ -36,5 +36,5 @@ returns-clause-receipt g c =
     seat_is
     count
     c.publication-publication.ensures.count
-    (omega (arith, c.publication-publication.ensures.count, c.if-publication-place.false))
+    (omega (arith, c.publication-publication.ensures.count, parts.counted))
     c.keep.ensures

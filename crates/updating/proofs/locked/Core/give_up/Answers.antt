@@ -1,8 +1,9 @@
-use Rattle.std.proofs.Common.{subst, sym, arith}
+use Rattle.std.proofs.Common.{rules, subst, sym, arith}
 use Rattle.model.specs.History.{replay}
 use Rattle.publications.specs.Histories.{opening_base, newest}
 use Rattle.updater.specs.Batches.{MayFollow}
 use Rattle.updating.proofs.Slots.{length-given_up}
+use Rattle.updating.proofs.Worlds.{give_up_is_event}
 use Rattle.updating.proofs.locked.Core.give_up.Goals as goal
 
 pub invariant_of-self : goal.invariant_of-self
@@ -13,3 +14,6 @@ invariant_of-self g c =
       omega (arith, old.2, length-given_up _ _ _ c.self.inside.outcomes.items c.give_up_all.new.outcomes.items c.give_up_all.ensures),
       subst (MayFollow (replay opening_base (newest c.self.inside.current))) (sym c.clear.ensures.items) tt,
     )
+
+pub returns-clause-event : goal.returns-clause-event
+returns-clause-event g c = give_up_is_event g.J.Opening.max_places c.args.self.now _ (search rules)

@@ -1,7 +1,8 @@
-use Rattle.std.proofs.Common.{subst, sym, arith}
+use Rattle.std.proofs.Common.{rules, refl, subst, sym, arith}
 use Rattle.model.specs.History.{replay}
 use Rattle.publications.specs.Histories.{opening_base, newest}
 use Rattle.updater.specs.Batches.{MayFollow}
+use Rattle.updating.proofs.Worlds.{put_is_event, put_nothing_is_event}
 use Rattle.updating.proofs.locked.Core.put.Goals as goal
 
 pub invariant_of-self : goal.invariant_of-self
@@ -12,3 +13,9 @@ invariant_of-self g c =
       omega (arith, old.2, c.answer_all.ensures.count),
       subst (MayFollow (replay opening_base (newest c.put_in_place.new.current))) (sym c.clear.ensures.items) tt,
     )
+
+pub returns-clause-event : goal.returns-clause-event
+returns-clause-event g c = put_is_event g.J.Opening.max_places c.args.self.now _ (search rules)
+
+pub returns-then-is_empty-clause-event : goal.returns-then-is_empty-clause-event
+returns-then-is_empty-clause-event g c = put_nothing_is_event g.J.Opening.max_places c.args.self.now c.args.self.now (search rules) refl

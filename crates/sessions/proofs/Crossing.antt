@@ -1,0 +1,30 @@
+-- What may cross threads: a session, as its gate may, and the runtime of what the updater holds.
+use denote.RattleType.{RattleType}
+use denote.Param.Send.{IsSend, IsSync}
+use Rattle.publications.proofs.Crossing as publications
+use Rattle.publications.specs.declared.front.Naming as Naming
+use Rattle.sessions.specs.contracts.session.Session as Session
+use Rattle.sessions.specs.contracts.shared.Shared as Shared
+use Rattle.snapshots.proofs.Crossing as versions
+use Rattle.turns.proofs.Crossing as turns
+use Rattle.turns.specs.declared.line.Queued as Queued
+use Rattle.updating.proofs.Crossing.{core-send}
+use Rattle.updating.specs.contracts.locked.Core as Core
+use Rattle.updating.specs.declared.naming.Opening as Opening
+
+ruleset parts = (publications.crosses, turns.crosses, versions.crosses)
+
+module _ (J : RattleType) (q : Queued.Ghosts J.Denot) (o : Opening.Ghosts J.Denot) (n : Naming.Ghosts J.Denot) where
+  module _ (C G : RattleType) where
+    shared-send : IsSend C → IsSend G → IsSend (Shared.the_row C J G q)
+    shared-send c g = search parts depth 60
+
+    shared-sync : IsSend C → IsSync G → IsSync (Shared.the_row C J G q)
+    shared-sync c g = search parts depth 60
+
+    over-send : IsSend C → IsSend G → IsSync G → IsSend (Session.the_row C J G q o n)
+    over-send c g h = search (shared-send, shared-sync, parts) depth 60
+
+  -- A search finds it soon where J and what follows it are given.
+  pub session-send : (R G : RattleType) → IsSend R → IsSend G → IsSync G → IsSend (Session.the_row (Core.the_row R J n o q) J G q o n)
+  session-send R G r g h = over-send (Core.the_row R J n o q) G (core-send J q o n R r) g h

@@ -1,0 +1,51 @@
+//! Runs of sessions on threads, whose times and requests for memory are taken from outside.
+//!
+//! `thread_runs write` has the one session of a database write a document, and once more where memory
+//! was refused; it prints what each write was answered. `thread_runs looks THREADS TIMES` has as many
+//! threads look so often each at a document, each time with a snapshot of its own, `refreshes` without,
+//! and `thread_runs writes SESSIONS GATHER TIMES` has as many threads
+//! write so many documents each, of which so many may be one publication. The last line is how many
+//! entries the history has in the end. The status is 1 where memory was refused before a session
+//! wrote, and 2 for other words.
+#![tactic(auto)]
+
+use crate::run::{Outcome, run};
+use crate::work::Told;
+use std::process::ExitCode;
+use std::{env, io};
+
+mod plan;
+mod run;
+mod work;
+
+/// The status of a run that was refused memory.
+const REFUSED: u8 = 1;
+
+const UNREADABLE_WORDS: u8 = 2;
+
+/// Prints what a write was answered.
+fn print(rt: &HostRuntime, told: Told) -> io::Result<()> {
+    match told {
+        Told::Receipt { call, place } => println!(rt; "call {call} place {place}"),
+        Told::Fault { fault, place } => println!(rt; "{fault}, place {place}"),
+    }
+}
+
+fn print_all(rt: &HostRuntime, outcome: Outcome) -> io::Result<()> {
+    for told in outcome.told.into_iter().flatten() {
+        print(rt, told)?;
+    }
+    println!(rt; "{}", outcome.entries)
+}
+
+fn main(rt: HostRuntime) -> io::Result<ExitCode> {
+    let words: Vec<String> = env::args(&rt)?.collect(rt.alloc())?;
+    let Some(plan) = plan::read(words.as_slice()) else {
+        return Ok(ExitCode::from(UNREADABLE_WORDS));
+    };
+    let Some(outcome) = run(&rt, rt.alloc(), plan) else {
+        return Ok(ExitCode::from(REFUSED));
+    };
+    print_all(&rt, outcome)?;
+    Ok(ExitCode::SUCCESS)
+}

@@ -1,0 +1,60 @@
+//! What a run is to do.
+use commands::{Config, Limits};
+
+/// What the sessions do.
+#[derive(Debug, Clone, Copy, PartialEq, Eq)]
+pub(crate) enum Work {
+    /// One writes a document, and once more where memory was refused.
+    Write,
+    /// Each looks so often, with a snapshot of its own.
+    Looks(u32),
+    /// Each sees so often what is published.
+    Refreshes(u32),
+    /// Each writes so many documents.
+    Writes(u32),
+}
+
+/// A database, and what its sessions do.
+#[derive(Debug, Clone, Copy, Drop)]
+pub(crate) struct Plan {
+    pub(crate) config: Config,
+    pub(crate) work: Work,
+}
+
+/// What the words of the command line ask for.
+pub(crate) fn read(words: &[String]) -> Option<Plan> {
+    match words {
+        [_, name] if name.as_str() == "write" => of_numbers(1, 1, Work::Write),
+        [_, name, threads, times] if name.as_str() == "looks" => {
+            of_numbers(number(threads)?, 1, Work::Looks(times.parse().ok()?))
+        }
+        [_, name, threads, times] if name.as_str() == "refreshes" => {
+            of_numbers(number(threads)?, 1, Work::Refreshes(times.parse().ok()?))
+        }
+        [_, name, sessions, gather, times] if name.as_str() == "writes" => {
+            of_numbers(
+                number(sessions)?,
+                number(gather)?,
+                Work::Writes(times.parse().ok()?),
+            )
+        }
+        _ => None,
+    }
+}
+
+fn number(word: &String) -> Option<u16> {
+    word.parse().ok()
+}
+
+fn of_numbers(sessions: u16, gather: u16, work: Work) -> Option<Plan> {
+    let config = Config::new(Limits {
+        sessions,
+        queue: 64,
+        gather,
+        slice: 1,
+        slack: 0,
+        tries: 1,
+        max_places: u32::MAX,
+    })?;
+    Some(Plan { config, work })
+}

@@ -1,0 +1,104 @@
+//! A run: a database is opened, its sessions work on threads, and it is closed.
+ghost use Rattle.std.specs.Prelude.{◌≡◌};
+
+use crate::plan::{Plan, Work};
+use crate::work::{Told, look_often, refresh_often, write, write_all, write_twice};
+use history_lock::{Opened, open};
+use sessions::Session;
+use std::alloc::Global;
+use std::marker::Brand;
+use std::process::Abort;
+use std::sync::Wait;
+use std::thread;
+use std::thread::Threads;
+use updating::{Core, NoGate, Opening};
+
+/// What a run comes to.
+#[derive(Debug, Clone, Copy)]
+pub(crate) struct Outcome {
+    /// What a single write was answered, and what the next one was.
+    pub(crate) told: [Option<Told>; 2],
+    /// How many entries the history has.
+    pub(crate) entries: u64,
+}
+
+/// Does what the plan says, if memory is not refused before.
+pub(crate) fn run<R: Threads + Wait + Abort + Sync>(
+    rt: &R,
+    alloc: Global,
+    plan: Plan,
+) -> Option<Outcome> {
+    let Ok(opened) = Opened::new(alloc, plan.config) else {
+        return None;
+    };
+    worked::<Brand, _>(rt, alloc, opened, plan.work)
+}
+
+fn worked<J: Opening + Send + Sync, R: Threads + Wait + Abort + Sync>(
+    rt: &R,
+    alloc: Global,
+    opened: Opened,
+    work: Work,
+) -> Option<Outcome>
+    requires book { opened.book ≡ J.book }
+    requires table { opened.queue.table ≡ J.table }
+    requires capacity { opened.queue.capacity ≡ J.capacity }
+    requires sessions { opened.queue.sessions ≡ J.sessions }
+    requires max_places { opened.max_places ≡ J.max_places }
+{
+    let Ok((master, mut sessions)) = open::<&R, J, NoGate>(rt, opened, NoGate) else {
+        return None;
+    };
+    let told = all_work(rt, alloc, sessions.as_mut_slice(), work);
+    let closed = master.close(sessions, rt);
+    Some(Outcome {
+        told: told?,
+        entries: closed.version().place(),
+    })
+}
+
+/// Has each session do its work, on a thread of its own where it is more than a write.
+fn all_work<J: Opening + Send + Sync, R: Threads + Wait + Sync>(
+    rt: &R,
+    alloc: Global,
+    sessions: &mut [Session<Core<&R, J>, J, NoGate>],
+    work: Work,
+) -> Option<[Option<Told>; 2]> {
+    let count = sessions.len();
+    match work {
+        Work::Write => return write_twice(rt, alloc, sessions.first_mut()?),
+        Work::Looks(times) => {
+            write(rt, alloc, sessions.first_mut()?, "a")?;
+            thread::for_each_mut(
+                rt,
+                sessions,
+                count.max(1),
+                &|_index, session| {
+                    look_often(session, times);
+                },
+            );
+        }
+        Work::Refreshes(times) => {
+            write(rt, alloc, sessions.first_mut()?, "a")?;
+            thread::for_each_mut(
+                rt,
+                sessions,
+                count.max(1),
+                &|_index, session| {
+                    refresh_often(session, times);
+                },
+            );
+        }
+        Work::Writes(times) => {
+            thread::for_each_mut(
+                rt,
+                sessions,
+                count.max(1),
+                &|index, session| {
+                    let _all = write_all(rt, alloc, session, index, times);
+                },
+            );
+        }
+    }
+    Some([None, None])
+}

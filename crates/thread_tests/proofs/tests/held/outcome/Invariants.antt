@@ -1,0 +1,11 @@
+use Rattle.thread_tests.proofs.tests.held.outcome.Given as goal
+
+-- the database that was just opened
+abbrev pub ghosts-run-J-Naming : goal.ghosts-run-J-Naming
+ghosts-run-J-Naming g a = record { book = a.opened.book }
+
+abbrev pub ghosts-run-J-Queued : goal.ghosts-run-J-Queued
+ghosts-run-J-Queued g a = record { table = a.opened.queue.table; capacity = a.opened.queue.capacity; sessions = a.opened.queue.sessions }
+
+abbrev pub ghosts-run-J-Opening : goal.ghosts-run-J-Opening
+ghosts-run-J-Opening g a = record { max_places = a.opened.max_places }

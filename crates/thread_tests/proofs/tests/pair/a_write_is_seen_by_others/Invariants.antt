@@ -1,0 +1,11 @@
+use Rattle.thread_tests.proofs.tests.pair.a_write_is_seen_by_others.Given as goal
+
+-- the database that was just opened
+abbrev pub ghosts-writes_and_meets-J-Naming : goal.ghosts-writes_and_meets-J-Naming
+ghosts-writes_and_meets-J-Naming g a = record { book = a.opened.book }
+
+abbrev pub ghosts-writes_and_meets-J-Queued : goal.ghosts-writes_and_meets-J-Queued
+ghosts-writes_and_meets-J-Queued g a = record { table = a.opened.queue.table; capacity = a.opened.queue.capacity; sessions = a.opened.queue.sessions }
+
+abbrev pub ghosts-writes_and_meets-J-Opening : goal.ghosts-writes_and_meets-J-Opening
+ghosts-writes_and_meets-J-Opening g a = record { max_places = a.opened.max_places }

@@ -1,0 +1,5 @@
+#![tactic(auto)]
+//! Tests of sessions on threads.
+
+#[cfg(test)]
+mod tests;

@@ -1,0 +1,52 @@
+// Sessions over one opened database.
+mod held;
+mod pair;
+mod soak;
+
+use commands::{Command, Edit, Limits, ReplyKind};
+use document_id::DocId;
+use json_profile::Body;
+use revision_id::RevId;
+use std::alloc::Global;
+use std::sync::Arc;
+
+/// The revision of a document's first edit, with the body `{}`.
+const FIRST: &str = "1-b7a5841aeb59f1be5d0e27b640827094";
+
+/// Of two sessions.
+const LIMITS: Limits = Limits {
+    sessions: 2,
+    queue: 4,
+    gather: 4,
+    slice: 1,
+    slack: 0,
+    tries: 1,
+    max_places: 100,
+};
+
+/// The first edit of the document of an id, with the body `{}`.
+fn put(alloc: Global, id: &str) -> Option<Command> {
+    edit(alloc, DocId::new(alloc, id).ok()?, None)
+}
+
+/// An edit over the revision that is named, with the body `{}`.
+fn edit(alloc: Global, id: DocId, named: Option<RevId>) -> Option<Command> {
+    let edit = Edit {
+        id,
+        named,
+        deleted: false,
+        body: Arc::new(alloc, Body::empty(alloc)).ok()?,
+    };
+    Command::edits(Vec::from_array(alloc, [edit]).ok()?)
+}
+
+/// The revision that a command of one write is answered.
+fn revision(reply: &ReplyKind) -> Option<RevId> {
+    let ReplyKind::Wrote(writes) = reply else {
+        return None;
+    };
+    match writes.first()? {
+        Ok(revision) => Some(*revision),
+        Err(_refusal) => None,
+    }
+}

@@ -1,0 +1,153 @@
+// Many threads that write and look for a while.
+ghost use Rattle.std.specs.Prelude.{◌≡◌};
+
+use crate::tests::{LIMITS, edit, revision};
+use commands::{Command, Config, Entry, Limits, Seat};
+use document_id::DocId;
+use history_lock::{Opened, open};
+use revision_id::RevId;
+use sessions::{Receipt, Session};
+use snapshots::Version;
+use std::alloc::Global;
+use std::marker::Brand;
+use std::process::Abort;
+use std::sync::Wait;
+use std::sync::atomic::{AtomicU64, Ordering};
+use std::test::*;
+use std::thread;
+use std::thread::Threads;
+use updating::{Core, Gate, NoGate, Opening};
+
+const SESSIONS: u16 = 16;
+
+/// How often each session writes.
+const WRITES: usize = 1000;
+
+/// How many writes there are.
+const ALL: u64 = 16_000;
+
+const DOCUMENTS: [&str; 20] = [
+    "a", "b", "c", "d", "e", "f", "g", "h", "i", "j", "k", "l", "m", "n", "o", "p", "q", "r", "s",
+    "t",
+];
+
+/// The revision to write over, which wins in the version.
+fn winner(version: &Version, id: &DocId) -> Option<RevId> {
+    Some(version.record(id)?.tree().winner().rev)
+}
+
+/// An edit of a document over what wins in the version.
+fn next_edit(alloc: Global, version: &Version, turn: usize) -> Option<Command> {
+    let id = DocId::new(alloc, DOCUMENTS.get(turn % DOCUMENTS.len())?).ok()?;
+    let named = winner(version, &id);
+    edit(alloc, id, named)
+}
+
+/// Whether the entry is that of the receipt.
+fn is_of(entry: &Entry, receipt: &Receipt) -> bool {
+    entry.seat.session() == receipt.seat.session()
+        && entry.seat.call() == receipt.seat.call()
+        && revision(entry.reply.kind()) == revision(receipt.reply.kind())
+}
+
+/// A session looks and writes over what it saw. Whether it then sees the entry of its receipt.
+fn turn<R: Wait, C: Wait + Drop, J: Opening, G: Gate + Drop>(
+    rt: &R,
+    alloc: Global,
+    session: &mut Session<Core<C, J>, J, G>,
+    number: usize,
+) -> Option<bool> {
+    let command = next_edit(alloc, session.look().ok()?.version(), number)?;
+    let receipt = session.write(rt, command).ok()?;
+    let snapshot = session.look().ok()?;
+    Some(is_of(snapshot.version().entry(receipt.place)?, &receipt))
+}
+
+/// All turns of a session, which start at a document of its own.
+fn turns<R: Wait, C: Wait + Drop, J: Opening, G: Gate + Drop>(
+    rt: &R,
+    alloc: Global,
+    right: &AtomicU64,
+    index: usize,
+    session: &mut Session<Core<C, J>, J, G>,
+) {
+    for number in 0..WRITES {
+        if turn(rt, alloc, session, number.wrapping_add(index)) == Some(true) {
+            right.fetch_add(1, Ordering::SeqCst);
+        }
+    }
+}
+
+/// The version after the entry's command, where it is answered the same.
+fn acted_again(version: &Version, entry: &Entry) -> Option<Version> {
+    let place = version.place();
+    if place >= ALL {
+        return None;
+    }
+    let session = entry.seat.session();
+    let seat = Seat::new(session, version.next_call(session))?;
+    let next = version.act(seat, &entry.command).ok()?;
+    let again = next.entry(place + 1)?;
+    if entry.seat.call() != seat.call()
+        || revision(again.reply.kind()) != revision(entry.reply.kind())
+    {
+        return None;
+    }
+    Some(next)
+}
+
+/// How many entries there are, where all commands are answered the same one after another.
+fn replayed(alloc: Global, version: &Version) -> Option<u64> {
+    let mut again = Version::empty(alloc);
+    for place in 0..version.place() {
+        again = acted_again(&again, version.entry(place + 1)?)?;
+    }
+    Some(again.place())
+}
+
+/// How many receipts were right, and how many entries are replayed.
+fn soaked<J: Opening + Send + Sync, R: Threads + Wait + Sync>(
+    rt: &R,
+    alloc: Global,
+    opened: Opened,
+) -> Option<(u64, u64)>
+    requires book { opened.book ≡ J.book }
+    requires table { opened.queue.table ≡ J.table }
+    requires capacity { opened.queue.capacity ≡ J.capacity }
+    requires sessions { opened.queue.sessions ≡ J.sessions }
+    requires max_places { opened.max_places ≡ J.max_places }
+{
+    let right = AtomicU64::new(0);
+    let Ok((master, mut sessions)) = open::<&R, J, NoGate>(rt, opened, NoGate) else {
+        return None;
+    };
+    thread::for_each_mut(
+        rt,
+        sessions.as_mut_slice(),
+        SESSIONS as usize,
+        &|index, session| turns(rt, alloc, &right, index, session),
+    );
+    let closed = master.close(sessions, rt);
+    if !closed.lost().is_empty() {
+        return None;
+    }
+    let entries = replayed(alloc, closed.version())?;
+    Some((right.load(Ordering::SeqCst), entries))
+}
+
+#[test]
+fn each_receipt_is_told_once(rt: HostRuntime) -> Result<(), Fail> {
+    let limits = Limits {
+        sessions: SESSIONS,
+        queue: SESSIONS,
+        max_places: 20_000,
+        ..LIMITS
+    };
+    let config = Config::new(limits).ok_or("limits")?;
+    let opened = Opened::new(rt.alloc(), config)?;
+    assert_eq!(rt;
+        soaked::<Brand, _>(&rt, rt.alloc(), opened),
+        Some((ALL, ALL))
+    );
+    Ok(())
+}

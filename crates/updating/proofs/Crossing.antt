@@ -1,0 +1,29 @@
+-- What may cross threads: what the updater holds.
+use denote.RattleType.{RattleType}
+use denote.Param.Send.{IsSend, sendable}
+use Rattle.commands.proofs.Crossing as commands
+use Rattle.publications.proofs.Crossing as publications
+use Rattle.publications.specs.declared.front.Naming as Naming
+use Rattle.std.proofs.Crossing as std
+use Rattle.turns.proofs.Crossing as turns
+use Rattle.turns.specs.declared.line.Queued as Queued
+use Rattle.updating.specs.contracts.answer.Answer as Answer
+use Rattle.updating.specs.contracts.answer.Filled as Filled
+use Rattle.updating.specs.contracts.locked.Core as Core
+use Rattle.updating.specs.contracts.outcome.Outcome as Outcome
+use Rattle.updating.specs.declared.naming.Opening as Opening
+
+ruleset parts = (commands.crosses, publications.crosses, turns.crosses, std.crosses, sendable)
+
+module _ (J : RattleType) (q : Queued.Ghosts J.Denot) (o : Opening.Ghosts J.Denot) (n : Naming.Ghosts J.Denot) where
+  answer-send : IsSend (Answer.the_row J n)
+  answer-send = search parts depth 60
+
+  filled-send : IsSend (Filled.the_row J o n q)
+  filled-send = search parts depth 60
+
+  outcome-send : IsSend (Outcome.the_row J o n q)
+  outcome-send = search (answer-send, filled-send, parts) depth 60
+
+  pub core-send : (R : RattleType) → IsSend R → IsSend (Core.the_row R J n o q)
+  core-send R r = search (outcome-send, parts) depth 60
