@@ -1,6 +1,7 @@
 -- What may cross threads: a session, as its gate may, and the runtime of what the updater holds.
 use denote.RattleType.{RattleType}
 use denote.Param.Send.{IsSend, IsSync}
+use Rattle.crossbeam_utils.proofs.cache_padded.CachePadded.TheSendSync as CachePadded
 use Rattle.publications.proofs.Crossing as publications
 use Rattle.publications.specs.declared.front.Naming as Naming
 use Rattle.sessions.specs.contracts.session.Session as Session
@@ -12,7 +13,7 @@ use Rattle.updating.proofs.Crossing.{core-send}
 use Rattle.updating.specs.contracts.locked.Core as Core
 use Rattle.updating.specs.declared.naming.Opening as Opening
 
-ruleset parts = (publications.crosses, turns.crosses, versions.crosses)
+ruleset parts = (CachePadded.the_field_send, publications.crosses, turns.crosses, versions.crosses)
 
 module _ (J : RattleType) (q : Queued.Ghosts J.Denot) (o : Opening.Ghosts J.Denot) (n : Naming.Ghosts J.Denot) where
   module _ (C G : RattleType) where

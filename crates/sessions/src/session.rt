@@ -10,6 +10,7 @@ ghost use Rattle.sessions.specs.declared.fault.Fault.TheVariants as fault;
 use crate::fault::Fault;
 use crate::shared::Shared;
 use crate::snapshot::Snapshot;
+use crossbeam_utils::CachePadded;
 use publications::{Front, Lens, Published};
 use snapshots::Version;
 use std::alloc::{AllocError, Global};
@@ -31,7 +32,8 @@ pub struct Session<C: Drop, J: Opening, G: Drop> {
     /// The publications up to its last receipt.
     pub(crate) receipted: Front<J>,
     pub(crate) latest: Published<J>,
-    pub(crate) reader: Lens<J>,
+    /// Each look writes to it, and other sessions may lie beside this one.
+    pub(crate) reader: CachePadded<Lens<J>>,
     pub(crate) ticket: Ticket<J>,
     pub(crate) shared: Arc<Shared<C, J, G>, Global>,
 }
@@ -74,7 +76,7 @@ impl<C: Drop, J: Opening, G: Drop> Session<C, J, G> {
             lost: false,
             receipted: latest.front().again(),
             latest,
-            reader,
+            reader: CachePadded::new(reader),
             ticket,
             shared,
         }

@@ -7,7 +7,6 @@ use history_lock::{Opened, open};
 use sessions::Session;
 use std::alloc::Global;
 use std::marker::Brand;
-use std::process::Abort;
 use std::sync::Wait;
 use std::thread;
 use std::thread::Threads;
@@ -23,18 +22,14 @@ pub(crate) struct Outcome {
 }
 
 /// Does what the plan says, if memory is not refused before.
-pub(crate) fn run<R: Threads + Wait + Abort + Sync>(
-    rt: &R,
-    alloc: Global,
-    plan: Plan,
-) -> Option<Outcome> {
+pub(crate) fn run<R: Threads + Wait + Sync>(rt: &R, alloc: Global, plan: Plan) -> Option<Outcome> {
     let Ok(opened) = Opened::new(alloc, plan.config) else {
         return None;
     };
     worked::<Brand, _>(rt, alloc, opened, plan.work)
 }
 
-fn worked<J: Opening + Send + Sync, R: Threads + Wait + Abort + Sync>(
+fn worked<J: Opening + Send + Sync, R: Threads + Wait + Sync>(
     rt: &R,
     alloc: Global,
     opened: Opened,
@@ -57,48 +52,47 @@ fn worked<J: Opening + Send + Sync, R: Threads + Wait + Abort + Sync>(
     })
 }
 
-/// Has each session do its work, on a thread of its own where it is more than a write.
+/// Has each session do its part of the work, on a thread of its own where it is more than a write.
 fn all_work<J: Opening + Send + Sync, R: Threads + Wait + Sync>(
     rt: &R,
     alloc: Global,
     sessions: &mut [Session<Core<&R, J>, J, NoGate>],
     work: Work,
 ) -> Option<[Option<Told>; 2]> {
-    let count = sessions.len();
+    let first = sessions.first_mut()?;
     match work {
-        Work::Write => return write_twice(rt, alloc, sessions.first_mut()?),
-        Work::Looks(times) => {
-            write(rt, alloc, sessions.first_mut()?, "a")?;
-            thread::for_each_mut(
-                rt,
-                sessions,
-                count.max(1),
-                &|_index, session| {
-                    look_often(session, times);
-                },
-            );
+        Work::Write => return write_twice(rt, alloc, first),
+        Work::Looks(_) | Work::Refreshes(_) => {
+            write(rt, alloc, first, "a")?;
         }
-        Work::Refreshes(times) => {
-            write(rt, alloc, sessions.first_mut()?, "a")?;
-            thread::for_each_mut(
-                rt,
-                sessions,
-                count.max(1),
-                &|_index, session| {
-                    refresh_often(session, times);
-                },
-            );
-        }
+        Work::Writes(_) => {}
+    }
+    let threads = sessions.len().max(1);
+    thread::for_each_mut(
+        rt,
+        sessions,
+        threads,
+        &|index, session| {
+            part_of(rt, alloc, session, index, work);
+        },
+    );
+    Some([None, None])
+}
+
+/// Does the part of one session.
+fn part_of<R: Wait, C: Wait + Drop, J: Opening>(
+    rt: &R,
+    alloc: Global,
+    session: &mut Session<Core<C, J>, J, NoGate>,
+    index: usize,
+    work: Work,
+) {
+    match work {
+        Work::Write => {}
+        Work::Looks(times) => look_often(session, times),
+        Work::Refreshes(times) => refresh_often(session, times),
         Work::Writes(times) => {
-            thread::for_each_mut(
-                rt,
-                sessions,
-                count.max(1),
-                &|index, session| {
-                    let _all = write_all(rt, alloc, session, index, times);
-                },
-            );
+            let _all = write_all(rt, alloc, session, index, times);
         }
     }
-    Some([None, None])
 }

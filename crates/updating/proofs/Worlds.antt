@@ -1,29 +1,16 @@
 -- What the updater does is what the model's events do.
-use Rattle.std.proofs.Common.{◌≡◌, ℕ, ◌+◌, ◌<◌, ◌≤◌, Bool, List, [], ◌∷◌, ◌++◌, length, refl, ap, sym, ◌∙◌, arith, append_assoc}
+use Rattle.std.proofs.Common.{◌≡◌, ℕ, ◌+◌, ◌<◌, ◌≤◌, Bool, List, [], ◌∷◌, ◌++◌, length, refl, ap, sym, ◌∙◌, arith}
 use Rattle.std.specs.Prelude.{◌&&◌, nat_lt, nat_le}
 use Rattle.std.proofs.lemmas.Bool.{cond-true, cond-false, lt-ltb, le-leb}
 use Rattle.model.specs.Command.{Entry, Job}
-use Rattle.model.specs.Database.{Database, act}
-use Rattle.model.specs.History.{replay, entry_of, batch_entries}
-use Rattle.model.specs.World.{Config, World, Put, GiveUp, commit, commit_all, put_batch, step}
-use Rattle.model.proofs.HistoryLaws.{replay-push}
+use Rattle.model.specs.Database.{Database}
+use Rattle.model.specs.History.{replay, batch_entries}
+use Rattle.model.specs.World.{Config, World, Put, GiveUp, put_batch, step}
+use Rattle.model.proofs.EntryLaws.{put_adds}
 use Rattle.publications.specs.Histories.{newest, opening_base}
 use Rattle.publications.proofs.Growing.{newest_after-append}
 use Rattle.updating.specs.State.{State, Puts, GivesUpBatch, entries_after}
 use Rattle.updating.specs.Worlds.{IsEvent}
-
-append-none : {X : Type 0} (xs : List X) → xs ++ [] ≡ xs
-append-none [] = refl
-append-none (x ∷ xs) = ap (λ l. x ∷ l) (append-none xs)
-
--- jobs that are committed one after another add their entries
-committed : (base : Database) (w : World) (js : List Job) → (commit_all base w js).history ≡ w.history ++ batch_entries (replay base w.history) js
-committed base w [] = sym (append-none w.history)
-committed base w (j ∷ js) =
-    let e = entry_of (replay base w.history) j.seat j.command in
-    committed base (commit base w j) js
-    ∙ ap (λ (d : Database). (w.history ++ e ∷ []) ++ batch_entries d js) (replay-push base w.history e)
-    ∙ append_assoc w.history (e ∷ []) (batch_entries (act (replay base w.history) j.seat j.command) js)
 
 -- a batch that is not empty and leaves no place missing
 step-put : (base : Database) (c : Config) (w : World) → 0 < length w.batch → length w.history + length w.batch ≤ c.max_places → step base c w Put ≡ put_batch base w
@@ -46,15 +33,16 @@ step-give_up base c w = of w.batch refl
 -- what was put is what the model's event puts
 pub put_is_event : (max : ℕ) (old new : State) → Puts max old new → IsEvent Put max old new
 put_is_event max old new p c w most is =
-    let stepped = step-put opening_base c w (omega (arith, p.some, ap length is.batch)) (omega (arith, p.room, most, ap length is.history, ap length is.batch)) in
+    let some : 0 < length w.batch = omega (arith, p.some, ap length is.batch) in
+    let room : length w.history + length w.batch ≤ c.max_places = omega (arith, p.room, most, ap length is.history, ap length is.batch) in
     record {
       history =
-          ap (λ (u : World). u.history) stepped ∙ committed opening_base w w.batch
+          put_adds opening_base c w some room
           ∙ ap (λ (h : List Entry). h ++ batch_entries (replay opening_base h) w.batch) is.history
           ∙ ap (λ (js : List Job). newest old.published ++ entries_after old.published js) is.batch
           ∙ sym (newest_after-append [] old.published ((newest old.published ++ entries_after old.published old.batch) ∷ []))
           ∙ ap (λ (s : State). newest s.published) (sym p.put);
-      batch = ap (λ (u : World). u.batch) stepped ∙ ap (λ (s : State). s.batch) (sym p.put);
+      batch = ap (λ (u : World). u.batch) (step-put opening_base c w some room) ∙ ap (λ (s : State). s.batch) (sym p.put);
     }
 
 -- nothing is put of an empty batch

@@ -13,13 +13,15 @@ use std::sync::Wait;
 use std::test::*;
 use updating::{Core, NoGate, Opening};
 
-/// What a receipt told, and how many entries the other session then saw and both met at.
+/// What the first receipt told, and how many entries the other session saw after each write and both
+/// met at.
 #[derive(Debug, Clone, Copy, PartialEq, Eq)]
 struct Told {
     place: u64,
     publication: u64,
     revision: Option<RevId>,
     looked: u64,
+    refreshed: u64,
     met: u64,
 }
 
@@ -27,15 +29,17 @@ struct Told {
 fn a_write_is_seen_by_others(rt: HostRuntime) -> Result<(), Fail> {
     let alloc = rt.alloc();
     let config = Config::new(LIMITS).ok_or("limits")?;
-    let command = put(alloc, "a").ok_or("memory")?;
-    writes_and_meets::<Brand, _>(&rt, Opened::new(alloc, config)?, command)
+    let first = put(alloc, "a").ok_or("memory")?;
+    let second = put(alloc, "b").ok_or("memory")?;
+    writes_and_meets::<Brand, _>(&rt, Opened::new(alloc, config)?, first, second)
 }
 
-/// Has one session write and the other look, and closes the database.
+/// Has one session write and the other look and refresh, and closes the database.
 fn writes_and_meets<J: Opening, R: Wait + Abort>(
     rt: &R,
     opened: Opened,
-    command: Command,
+    first: Command,
+    second: Command,
 ) -> Result<(), Fail>
     requires book { opened.book ≡ J.book }
     requires table { opened.queue.table ≡ J.table }
@@ -46,9 +50,9 @@ fn writes_and_meets<J: Opening, R: Wait + Abort>(
     let Ok((master, mut sessions)) = open::<&R, J, NoGate>(rt, opened, NoGate) else {
         return Err(Fail::from("open"));
     };
-    let told = told_to_both(rt, sessions.as_mut_slice(), command);
+    let told = told_to_both(rt, sessions.as_mut_slice(), first, second);
     let closed = master.close(sessions, rt);
-    assert_eq!(rt; closed.version().place(), 1);
+    assert_eq!(rt; closed.version().place(), 2);
     assert!(rt; closed.lost().is_empty());
     drop(closed);
     let expected = Told {
@@ -56,28 +60,34 @@ fn writes_and_meets<J: Opening, R: Wait + Abort>(
         publication: 1,
         revision: RevId::parse(FIRST).ok(),
         looked: 1,
-        met: 1,
+        refreshed: 2,
+        met: 2,
     };
     assert_eq!(rt; told, Some(expected));
     Ok(())
 }
 
-/// One session writes, another looks, and they meet.
+/// One session writes twice, another looks and then refreshes, and they meet.
 fn told_to_both<J: Opening, R: Wait>(
     rt: &R,
     sessions: &mut [Session<Core<&R, J>, J, NoGate>],
-    command: Command,
+    first: Command,
+    second: Command,
 ) -> Option<Told> {
     let (zero, others) = sessions.split_first_mut()?;
     let one = others.first_mut()?;
-    let receipt = zero.write(rt, command).ok()?;
+    let receipt = zero.write(rt, first).ok()?;
     let looked = one.look().ok()?.place();
+    zero.write(rt, second).ok()?;
+    one.refresh().ok()?;
+    let refreshed = one.version().place();
     let met = zero.meet(one).ok()?;
     Some(Told {
         place: receipt.place,
         publication: receipt.publication,
         revision: revision(receipt.reply.kind()),
         looked,
+        refreshed,
         met,
     })
 }

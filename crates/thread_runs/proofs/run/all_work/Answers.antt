@@ -5,9 +5,3 @@ use Rattle.thread_runs.proofs.run.all_work.Goals as goal
 
 pub for_each_mut-requires-send-T : goal.for_each_mut-requires-send-T
 for_each_mut-requires-send-T g c κs within = search (session-send (param 0 g.row.J) g.J.Queued g.J.Opening g.J.Naming, sendable) depth 20
-
-pub for_each_mut-requires-in-Writes-send-T : goal.for_each_mut-requires-in-Writes-send-T
-for_each_mut-requires-in-Writes-send-T g c κs within = search (session-send (param 0 g.row.J) g.J.Queued g.J.Opening g.J.Naming, sendable) depth 20
-
-pub for_each_mut-requires-in-Refreshes-send-T : goal.for_each_mut-requires-in-Refreshes-send-T
-for_each_mut-requires-in-Refreshes-send-T g c κs within = search (session-send (param 0 g.row.J) g.J.Queued g.J.Opening g.J.Naming, sendable) depth 20
