@@ -38,7 +38,7 @@ def edits(count):
     return b"".join(found)
 
 
-def inputs(stage):
+def inputs():
     get = request("GET", "/db/a")
     yield "the largest body", request("PUT", "/db/a", filled(b"{", b" ", b"}")) + get
     yield "the largest text", request("PUT", "/db/a", filled(b'{"t":"', b"\xc3\xa9", b'"}')) + get
@@ -47,15 +47,13 @@ def inputs(stage):
     yield "a body that is too large", request("PUT", "/db/a", b" " * (BODY + 1)) + get
     yield "the longest number", request("PUT", "/db/a", filled(b'{"n":', b"9", b"}")) + get
     yield "many requests", request("PUT", "/db/a", {}) + get * 3000
-    if stage >= 2:
-        yield "a path past the limit", bulk(1, 1200) + bulk(1, 1200) + request("GET", "/db/d0?conflicts=true")
-        yield "many conflicts of one document", merges(300) + request("GET", "/db/d?conflicts=true")
-        yield "many edits of one document", edits(1100) + request("POST", "/db/_revs_diff", {"e": ["1-" + "a" * 32, "1200-" + "a" * 32]})
-        yield "the largest bulk", bulk(7000, 2) + request("GET", "/db/d7")
-        ordinary = json.dumps({"docs": [{"_id": "d%d" % (n // 2)} for n in range(10000)]}, separators=(",", ":"))
-        yield "a bulk of conflicts", request("POST", "/db/_bulk_docs", ordinary)
-        asked = json.dumps({"d%d" % n: ["1-" + "a" * 32] for n in range(15000)}, separators=(",", ":"))
-        yield "the largest difference", request("POST", "/db/_revs_diff", asked)
-    if stage >= 3:
-        yield "many changes", bulk(7000, 1) + request("GET", "/db/_changes") + request("GET", "/db/_all_docs") + request("GET", "/db/_changes?since=3500&limit=10")
-        yield "a long path shown", edits(20) + request("GET", "/db/e?revs=true&revs_info=true") + bulk(1, 1000) + request("GET", "/db/d0?revs=true&revs_info=true&open_revs=all")
+    yield "a path past the limit", bulk(1, 1200) + bulk(1, 1200) + request("GET", "/db/d0?conflicts=true")
+    yield "many conflicts of one document", merges(300) + request("GET", "/db/d?conflicts=true")
+    yield "many edits of one document", edits(1100) + request("POST", "/db/_revs_diff", {"e": ["1-" + "a" * 32, "1200-" + "a" * 32]})
+    yield "the largest bulk", bulk(7000, 2) + request("GET", "/db/d7")
+    ordinary = json.dumps({"docs": [{"_id": "d%d" % (n // 2)} for n in range(10000)]}, separators=(",", ":"))
+    yield "a bulk of conflicts", request("POST", "/db/_bulk_docs", ordinary)
+    asked = json.dumps({"d%d" % n: ["1-" + "a" * 32] for n in range(15000)}, separators=(",", ":"))
+    yield "the largest difference", request("POST", "/db/_revs_diff", asked)
+    yield "many changes", bulk(7000, 1) + request("GET", "/db/_changes") + request("GET", "/db/_all_docs") + request("GET", "/db/_changes?since=3500&limit=10")
+    yield "a long path shown", edits(20) + request("GET", "/db/e?revs=true&revs_info=true") + bulk(1, 1000) + request("GET", "/db/d0?revs=true&revs_info=true&open_revs=all")

@@ -29,15 +29,14 @@ def request(method, target, body=None, headers=()):
 class Maker:
     """Makes requests over a database, by a source of random numbers. A request is its method, target and body."""
 
-    def __init__(self, random, database, stage):
+    def __init__(self, random, database):
         self.random = random
         self.database = database
-        self.stage = stage
-        self.kinds = [(self.put, 6), (self.get, 6), (self.root, 1)]
-        if stage >= 2:
-            self.kinds += [(self.delete, 3), (self.bulk, 4), (self.merge, 6), (self.diff, 3), (self.limit, 2)]
-        if stage >= 3:
-            self.kinds += [(self.info, 1), (self.changes, 4), (self.all_docs, 1), (self.local, 4)]
+        self.kinds = [
+            *[(self.put, 6), (self.get, 6), (self.root, 1)],
+            *[(self.delete, 3), (self.bulk, 4), (self.merge, 6), (self.diff, 3), (self.limit, 2)],
+            *[(self.info, 1), (self.changes, 4), (self.all_docs, 1), (self.local, 4)],
+        ]
 
     def one(self):
         """A method, a target and a body, which may be None."""
@@ -95,12 +94,12 @@ class Maker:
 
     def put(self):
         id, body, parameters = self.id(), self.body(), []
-        if self.stage >= 2 and (self.maybe(0.7) and self.database.tree(id) or self.maybe(0.05)):
+        if self.maybe(0.7) and self.database.tree(id) or self.maybe(0.05):
             rev = self.rev_text(id)
             parameters = ["rev=" + rev] if self.maybe(0.5) else []
             if not parameters or self.maybe(0.1):
                 body["_rev"] = rev if self.maybe(0.9) else self.rev_text(id)
-        if self.stage >= 2 and self.maybe(0.15):
+        if self.maybe(0.15):
             body["_deleted"] = self.maybe(0.7)
         if self.maybe(0.2):
             body["_id"] = id
@@ -113,10 +112,6 @@ class Maker:
     def get(self):
         id = self.id()
         named = ["rev=" + self.rev_text(id)] if self.maybe(0.5) else []
-        if self.stage == 1:
-            return "GET", self.target(id), None
-        if self.stage == 2:
-            return "GET", self.target(id, *named, *self.some(["conflicts=true", "deleted_conflicts=true"], 0.4)), None
         names = ["revs", "revs_info", "conflicts", "deleted_conflicts", "latest"]
         parameters = named + self.some([name + "=" + self.random.choice(TRUTH) for name in names], 0.4)
         if self.maybe(0.4):

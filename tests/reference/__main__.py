@@ -1,4 +1,4 @@
-"""python3 tests/reference [STAGE] < requests > responses"""
+"""python3 tests/reference < requests > responses"""
 import os
 import sys
 
@@ -6,8 +6,7 @@ sys.path.insert(0, os.path.dirname(os.path.dirname(os.path.abspath(__file__))))
 
 from reference import once  # noqa: E402
 
-stage = int(sys.argv[1]) if len(sys.argv) > 1 else once.LAST_STAGE
-out, status = once.run(sys.stdin.buffer.read(), stage)
+out, status = once.run(sys.stdin.buffer.read())
 sys.stdout.buffer.write(out)
 sys.stdout.flush()
 sys.exit(status)

@@ -7,11 +7,11 @@ from .responses import Answer, refused
 from .targets import read_revision, read_target
 
 
-def answer(session, request, stage):
+def answer(session, request):
     """The answer to a request, which a check, a refusal or the route's action gives."""
     try:
-        name, method, id, parameters = read_target(request, stage)
-        return ACTIONS[name, method](Asked(session, request.body, stage, id, parameters))
+        name, method, id, parameters = read_target(request)
+        return ACTIONS[name, method](Asked(session, request.body, id, parameters))
     except Answer as decided:
         return decided
     except Refused as refusal:
@@ -21,11 +21,10 @@ def answer(session, request, stage):
 class Asked:
     """One request whose route and method are known."""
 
-    def __init__(self, session, body, stage, id, parameters):
+    def __init__(self, session, body, id, parameters):
         self.session = session
         self.database = session.database
         self.body = body
-        self.stage = stage
         self.id = id
         self.parameters = parameters
 
@@ -38,9 +37,6 @@ class Asked:
 
 def get_document(asked):
     parameters = asked.parameters
-    later = {1: ["rev", "conflicts", "deleted_conflicts"], 2: []}
-    if asked.stage < 3:
-        parameters.refuse(later[asked.stage] + ["open_revs", "revs", "revs_info", "latest"])
     names = ["latest", "revs", "revs_info", "conflicts", "deleted_conflicts"]
     options = Options(**{name: parameters.flag(name) for name in names})
     listed = None
@@ -59,9 +55,7 @@ def written(id, rev):
 
 def put_document(asked):
     asked.parameters.refuse(["new_edits"], ["false"])
-    if asked.stage < 2:
-        asked.parameters.refuse(["rev"])
-    return edited(asked, bodies.document_edit(asked.body, bodies.document_rules(asked.stage, asked.id, asked.rev())), 201)
+    return edited(asked, bodies.document_edit(asked.body, bodies.document_rules(asked.id, asked.rev())), 201)
 
 
 def delete_document(asked):

@@ -22,11 +22,11 @@ class Rules:
     merged: bool = False  # each object brings a path of revisions
 
 
-def document_rules(stage, id, named):
-    special = {"_id", "_revisions"} | IGNORED
-    if stage >= 2:
-        special |= {"_rev", "_deleted"}
-    return Rules(special, id=id, named=named)
+SPECIAL = {"_id", "_rev", "_deleted", "_revisions"} | IGNORED
+
+
+def document_rules(id, named):
+    return Rules(SPECIAL, id=id, named=named)
 
 
 def local_rules(id, named):
@@ -34,7 +34,7 @@ def local_rules(id, named):
 
 
 def bulk_rules(merged):
-    return Rules({"_id", "_rev", "_deleted", "_revisions"} | IGNORED, merged=merged)
+    return Rules(SPECIAL, merged=merged)
 
 
 @dataclass

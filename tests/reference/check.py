@@ -65,32 +65,32 @@ ROW_C = row("c", 3, A1)
 
 # of each transcript its responses: status, place, body
 WORKED = {
-    "1-first-path/put-once": [(201, 1, written("a", A1))],
-    "1-first-path/put-twice": [(201, 1, written("a", A1)), (409, 2, CONFLICT)],
-    "1-first-path/number-past-i64": [(201, 1, written("n", "1-" + md5('0,,{"n":9223372036854775807}'))), (400, 1, NUMBER)],
-    "1-first-path/put-cut-in-body": [],
-    "1-first-path/put-cut-in-head": [],
-    "1-first-path/put-then-get": [(201, 1, written("a", A1)), (200, 1, '{"_id":"a","_rev":"%s"}' % A1)],
-    "1-first-path/welcome": [(200, 0, '{"couchdb":"Welcome"}')],
-    "1-first-path/nesting-of-a-body": [
+    "first-path/put-once": [(201, 1, written("a", A1))],
+    "first-path/put-twice": [(201, 1, written("a", A1)), (409, 2, CONFLICT)],
+    "first-path/number-past-i64": [(201, 1, written("n", "1-" + md5('0,,{"n":9223372036854775807}'))), (400, 1, NUMBER)],
+    "first-path/put-cut-in-body": [],
+    "first-path/put-cut-in-head": [],
+    "first-path/put-then-get": [(201, 1, written("a", A1)), (200, 1, '{"_id":"a","_rev":"%s"}' % A1)],
+    "first-path/welcome": [(200, 0, '{"couchdb":"Welcome"}')],
+    "first-path/nesting-of-a-body": [
         (201, 1, written("a", "1-" + md5('0,,{"n":%s}' % (63 * "[" + 63 * "]")))),
         (200, 1, '{"_id":"a","_rev":"1-%s","n":%s}' % (md5('0,,{"n":%s}' % (63 * "[" + 63 * "]")), 63 * "[" + 63 * "]")),
     ],
-    "1-first-path/depth": [(400, 0, DEPTH)] * 5 + [(404, 0, MISSING)],
-    "1-first-path/depth-past-the-reader": [(400, 0, JSON)] * 2 + [(404, 0, MISSING)],
-    "2-conflicts/winner-is-not-deleted": [(201, 1, "[]"), (200, 1, '{"_id":"d","_rev":"%s"}' % h("1-0*"))],
-    "2-conflicts/conflict-kept": [
+    "first-path/depth": [(400, 0, DEPTH)] * 5 + [(404, 0, MISSING)],
+    "first-path/depth-past-the-reader": [(400, 0, JSON)] * 2 + [(404, 0, MISSING)],
+    "conflicts/winner-is-not-deleted": [(201, 1, "[]"), (200, 1, '{"_id":"d","_rev":"%s"}' % h("1-0*"))],
+    "conflicts/conflict-kept": [
         (201, 1, "[]"),
         (201, 2, "[]"),
         (200, 2, '{"_conflicts":["%s"],"_id":"d","_rev":"%s"}' % (h("1-a*"), h("1-b*"))),
     ],
-    "2-conflicts/second-parent-refused": [
+    "conflicts/second-parent-refused": [
         (201, 1, "[]"),
         (201, 2, '[{"error":"bad_history","id":"d","reason":"A known revision has another parent."}]'),
         (404, 2, MISSING),
         (200, 2, '{"_id":"d","_rev":"%s"}' % h("2-b*")),
     ],
-    "2-conflicts/limit-of-one-revision": [
+    "conflicts/limit-of-one-revision": [
         (200, 1, '{"ok":true}'),
         (201, 2, written("a", A1)),
         (201, 3, written("a", A2)),
@@ -98,26 +98,26 @@ WORKED = {
         (200, 4, '{"a":{"missing":["%s","%s"]}}' % (A1, A2)),
         (200, 4, "1"),
     ],
-    "2-conflicts/bulk-in-listed-order": [
+    "conflicts/bulk-in-listed-order": [
         (201, 1, written("a", A1)),
         (201, 2, '[%s,{"error":"conflict","id":"a","reason":"Document update conflict."}]' % written("a", A2)),
         (201, 3, "[]"),
         (200, 3, '{"_id":"a","_rev":"%s","n":1}' % A2),
     ],
-    "2-conflicts/differences": [
+    "conflicts/differences": [
         (201, 1, "[]"),
         (201, 2, "[]"),
         (200, 2, '{"d":{"missing":["%s","%s"],"possible_ancestors":["%s"]}}' % (h("3-e*"), h("2-f*"), h("2-b*"))),
     ],
-    "2-conflicts/write-after-deletion": [
+    "conflicts/write-after-deletion": [
         (201, 1, written("a", A1)),
         (200, 2, written("a", X2)),
         (404, 3, DELETED),
         (201, 4, written("a", X3)),
         (200, 4, '{"_id":"a","_rev":"%s"}' % X3),
     ],
-    "3-queries/merge-twice-takes-one-number": [(201, 1, "[]"), (201, 2, "[]"), (200, 2, info(1, 0, 1))],
-    "3-queries/path-and-its-status": [
+    "queries/merge-twice-takes-one-number": [(201, 1, "[]"), (201, 2, "[]"), (200, 2, info(1, 0, 1))],
+    "queries/path-and-its-status": [
         (201, 1, "[]"),
         (201, 2, "[]"),
         (
@@ -135,7 +135,7 @@ WORKED = {
         ),
         (200, 2, info(1, 0, 2)),
     ],
-    "3-queries/local-document": [
+    "queries/local-document": [
         (201, 1, written("_local/r", "0-1")),
         (409, 2, CONFLICT),
         (201, 3, written("_local/r", "0-2")),
@@ -143,7 +143,7 @@ WORKED = {
         (404, 5, MISSING),
         (200, 5, changes(0, 0)),
     ],
-    "3-queries/changes-in-pages": [
+    "queries/changes-in-pages": [
         (201, 1, written("a", A1)),
         (201, 2, written("b", A1)),
         (201, 3, written("c", A1)),
@@ -158,7 +158,7 @@ WORKED = {
             % (A1, A1),
         ),
     ],
-    "3-queries/open-latest-revisions": [
+    "queries/open-latest-revisions": [
         (201, 1, "[]"),
         (201, 2, "[]"),
         (
@@ -167,7 +167,7 @@ WORKED = {
             '[{"ok":{"_id":"d","_rev":"%s"}},{"ok":{"_id":"d","_rev":"%s"}},{"missing":"%s"}]' % (h("3-c*"), h("2-b*"), h("9-9*")),
         ),
     ],
-    "3-queries/changes-followed": [
+    "queries/changes-followed": [
         (201, 1, written("a", A1)),
         (201, 2, written("b", A1)),
         (201, 3, written("c", A1)),
@@ -176,38 +176,38 @@ WORKED = {
         (200, 4, changes(4, 0, ROW_A)),
         (200, 4, changes(4, 0)),
     ],
-    "3-queries/differences-of-a-repeated-revision": [
+    "queries/differences-of-a-repeated-revision": [
         (201, 1, "[]"),
         (201, 2, "[]"),
         (200, 2, '{"d":{"missing":["%s"],"possible_ancestors":["%s"]}}' % (h("3-e*"), h("2-b*"))),
     ],
-    "3-queries/differences-with-the-largest-generation-last": [
+    "queries/differences-with-the-largest-generation-last": [
         (201, 1, "[]"),
         (201, 2, "[]"),
         (200, 2, '{"d":{"missing":["%s","%s"],"possible_ancestors":["%s"]}}' % (h("2-f*"), h("3-e*"), h("2-b*"))),
     ],
-    "3-queries/differences-with-ancestors-in-order": [
+    "queries/differences-with-ancestors-in-order": [
         (201, 1, "[]"),
         (201, 2, "[]"),
         (200, 2, '{"d":{"missing":["%s"],"possible_ancestors":["%s","%s"]}}' % (h("4-e*"), h("2-b*"), h("3-c*"))),
     ],
-    "3-queries/differences-of-an-unknown-document": [
+    "queries/differences-of-an-unknown-document": [
         (201, 1, "[]"),
         (201, 2, "[]"),
         (200, 2, '{"no":{"missing":["%s","%s"]}}' % (h("3-e*"), h("1-a*"))),
     ],
-    "3-queries/latest-of-two-leaves": [(201, 1, "[]"), (201, 2, "[]"), (200, 2, '{"_id":"d","_rev":"%s"}' % h("3-c*"))],
-    "3-queries/open-listed-of-an-unknown-document": [
+    "queries/latest-of-two-leaves": [(201, 1, "[]"), (201, 2, "[]"), (200, 2, '{"_id":"d","_rev":"%s"}' % h("3-c*"))],
+    "queries/open-listed-of-an-unknown-document": [
         (200, 0, '[{"missing":"%s"}]' % h("1-a*")),
         (200, 0, '[{"missing":"%s"}]' % h("1-a*")),
         (200, 0, "[]"),
     ],
-    "3-queries/live-and-deleted-losers": [
+    "queries/live-and-deleted-losers": [
         (201, 1, "[]"),
         (200, 1, '{"_conflicts":["%s"],"_deleted_conflicts":["%s"],"_id":"d","_rev":"%s"}' % (h("1-0*"), h("2-f*"), h("1-b*"))),
         (200, 1, '{"_deleted_conflicts":["%s"],"_id":"d","_rev":"%s"}' % (h("2-f*"), h("1-b*"))),
     ],
-    "3-queries/status-of-an-inner-deletion": [
+    "queries/status-of-an-inner-deletion": [
         (201, 1, "[]"),
         (201, 2, "[]"),
         (
@@ -217,12 +217,12 @@ WORKED = {
             % (h("2-b*"), h("2-b*"), h("1-a*")),
         ),
     ],
-    "3-queries/number-below-i64": [
+    "queries/number-below-i64": [
         (201, 1, written("a", LOWEST)),
         (200, 1, '{"_id":"a","_rev":"%s","n":-9223372036854775808}' % LOWEST),
         (400, 1, NUMBER),
     ],
-    "3-queries/names-beside-the-underscore": [
+    "queries/names-beside-the-underscore": [
         (201, 1, written("a", NAMES)),
         (200, 1, '{"":4,"^":3,"_id":"a","_rev":"%s","`":2,"a_":1}' % NAMES),
         (400, 1, MEMBER),
@@ -236,7 +236,7 @@ LARGE_BODY = ("413 Content Too Large", 37, '{"error":"too_large","reason":"body"
 
 # of each transcript of input that is refused at once with all that follows it: the status, the length and the body
 BROKEN = {
-    "1-first-path/no-head": ("400 Bad Request", 39, '{"error":"bad_request","reason":"head"}'),
+    "first-path/no-head": ("400 Bad Request", 39, '{"error":"bad_request","reason":"head"}'),
     "broken-input/sixty-five-headers": LARGE_HEAD,
     "broken-input/sixty-five-headers-without-end": LARGE_HEAD,
     "broken-input/head-of-16385-bytes": LARGE_HEAD,
@@ -269,7 +269,7 @@ def stored(name, ending):
 def transcripts():
     for name, responses in WORKED.items():
         wanted = b"".join(response(*parts) for parts in responses)
-        yield name, stored(name, ".expected") == wanted and once.run(stored(name, ".http"), int(name[0]))[0] == wanted
+        yield name, stored(name, ".expected") == wanted and once.run(stored(name, ".http"))[0] == wanted
 
 
 def broken():
@@ -286,7 +286,7 @@ def literal():
         b"HTTP/1.1 201 Created\r\nContent-Type: application/json\r\nContent-Length: 63\r\nCouch-Place: 1\r\n\r\n"
         b'{"id":"a","ok":true,"rev":"' + A1.encode() + b'"}'
     )
-    yield "the first request", stored("1-first-path/put-once", ".http") == asked and len(asked) == 43
+    yield "the first request", stored("first-path/put-once", ".http") == asked and len(asked) == 43
     yield "the first response", once.run(asked) == (told, 0)
     for cut in range(1, 44):
         yield "without its last %d bytes" % cut, once.run(asked[: 43 - cut]) == (b"", 0)

@@ -4,15 +4,12 @@ from .database import Session
 from .framing import Unfinished, Unreadable, read_request
 from .responses import broken, response
 
-LAST_STAGE = 3
-
 
 class Connection:
     """Answers one request after another, until the input ends or the connection closes."""
 
-    def __init__(self, stage=LAST_STAGE):
+    def __init__(self):
         self.session = Session()
-        self.stage = stage
 
     def responses(self, data):
         """Each response to the requests that the bytes are."""
@@ -25,12 +22,12 @@ class Connection:
             except Unreadable as refusal:
                 yield response(broken(refusal.kind), self.session.place, True)
                 return
-            answer = actions.answer(self.session, request, self.stage)
+            answer = actions.answer(self.session, request)
             yield response(answer, self.session.place, request.closes)
             if request.closes:
                 return
 
 
-def run(data, stage=LAST_STAGE):
+def run(data):
     """The output and the status. Each end of the input, and each close, is status 0."""
-    return b"".join(Connection(stage).responses(data)), 0
+    return b"".join(Connection().responses(data)), 0

@@ -6,28 +6,27 @@ from .responses import bad_request, method_not_allowed, no_route
 
 MAX_ID = 512  # bytes
 
-# of each route its path (one that ends in `/ID` has an identity) and its methods, each with the stage that it comes with
+# of each route its path (one that ends in `/ID` has an identity) and its methods
 ROUTES = [
-    ("root", "/", [("GET", 1)]),
-    ("database", "/db", [("GET", 3)]),
-    ("database", "/db/", [("GET", 3)]),
-    ("bulk", "/db/_bulk_docs", [("POST", 2)]),
-    ("revs_diff", "/db/_revs_diff", [("POST", 2)]),
-    ("revs_limit", "/db/_revs_limit", [("GET", 2), ("PUT", 2)]),
-    ("changes", "/db/_changes", [("GET", 3)]),
-    ("all_docs", "/db/_all_docs", [("GET", 3)]),
-    ("local", "/db/_local/ID", [("GET", 3), ("PUT", 3), ("DELETE", 3)]),
-    ("document", "/db/ID", [("GET", 1), ("PUT", 1), ("DELETE", 2)]),
+    ("root", "/", ["GET"]),
+    ("database", "/db", ["GET"]),
+    ("database", "/db/", ["GET"]),
+    ("bulk", "/db/_bulk_docs", ["POST"]),
+    ("revs_diff", "/db/_revs_diff", ["POST"]),
+    ("revs_limit", "/db/_revs_limit", ["GET", "PUT"]),
+    ("changes", "/db/_changes", ["GET"]),
+    ("all_docs", "/db/_all_docs", ["GET"]),
+    ("local", "/db/_local/ID", ["GET", "PUT", "DELETE"]),
+    ("document", "/db/ID", ["GET", "PUT", "DELETE"]),
 ]
 
 
-def find_route(path, stage):
+def find_route(path):
     """The route's name, its methods, and the encoded identity."""
     for name, pattern, methods in ROUTES:
-        there = [method for method, since in methods if since <= stage]
         front = pattern[: -len("ID")] if pattern.endswith("ID") else None
-        if there and (path == pattern if front is None else fits(path, front)):
-            return name, there, "" if front is None else path[len(front) :]
+        if path == pattern if front is None else fits(path, front):
+            return name, methods, "" if front is None else path[len(front) :]
     raise no_route()
 
 
@@ -117,10 +116,10 @@ def read_revision(text, parse=revisions.parse):
     return rev
 
 
-def read_target(request, stage):
+def read_target(request):
     """The route's name, the method, the identity (None where the route has none) and the parameters."""
     path, _, query = request.target.decode("utf-8").partition("?")
-    name, methods, segment = find_route(path, stage)
+    name, methods, segment = find_route(path)
     method = request.method.decode("ascii")
     if method not in methods:
         raise method_not_allowed(methods)

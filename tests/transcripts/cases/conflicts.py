@@ -194,8 +194,3 @@ REFUSALS = {
 }
 
 CASES = {**TOLD, **EDITS, **BULKS, **REFUSALS}
-
-NOT_YET = {
-    "get-parameters-of-queries": [get("/db/a?" + text) for text in ["revs=true", "revs_info=x", "latest=false", "open_revs=all"]],
-    "routes-of-queries": [get(path) for path in ["/db", "/db/", "/db/_changes", "/db/_all_docs", "/db/_local/x"]] + [put("/db/_local/x", "{}")],
-}

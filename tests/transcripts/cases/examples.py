@@ -44,4 +44,4 @@ def written(requests):
         yield head.replace(b"\r\n", b"\n") + b"\n\n" + (body + b"\n" if body else b"")
 
 
-CASES = {"first": (1, list(written(FIRST))), "conflict": (3, list(written(CONFLICT)))}
+CASES = {"first": list(written(FIRST)), "conflict": list(written(CONFLICT))}

@@ -127,23 +127,6 @@ CURL = {
 
 CASES = {**CURL, **STORED, **IDENTITIES, **ROUTES, **BODIES, **HEADS}
 
-# what the stage after this one answers otherwise
-NOT_YET = {
-    "get-parameters": [
-        get("/db/a?" + name)
-        for name in ["rev", "conflicts=true", "deleted_conflicts=x", "revs", "revs_info=", "latest=false", "open_revs=all", "x&rev=1"]
-    ],
-    "put-parameter-rev": [put("/db/a?rev=1", "{}")],
-    "put-member-rev": [put("/db/a", '{"_rev":"1-x"}'), put("/db/a", '{"_rev":1}')],
-    "put-member-deleted": [put("/db/a", '{"_deleted":false}'), put("/db/a", '{"_deleted":1}')],
-    "method-of-document": [request(method, "/db/a") for method in ["DELETE", "POST", "HEAD", "COPY"]],
-    "method-before-id": [request("POST", "/db/_x", "")],
-    "routes-of-later": [
-        get("/db"), get("/db/"), put("/db/", "{}"), get("/db/_bulk_docs"), request("POST", "/db/_bulk_docs", "{}"), get("/db/_revs_limit"),
-        get("/db/_changes"), get("/db/_all_docs"), get("/db/_local/x"), get("/db/_local"), get("/db/_purge"),
-    ],
-}
-
 # input that is refused with all that follows it, for another reason than that it is no head
 BROKEN_INPUT = {
     "sixty-five-headers": [get("/", headers=["X-%d: y" % n for n in range(65)])],

@@ -135,7 +135,8 @@ CURL = {
 
 CASES = {**TOLD, **DOCUMENTS, **LOCALS, **WHOLE, **REFUSALS, **CURL}
 
-NOT_YET = {
-    "feeds-of-later": each("/db/_changes?feed=", ["longpoll", "continuous"]),
-    "routes-of-later-requests": [get("/db/_purge"), request("POST", "/db/_purge", "{}"), get("/db/_compact"), request("POST", "/db/_compact", "")],
+# what the program doesn't have
+NOT_SERVED = {
+    "feeds": each("/db/_changes?feed=", ["longpoll", "continuous"]),
+    "routes": [get("/db/_purge"), request("POST", "/db/_purge", "{}"), get("/db/_compact"), request("POST", "/db/_compact", "")],
 }
