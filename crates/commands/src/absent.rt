@@ -1,3 +1,4 @@
+//! Documents that are not found.
 ghost use Rattle.std.specs.Prelude.{◌≡◌};
 ghost use Rattle.commands.specs.Absent.{absent_of};
 

@@ -1,3 +1,4 @@
+//! Answers to queries.
 ghost use Rattle.std.specs.Prelude.{◌≡◌};
 ghost use Rattle.commands.specs.Answer.{answer_of};
 

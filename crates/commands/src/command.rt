@@ -1,3 +1,4 @@
+//! Commands: what a session asks to be done.
 ghost use Rattle.std.specs.Prelude.{◌≡◌, ◌↔◌, ◌≤◌, ◌<◌, length, Some, IsTrue, IsSome, IfSome, IfOk, option_map};
 ghost use Rattle.std.specs.Arc.{arc_value};
 ghost use Rattle.model.specs.Command.{IsCommand, IsCounter, IsLimit, max_edits};

@@ -1,3 +1,4 @@
+//! The configuration of a database.
 ghost use Rattle.std.specs.Prelude.{◌≡◌, ◌↔◌, IsTrue, IsSome, IfSome};
 ghost use Rattle.model.specs.World.{IsConfig, IsFromTo};
 ghost use Rattle.commands.specs.Config.{config_of};

@@ -1,3 +1,4 @@
+//! Copies that share their texts and bodies.
 ghost use Rattle.std.specs.Prelude.{◌≡◌, IfOk};
 
 use std::alloc::{AllocError, Global};

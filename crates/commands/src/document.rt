@@ -1,3 +1,4 @@
+//! A revision as a query shows it.
 use crate::status::Status;
 use document_id::DocId;
 use json_profile::Body;

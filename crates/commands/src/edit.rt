@@ -1,3 +1,4 @@
+//! Ordinary edits.
 ghost use Rattle.std.specs.Prelude.{◌≡◌, All, IfOk};
 ghost use Rattle.model.specs.Command.{IsEdit};
 

@@ -1,3 +1,4 @@
+//! Commands that wait, and those that were answered.
 ghost use Rattle.std.specs.Prelude.{◌≡◌, IfOk};
 
 use crate::command::Command;

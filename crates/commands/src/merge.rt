@@ -1,3 +1,4 @@
+//! What replication brings.
 ghost use Rattle.std.specs.Prelude.{◌≡◌, ◌∷◌, ◌↔◌, All, IsTrue, IsSome, IfOk, IfSome};
 ghost use Rattle.std.specs.Arc.{arc_value};
 ghost use Rattle.model.specs.Command.{IsMerge};

@@ -1,3 +1,4 @@
+//! Documents with some of their revisions, as `_revs_diff` and `_purge` name them.
 ghost use Rattle.std.specs.Prelude.{◌≡◌, ◌↔◌, T, All, IsTrue, IsSome, IfOk, IfSome};
 ghost use Rattle.std.specs.FinMap.Entries.{is_sorted};
 ghost use Rattle.model.specs.Command.{names, NamesRevs};

@@ -1,3 +1,4 @@
+//! What is asked of a document beside its body.
 use std::marker::Model;
 
 /// What beside its body is asked of a document.

@@ -1,3 +1,4 @@
+//! Queries: what is asked of a database as it stands.
 ghost use Rattle.std.specs.Prelude.{◌≡◌};
 ghost use Rattle.commands.specs.Query.{query_of};
 

@@ -1,3 +1,4 @@
+//! Writes that are refused.
 ghost use Rattle.std.specs.Prelude.{◌≡◌};
 ghost use Rattle.commands.specs.Refusal.{refusal_of};
 

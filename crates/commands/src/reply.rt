@@ -1,3 +1,4 @@
+//! Replies to commands.
 ghost use Rattle.std.specs.Prelude.{◌≡◌, IfOk};
 ghost use Rattle.commands.specs.Reply.{reply_of};
 

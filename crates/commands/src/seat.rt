@@ -1,3 +1,4 @@
+//! The seats of commands.
 ghost use Rattle.std.specs.Prelude.{◌≡◌, ◌↔◌, ◌<◌, IsSome, IfSome};
 ghost use Rattle.model.specs.Command.{IsSeat};
 

@@ -1,3 +1,4 @@
+//! What is kept of revisions.
 ghost use Rattle.std.specs.Prelude.{◌≡◌};
 ghost use Rattle.commands.specs.Status.{status_of};
 

@@ -1,3 +1,4 @@
+//! The two styles of the changes feed.
 ghost use Rattle.std.specs.Prelude.{◌≡◌};
 ghost use Rattle.commands.specs.Style.{style_of};
 

@@ -1,4 +1,4 @@
-// Keys of an ordered map.
+//! Keys of an ordered map.
 ghost use Rattle.std.specs.FinMap.{IsAntisymmetric, nat_cmp-IsAntisymmetric};
 
 /// A key of a [`CowMap`](crate::CowMap): its order is total, and only equal keys tie.

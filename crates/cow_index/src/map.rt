@@ -1,4 +1,4 @@
-// The map: a tree whose keys rise, and how many nodes the last call made.
+//! The map: a tree whose keys rise, and how many nodes the last call made.
 ghost use Rattle.std.specs.Prelude.{◌≡◌, ◌↔◌, ◌+◌, ◌*◌, ◌^◌, ◌<◌, ◌≤◌, max, [], IfOk, IsTrue, length, T, option_copied};
 ghost use Rattle.std.specs.FinMap.Entries.{find, put, is_sorted};
 ghost use Rattle.std.specs.Map.Iter.{ShowsInOrder, deref_pair};

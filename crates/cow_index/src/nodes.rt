@@ -1,4 +1,4 @@
-// The making of nodes: balanced trees from two sides and the entry between them.
+//! The making of nodes: balanced trees from two sides and the entry between them.
 ghost use Rattle.std.specs.Prelude.{◌≡◌, ◌+◌, ◌*◌, ◌^◌, ◌<◌, ◌≤◌, max, ◌∷◌, ◌++◌, IfOk, OnOk, length, drop};
 ghost use Rattle.cow_index.specs.Tree.{pair_of};
 ghost use Rattle.cow_index.specs.NodeMaker.{MakesAtMost};

@@ -1,4 +1,4 @@
-// A value with several owners, seen as the value itself.
+//! A value with several owners, seen as the value itself.
 ghost use Rattle.std.specs.Prelude.{◌≡◌, IfOk};
 
 use std::alloc::{AllocError, Global};

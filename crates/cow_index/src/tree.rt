@@ -1,4 +1,4 @@
-// An AVL tree over shared nodes, seen as its entries in order and its height.
+//! An AVL tree over shared nodes, seen as its entries in order and its height.
 ghost use Rattle.std.specs.Prelude.{◌≡◌, ◌+◌, ◌*◌, ◌/◌, ◌^◌, ◌<◌, ◌≤◌, [], IfOk, OnOk, IfSome, IfNone, length, T, slice_get, option_map, option_copied};
 ghost use Rattle.std.specs.FinMap.Entries.{find, put, is_sorted};
 ghost use Rattle.cow_index.specs.Tree.{pair_of, IsRoot};

@@ -1,4 +1,4 @@
-// Walks in the order of the keys. A walk keeps the nodes that it comes back to in an array.
+//! Walks in the order of the keys. A walk keeps the nodes that it comes back to in an array.
 ghost use Rattle.std.specs.Prelude.{◌≡◌, ◌+◌, ◌^◌, ◌<◌, ◌≤◌, ◌++◌, ◌∷◌, T, [], IfSome, IfNone, length};
 ghost use Rattle.std.specs.FinMap.Entries.{is_sorted};
 ghost use Rattle.std.specs.Iterator.{at_most};

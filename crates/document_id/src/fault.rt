@@ -1,3 +1,4 @@
+//! How an identity is refused.
 use std::alloc::AllocError;
 use thiserror::Error;
 

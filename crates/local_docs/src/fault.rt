@@ -1,3 +1,4 @@
+//! How the write of a local document is refused.
 use std::alloc::AllocError;
 use thiserror::Error;
 

@@ -1,3 +1,4 @@
+//! One local document.
 ghost use Rattle.std.specs.Prelude.{◌≡◌, IfOk};
 
 use json_profile::Body;

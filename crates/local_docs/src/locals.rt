@@ -1,3 +1,4 @@
+//! All local documents of a database.
 ghost use Rattle.std.specs.Prelude.{◌≡◌, ◌↔◌, T, Ok, Err, Some, None, IfOk, option_map, option_copied};
 ghost use Rattle.std.specs.Arc.{arc_value};
 ghost use Rattle.std.specs.FinMap.Entries.{is_sorted};

@@ -1,7 +1,5 @@
-use Rattle.std.proofs.Common.{ap, ◌∙◌}
-use Rattle.model.specs.Command.{names}
-use Rattle.model.specs.Local.{Local}
-use Rattle.model.specs.Map.{Map, same_list}
+use Rattle.std.proofs.Common.{◌∙◌}
+use Rattle.model.specs.Map.{same_list}
 use Rattle.local_docs.proofs.locals.Locals.share.Goals as goal
 
 pub returns : goal.returns
