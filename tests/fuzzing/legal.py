@@ -33,9 +33,9 @@ class Maker:
         self.random = random
         self.database = database
         self.kinds = [
-            *[(self.put, 6), (self.get, 6), (self.root, 1)],
-            *[(self.delete, 3), (self.bulk, 4), (self.merge, 6), (self.diff, 3), (self.limit, 2)],
-            *[(self.info, 1), (self.changes, 4), (self.all_docs, 1), (self.local, 4)],
+            (self.put, 6), (self.get, 6), (self.root, 1),
+            (self.delete, 3), (self.bulk, 4), (self.merge, 6), (self.diff, 3), (self.limit, 2),
+            (self.info, 1), (self.changes, 4), (self.all_docs, 1), (self.local, 4),
         ]
 
     def one(self):
