@@ -8,7 +8,7 @@ use crate::found::get;
 use crate::opened::open_revs;
 use crate::page::changes;
 use crate::reads::{all_docs, info, local_get, revs_limit};
-use commands::{Answer, AnswerKind, Query, QueryKind};
+use queries::{Answer, AnswerKind, Query, QueryKind};
 use revision_id::RevId;
 use snapshots::Version;
 use std::alloc::{AllocError, Global};

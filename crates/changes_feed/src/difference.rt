@@ -7,8 +7,9 @@ ghost use Rattle.model.specs.Documents.{difference as difference_at, difference_
 
 use crate::leaves::leaves_below;
 use crate::once::once;
-use commands::{Difference, Differences, NamedRevisions};
+use commands::NamedRevisions;
 use document_id::DocId;
+use queries::{Difference, Differences};
 use revision_id::RevId;
 use revision_tree::RevTree;
 use snapshots::Version;

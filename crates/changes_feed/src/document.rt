@@ -4,9 +4,10 @@ ghost use Rattle.std.specs.Arc.{arc_value};
 ghost use Rattle.changes_feed.specs.Shown.{listed_leaves, listed_path, others_with, statuses_of};
 ghost use Rattle.model.specs.Documents.{document as document_of, status_of, stored as stored_in};
 
-use commands::{Document, Options, Status, StatusKind};
 use document_id::DocId;
 use json_profile::Body;
+use model::Status;
+use queries::{Document, Options};
 use revision_id::RevId;
 use revision_tree::RevTree;
 use std::alloc::{AllocError, Global};
@@ -100,12 +101,12 @@ fn status(tree: &RevTree, rev: RevId) -> Status
     ensures { result ≡ status_of tree.now rev }
 {
     if tree.body_of(rev).is_none() {
-        return Status::new(StatusKind::NoBody);
+        return Status::NoBody;
     }
     if tree.is_deleted(rev) {
-        return Status::new(StatusKind::IsDeleted);
+        return Status::IsDeleted;
     }
-    Status::new(StatusKind::Available)
+    Status::Available
 }
 
 /// The leaves, where conflicts were asked for.

@@ -5,8 +5,9 @@ ghost use Rattle.model.specs.Changes.{every_id, last_seq_of, rows_since};
 ghost use Rattle.changes_feed.specs.Followed.{KeepsRight};
 
 use crate::page::{first_rows, last_seq};
-use commands::{Row, Style};
+use model::Style;
 use model::histories::feeds_stay_right;
+use queries::Row;
 use snapshots::Version;
 use std::alloc::{AllocError, Global};
 use std::marker::Model;

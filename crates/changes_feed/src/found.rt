@@ -7,8 +7,9 @@ ghost use Rattle.model.specs.Documents.{found, found_in as found_of, named_by as
 
 use crate::document::stored;
 use crate::leaves::latest_of;
-use commands::{Absent, AbsentKind, Document, Options};
 use document_id::DocId;
+use model::Absent;
+use queries::{Document, Options};
 use revision_id::RevId;
 use revision_tree::RevTree;
 use snapshots::Version;
@@ -59,7 +60,7 @@ fn of_winner(
 {
     let winner = tree.winner();
     if winner.deleted {
-        return Ok(Err(Absent::new(AbsentKind::WasDeleted)));
+        return Ok(Err(Absent::WasDeleted));
     }
     shown(alloc, id, tree, options, winner.rev)
 }
@@ -98,5 +99,5 @@ fn shown(
 fn missing() -> Absent
     ensures { result ≡ IsUnknown }
 {
-    Absent::new(AbsentKind::IsMissing)
+    Absent::IsMissing
 }

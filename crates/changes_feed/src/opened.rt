@@ -9,8 +9,8 @@ ghost use Rattle.model.specs.Documents.{asked_of as asked_in, latest_or_itself a
 use crate::document::stored;
 use crate::leaves::latest_of;
 use crate::once::add_once;
-use commands::{Document, Options};
 use document_id::DocId;
+use queries::{Document, Options};
 use revision_id::RevId;
 use revision_tree::RevTree;
 use snapshots::Version;

@@ -4,8 +4,9 @@ ghost use Rattle.model.specs.History.{now};
 ghost use Rattle.model.specs.Changes.{changes_page, every_id, last_seq_of, listed as listed_in, row as row_of, rows_since};
 ghost use Rattle.changes_feed.specs.Followed.{most_of};
 
-use commands::{ChangesPage, Row, Style, StyleKind};
 use document_id::DocId;
+use model::Style;
+use queries::{ChangesPage, Row};
 use revision_id::RevId;
 use revision_tree::RevTree;
 use snapshots::{Record, Version};
@@ -101,8 +102,8 @@ fn row(
 fn listed(alloc: Global, tree: &RevTree, style: Style) -> Result<Vec<RevId>, AllocError>
     ensures { IfOk result (λ revs. revs.items ≡ listed_in style tree.now) }
 {
-    match style.kind() {
-        StyleKind::MainOnly => Vec::from_slice(alloc, &[tree.winner().rev]),
-        StyleKind::AllDocs => tree.leaves(alloc),
+    match style {
+        Style::MainOnly => Vec::from_slice(alloc, &[tree.winner().rev]),
+        Style::AllDocs => tree.leaves(alloc),
     }
 }

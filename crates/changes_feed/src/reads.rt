@@ -6,9 +6,9 @@ ghost use Rattle.model.specs.History.{now};
 ghost use Rattle.changes_feed.specs.Shown.{local_shown};
 ghost use Rattle.model.specs.Answers.{counts, live_document as live_of, live_documents};
 
-use commands::Counts;
 use document_id::DocId;
 use json_profile::Body;
+use queries::Counts;
 use revision_id::RevId;
 use snapshots::{Record, Version};
 use std::alloc::{AllocError, Global};

@@ -1,7 +1,8 @@
 // Each query on small databases, made with ample memory. Answers are compared as texts.
 use asked::{Asked, answered, told};
-use commands::{Options, StyleKind};
 use database::{Change, changed};
+use model::Style;
+use queries::Options;
 use snapshots::Version;
 use std::alloc::Global;
 use std::process::Abort;
@@ -280,19 +281,19 @@ fn changes_come_in_pages(rt: HostRuntime) -> Result<(), Fail> {
         DELETED_FIRST,
         &[
             (
-                Asked::Changes(0, Some(2), StyleKind::MainOnly),
+                Asked::Changes(0, Some(2), Style::MainOnly),
                 "[2 b A1][3 c A1][last 3 pending 1]",
             ),
             (
-                Asked::Changes(3, None, StyleKind::MainOnly),
+                Asked::Changes(3, None, Style::MainOnly),
                 "[4 a X2 deleted][last 4 pending 0]",
             ),
             (
-                Asked::Changes(0, Some(0), StyleKind::MainOnly),
+                Asked::Changes(0, Some(0), Style::MainOnly),
                 "[2 b A1][last 2 pending 2]",
             ),
             (
-                Asked::Changes(4, None, StyleKind::MainOnly),
+                Asked::Changes(4, None, Style::MainOnly),
                 "[last 4 pending 0]",
             ),
             (Asked::Winner("a", PLAIN), "deleted"),
@@ -310,11 +311,11 @@ fn changes_list_the_winner_or_all_leaves(rt: HostRuntime) -> Result<(), Fail> {
         TWO_PATHS,
         &[
             (
-                Asked::Changes(0, None, StyleKind::MainOnly),
+                Asked::Changes(0, None, Style::MainOnly),
                 "[2 d 3-c][last 2 pending 0]",
             ),
             (
-                Asked::Changes(0, None, StyleKind::AllDocs),
+                Asked::Changes(0, None, Style::AllDocs),
                 "[2 d 3-c 2-b][last 2 pending 0]",
             ),
         ],
@@ -341,7 +342,7 @@ fn what_was_purged_is_not_there(rt: HostRuntime) -> Result<(), Fail> {
         &[
             (Asked::Counts, "live 2 deleted 0 update 5 purge 2"),
             (
-                Asked::Changes(0, None, StyleKind::AllDocs),
+                Asked::Changes(0, None, Style::AllDocs),
                 "[2 b A1][5 d 1-a][last 5 pending 0]",
             ),
             (Asked::Documents, "[b A1][d 1-a]"),

@@ -1,10 +1,4 @@
-pub mod Absent
-pub mod Answer
 pub mod Command
 pub mod Config
 pub mod Merge
-pub mod Query
-pub mod Refusal
 pub mod Reply
-pub mod Status
-pub mod Style

@@ -4,7 +4,7 @@ ghost use Rattle.commands.specs.Reply.{reply_of};
 
 use crate::copied::Copied;
 use crate::named::NamedRevisions;
-use crate::refusal::Refusal;
+use model::Refusal;
 use revision_id::RevId;
 use std::alloc::{AllocError, Global};
 use std::marker::Model;

@@ -1,11 +1,11 @@
-// Each kind of what is asked and answered, made with ample memory.
+//! Each kind of what is asked and answered, made with ample memory.
 use crate::{
-    Absent, AbsentKind, Answer, AnswerKind, AskedRevisions, Command, CommandKind, Config, Copied,
-    Difference, Differences, Edit, Entry, Limits, Merge, NamedRevisions, Query, QueryKind, Refusal,
-    RefusalKind, Reply, ReplyKind, Seat, Status, StatusKind, Style, StyleKind,
+    AskedRevisions, Command, CommandKind, Config, Copied, Edit, Entry, Limits, Merge,
+    NamedRevisions, Reply, ReplyKind, Seat,
 };
 use document_id::DocId;
 use json_profile::Body;
+use model::Refusal;
 use revision_id::RevId;
 use std::alloc::Global;
 use std::sync::Arc;
@@ -133,7 +133,7 @@ fn limits_are_from_one(rt: HostRuntime) -> Result<(), Fail> {
 fn reply(alloc: Global) -> Result<Reply, Fail> {
     let mut writes = Vec::new(alloc);
     writes.push(Ok(RevId::parse(FIRST)?))?;
-    writes.push(Err(Refusal::new(RefusalKind::Conflict)))?;
+    writes.push(Err(Refusal::Conflict))?;
     Ok(Reply::new(ReplyKind::Wrote(writes)))
 }
 
@@ -144,7 +144,7 @@ fn replies_are_copied(rt: HostRuntime) -> Result<(), Fail> {
         return Err("writes".into());
     };
     assert_eq!(rt; writes.len(), 2);
-    assert!(&rt; matches!(writes[1], Err(refusal) if refusal.kind() == RefusalKind::Conflict));
+    assert!(&rt; matches!(writes[1], Err(Refusal::Conflict)));
     Ok(())
 }
 
@@ -178,17 +178,6 @@ fn named_ids_rise(rt: HostRuntime) -> Result<(), Fail> {
     assert!(&rt; named(rt.alloc(), &["b", "a"], &[])?.is_none());
     assert!(&rt; named(rt.alloc(), &["a", "a"], &[])?.is_none());
     assert!(&rt; named(rt.alloc(), &[], &[])?.is_some());
-    Ok(())
-}
-
-#[test]
-fn a_difference_is_asked_of_named_revisions(rt: HostRuntime) -> Result<(), Fail> {
-    let named = named(rt.alloc(), &["a", "b"], &[FIRST])?.ok_or("rising")?;
-    let query = Query::new(QueryKind::RevsDiff(named));
-    let QueryKind::RevsDiff(named) = query.kind() else {
-        return Err("a difference".into());
-    };
-    assert_eq!(rt; named.documents().len(), 2);
     Ok(())
 }
 
@@ -231,27 +220,6 @@ fn replies_to_purges_are_copied(rt: HostRuntime) -> Result<(), Fail> {
     };
     assert_eq!(rt; *purge_seq, 7);
     assert_eq!(rt; removed.documents().len(), 2);
-    Ok(())
-}
-
-#[test]
-fn small_kinds_are_kept(rt: HostRuntime) {
-    assert!(&rt; Absent::new(AbsentKind::WasDeleted).kind() == AbsentKind::WasDeleted);
-    assert!(&rt; Status::new(StatusKind::NoBody).kind() == StatusKind::NoBody);
-    assert!(&rt; Style::new(StyleKind::AllDocs).kind() == StyleKind::AllDocs);
-    let answer = Answer::new(AnswerKind::Limit(1000));
-    assert!(&rt; matches!(answer.kind(), AnswerKind::Limit(1000)));
-}
-
-#[test]
-fn differences_are_listed(rt: HostRuntime) -> Result<(), Fail> {
-    let difference = Difference {
-        missing: Vec::new(rt.alloc()),
-        possible_ancestors: Vec::new(rt.alloc()),
-    };
-    let mut documents = Vec::new(rt.alloc());
-    documents.push((id(rt.alloc())?, difference))?;
-    assert_eq!(rt; Differences::new(documents).documents().len(), 1);
     Ok(())
 }
 

@@ -17,12 +17,14 @@ ghost use Rattle.http_front.specs.Response.{turn_of};
 use crate::response::{Response, connection_after};
 use crate::session::{Receipt, Session, WriteFault};
 use changes_feed::answer;
-use commands::{Answer, Command, Query, QueryKind, Style};
+use commands::Command;
 use http_framing::FramingFault;
 use http_framing::request::Request;
 use http_request::{Asked, Form, read_request};
 use http_response::{Connection, Lost, closing, full, refused, reply, welcome};
 use http_routes::Routes;
+use model::Style;
+use queries::{Answer, Query, QueryKind};
 use std::alloc::{AllocError, Global};
 
 /// What serves connections beside a session.

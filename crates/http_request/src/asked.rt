@@ -1,6 +1,8 @@
 //! What can be asked.
 
-use commands::{Command, Query, Style};
+use commands::Command;
+use model::Style;
+use queries::Query;
 
 /// What a request asks.
 #[derive(Drop)]

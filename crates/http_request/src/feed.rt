@@ -7,9 +7,10 @@ ghost use Rattle.http_target.specs.Query.{parameter, parameters_of};
 
 use crate::asked::Asked;
 use crate::parameter::{asks_for_documents, is_given, is_there, read_number};
-use commands::{Query, QueryKind, Style, StyleKind};
 use http_bodies::{Fault, Reason, Refusal, refuse};
 use http_target::query::Parameters;
+use model::Style;
+use queries::{Query, QueryKind};
 use std::alloc::Global;
 
 /// Whether changes are asked for that no feed gives.
@@ -34,8 +35,8 @@ fn style_named(name: &str) -> Option<Style>
     ensures { result ≡ style_named name.now }
 {
     match name {
-        "main_only" => Some(Style::new(StyleKind::MainOnly)),
-        "all_docs" => Some(Style::new(StyleKind::AllDocs)),
+        "main_only" => Some(Style::MainOnly),
+        "all_docs" => Some(Style::AllDocs),
         _ => None,
     }
 }
@@ -45,7 +46,7 @@ fn read_style(parameters: &Parameters<'_>) -> Result<Style, Refusal>
     ensures { result ≡ style_in (parameter (codes "style") parameters.now) }
 {
     let Some(name) = parameters.get("style") else {
-        return Ok(Style::new(StyleKind::MainOnly));
+        return Ok(Style::MainOnly);
     };
     match style_named(name) {
         Some(style) => Ok(style),

@@ -5,9 +5,10 @@ ghost use Rattle.http_request.specs.Local.{delete_local, get_local, put_local};
 
 use crate::asked::{Asked, Form};
 use crate::identity::read_path_id;
-use commands::{Command, Query, QueryKind};
+use commands::Command;
 use http_bodies::{Fault, name_counter, read_local_edit};
 use http_target::query::Parameters;
+use queries::{Query, QueryKind};
 use std::alloc::Global;
 
 /// GET of a local document.

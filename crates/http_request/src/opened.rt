@@ -6,10 +6,10 @@ ghost use Rattle.http_request.specs.Opened.{open_leaves, open_listed, open_revs_
 
 use crate::asked::Asked;
 use crate::parameter::read_named_revision;
-use commands::{Options, Query, QueryKind};
 use document_id::DocId;
 use http_bodies::{Fault, Reason, Refusal, read_revisions, read_text_list, refuse};
 use http_target::query::Parameters;
+use queries::{Options, Query, QueryKind};
 use std::alloc::Global;
 
 /// What asks for all leaves.

@@ -3,10 +3,10 @@
 ghost use Rattle.std.specs.Prelude.{◌≡◌};
 ghost use Rattle.http_request.specs.Parameters.{asks_for_documents, flag_parameter, is_given, is_there, no_replication, number_parameter, options_of, rev_parameter};
 
-use commands::Options;
 use http_bodies::{Reason, Refusal, name_revision};
 use http_target::query::Parameters;
 use http_target::value::{parse_flag, parse_number};
+use queries::Options;
 use revision_id::RevId;
 
 /// A truth value, false where it is not given.

@@ -11,13 +11,14 @@ use crate::identity::read_path_id;
 use crate::local::{read_local_deletion, read_local_put, read_local_query};
 use crate::opened::read_open_revs;
 use crate::parameter::{read_named_revision, read_options, refuse_replication};
-use commands::{Command, Edit, Query, QueryKind};
+use commands::{Command, Edit};
 use http_bodies::{Fault, Refusal, read_bulk, read_difference, read_edit, read_limit};
 use http_framing::request::Request;
 use http_routes::{Method, Route, Routes};
 use http_target::query::Parameters;
 use http_target::split_target;
 use json_profile::Body;
+use queries::{Query, QueryKind};
 use std::alloc::{AllocError, Global};
 use std::sync::Arc;
 

@@ -2,8 +2,8 @@
 
 ghost use Rattle.std.specs.Prelude.{◌≡◌, option_map, IfOk, string_bytes};
 ghost use Rattle.std.specs.Arc.{arc_value};
-ghost use Rattle.commands.specs.Answer.{answer_of};
-ghost use Rattle.commands.specs.Query.{query_of};
+ghost use Rattle.queries.specs.Answer.{answer_of};
+ghost use Rattle.queries.specs.Query.{query_of};
 ghost use Rattle.http_response.specs.Texts.{answer_text};
 ghost use Rattle.http_response.specs.Told.{answer_told, found_told, local_told};
 
@@ -16,9 +16,10 @@ use crate::local::local_text;
 use crate::problem::body_of_absent;
 use crate::response::{Status, plain_response};
 use crate::written::{counts_text, number_text};
-use commands::{Absent, AbsentKind, Answer, AnswerKind, Document, Query, QueryKind};
 use document_id::DocId;
 use json_profile::Body;
+use model::Absent;
+use queries::{Answer, AnswerKind, Document, Query, QueryKind};
 use std::alloc::{AllocError, Global};
 use std::sync::Arc;
 
@@ -87,7 +88,7 @@ fn tell_local(
     match found {
         Some((counter, body)) => Ok((Status::Ok, local_text(alloc, id, *counter, body)?)),
         None => {
-            let body = body_of_absent(AbsentKind::IsMissing);
+            let body = body_of_absent(Absent::IsMissing);
             Ok((Status::NotFound, String::from_str(alloc, body)?))
         }
     }
@@ -102,7 +103,7 @@ fn tell_found(
     match found {
         Ok(document) => Ok((Status::Ok, document_text(alloc, document)?)),
         Err(absent) => {
-            let body = body_of_absent(absent.kind());
+            let body = body_of_absent(*absent);
             Ok((Status::NotFound, String::from_str(alloc, body)?))
         }
     }

@@ -1,7 +1,6 @@
 //! What became of the writes of a bulk.
 
 ghost use Rattle.std.specs.Prelude.{◌≡◌, ◌++◌, ℕ, List, [], ◌∷◌, false, IfOk, OnOk, string_bytes};
-ghost use Rattle.commands.specs.Refusal.{refusal_of};
 ghost use Rattle.serde_json.specs.Data.{Data, array};
 ghost use Rattle.serde_json.specs.View.{items_of, view};
 ghost use Rattle.serde_json.specs.Written.{compact_text, has_float};
@@ -11,8 +10,9 @@ ghost use Rattle.http_response.specs.List.{IsListAfter};
 use crate::document::written_value;
 use crate::list::ListText;
 use crate::problem::{error_of, reason_of};
-use commands::{Edit, Merge, Refusal, RefusalKind};
+use commands::{Edit, Merge};
 use document_id::DocId;
+use model::Refusal;
 use revision_id::RevId;
 use serde_json::{Value, json};
 use std::alloc::{AllocError, Global};
@@ -58,12 +58,12 @@ fn outcome_value(
 {
     match outcome {
         Ok(rev) => written_value(alloc, id, rev),
-        Err(refusal) => refused_value(alloc, id, refusal.kind()),
+        Err(refusal) => refused_value(alloc, id, *refusal),
     }
 }
 
-fn refused_value(alloc: Global, id: &DocId, refusal: RefusalKind) -> Result<Value, AllocError>
-    ensures value { IfOk result (λ value. view value ≡ refused_data id.now (refusal_of refusal)) }
+fn refused_value(alloc: Global, id: &DocId, refusal: Refusal) -> Result<Value, AllocError>
+    ensures value { IfOk result (λ value. view value ≡ refused_data id.now refusal) }
     ensures plain { IfOk result (λ value. has_float (view value) ≡ false) }
 {
     problem_value(alloc, error_of(refusal), id.as_str(), reason_of(refusal))
@@ -106,7 +106,7 @@ fn push_refusal(
     let Err(refusal) = outcome else {
         return Ok(());
     };
-    let item = refused_value(alloc, id, refusal.kind())?;
+    let item = refused_value(alloc, id, *refusal)?;
     list.push(alloc, &item)?;
     Ok(())
 }

@@ -7,7 +7,7 @@ ghost use Rattle.serde_json.specs.Written.{compact_text, has_float};
 ghost use Rattle.http_response.specs.Changes.{leaves_data, named_rev_data, page_data, row_data};
 
 use crate::list::ListText;
-use commands::{ChangesPage, Row};
+use queries::{ChangesPage, Row};
 use revision_id::RevId;
 use serde_json::{Value, json};
 use std::alloc::{AllocError, Global};

@@ -9,8 +9,8 @@ ghost use Rattle.http_response.specs.Object.{members_from};
 
 use crate::object::ObjectText;
 use crate::written::revs_value;
-use commands::{Difference, Differences};
 use document_id::DocId;
+use queries::{Difference, Differences};
 use serde_json::{Value, json};
 use std::alloc::{AllocError, Global};
 

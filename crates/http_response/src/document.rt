@@ -9,9 +9,10 @@ ghost use Rattle.http_response.specs.Document.{document_data, named_members, rev
 
 use crate::list::ListText;
 use crate::written::{infos_value, revisions_value, revs_value, value_text};
-use commands::{Document, Status};
 use document_id::DocId;
 use json_profile::Body;
+use model::Status;
+use queries::Document;
 use revision_id::RevId;
 use serde_json::{Map, Value, json, put};
 use std::alloc::{AllocError, Global};

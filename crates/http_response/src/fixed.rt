@@ -7,8 +7,8 @@ ghost use Rattle.http_response.specs.Texts.{full_text, refusal_text, welcome_tex
 use crate::connection::Connection;
 use crate::problem::body_of_absent;
 use crate::response::{Allow, Status, plain_response, response};
-use commands::AbsentKind;
 use http_bodies::{Reason, Refusal};
+use model::Absent;
 use std::alloc::{AllocError, Global};
 
 /// The response to a request that is refused.
@@ -49,7 +49,7 @@ fn body_of(refusal: Refusal) -> &'static str
     ensures { result.now ≡ refusal_body refusal }
 {
     match refusal {
-        Refusal::Missing => body_of_absent(AbsentKind::IsMissing),
+        Refusal::Missing => body_of_absent(Absent::IsMissing),
         Refusal::MethodNotAllowed(_) => {
             r#"{"error":"method_not_allowed","reason":"Method not allowed."}"#
         }

@@ -2,7 +2,6 @@
 
 ghost use Rattle.std.specs.Prelude.{◌≡◌, option_map, IfOk, string_bytes};
 ghost use Rattle.commands.specs.Command.{command_of};
-ghost use Rattle.commands.specs.Refusal.{refusal_of};
 ghost use Rattle.commands.specs.Reply.{reply_of};
 ghost use Rattle.http_response.specs.Texts.{reply_text};
 ghost use Rattle.http_response.specs.Told.{done, reply_told, told_edits, told_local, told_local_one, told_one, told_refused, told_single};
@@ -13,9 +12,10 @@ use crate::document::written_text;
 use crate::local::local_written_text;
 use crate::problem::{refusal_text, status_of};
 use crate::response::{Status, plain_response};
-use commands::{Command, CommandKind, Edit, Refusal, RefusalKind, Reply, ReplyKind};
+use commands::{Command, CommandKind, Edit, Reply, ReplyKind};
 use document_id::DocId;
 use http_request::Form;
+use model::Refusal;
 use revision_id::RevId;
 use std::alloc::{AllocError, Global};
 
@@ -120,13 +120,13 @@ fn tell_one(
 {
     match outcome {
         Ok(rev) => Ok((status, written_text(alloc, id, rev)?)),
-        Err(refusal) => tell_refused(alloc, refusal.kind()),
+        Err(refusal) => tell_refused(alloc, *refusal),
     }
 }
 
-fn tell_refused(alloc: Global, refusal: RefusalKind) -> Result<(Status, String), AllocError>
+fn tell_refused(alloc: Global, refusal: Refusal) -> Result<(Status, String), AllocError>
     ensures { IfOk result (λ told. (told.0, string_bytes told.1)
-        ≡ told_refused (refusal_of refusal)) }
+        ≡ told_refused refusal) }
 {
     Ok((status_of(refusal), refusal_text(alloc, refusal)?))
 }
@@ -159,6 +159,6 @@ fn tell_local_one(
 {
     match outcome {
         Ok(counter) => Ok((status, local_written_text(alloc, id, *counter)?)),
-        Err(refusal) => tell_refused(alloc, refusal.kind()),
+        Err(refusal) => tell_refused(alloc, *refusal),
     }
 }

@@ -1,13 +1,13 @@
 //! What answers write as JSON.
 
 ghost use Rattle.std.specs.Prelude.{◌≡◌, ℕ, false, map, IfOk, string_bytes};
-ghost use Rattle.commands.specs.Status.{status_of};
 ghost use Rattle.serde_json.specs.Data.{array, number, unsigned};
 ghost use Rattle.serde_json.specs.View.{items_of, view};
 ghost use Rattle.serde_json.specs.Written.{compact_text, has_float};
 ghost use Rattle.http_response.specs.Document.{counts_data, hash_data, info_data, infos_data, rev_data, revisions_data, revs_data, start_of, status_name};
 
-use commands::{Counts, Status, StatusKind};
+use model::Status;
+use queries::Counts;
 use revision_id::RevId;
 use serde_json::{Value, json};
 use std::alloc::{AllocError, Global};
@@ -82,10 +82,10 @@ pub(crate) fn revisions_value(alloc: Global, revs: &[RevId]) -> Result<Value, Al
 fn name_of(status: Status) -> &'static str
     ensures { result.now ≡ status_name status }
 {
-    match status.kind() {
-        StatusKind::Available => "available",
-        StatusKind::IsDeleted => "deleted",
-        StatusKind::NoBody => "missing",
+    match status {
+        Status::Available => "available",
+        Status::IsDeleted => "deleted",
+        Status::NoBody => "missing",
     }
 }
 

@@ -4,6 +4,8 @@ use Rattle.std.specs.Cmp.{nat_cmp_total}
 use Rattle.std.specs.Ordering.{nat_cmp}
 use Rattle.std.specs.Cmp.Lexicographic.{slice_cmp, nat_list_cmp_total}
 use Rattle.std.specs.FinMap.{nat_cmp-IsAntisymmetric, slice_cmp-IsAntisymmetric}
+pub use Rattle.model.specs.declared.refusal.Refusal.{Refusal}
+pub use Rattle.model.specs.declared.refusal.Refusal.TheVariants.{Conflict, BadHistory, Missing, Deleted, GenerationLimit}
 use Rattle.model.specs.Map.{Order, Map, entries}
 use Rattle.model.specs.Body.{Body, IsBody}
 use Rattle.model.specs.Revision.{Rev, IsRev}
@@ -49,9 +51,6 @@ pub data Command : Type 0 where
   Purge : Map names (List Rev) → Command
   SetLimit : ℕ → Command
   Compact : Command
-
-pub data Refusal : Type 0 where
-  Conflict BadHistory Missing Deleted GenerationLimit : Refusal
 
 pub data Reply : Type 0 where
   -- of each edit its revision

@@ -1,5 +1,11 @@
 -- What a session can ask of a database as it stands, and the answers.
 use Rattle.std.specs.Prelude.{ℕ, Bool, List, Option, Result}
+pub use Rattle.model.specs.declared.absent.Absent.{Absent}
+pub use Rattle.model.specs.declared.absent.Absent.TheVariants.{IsMissing, WasDeleted}
+pub use Rattle.model.specs.declared.status.Status.{Status}
+pub use Rattle.model.specs.declared.status.Status.TheVariants.{Available, IsDeleted, NoBody}
+pub use Rattle.model.specs.declared.style.Style.{Style}
+pub use Rattle.model.specs.declared.style.Style.TheVariants.{MainOnly, AllDocs}
 use Rattle.model.specs.Map.{Map}
 use Rattle.model.specs.Body.{Body}
 use Rattle.model.specs.Revision.{Rev}
@@ -12,10 +18,6 @@ pub record Options : Type 0 where
   pub revs_info : Bool
   pub conflicts : Bool
   pub deleted_conflicts : Bool
-
--- a change lists the winner alone, or all leaves
-pub data Style : Type 0 where
-  MainOnly AllDocs : Style
 
 pub data Query : Type 0 where
   -- the winner, or the revision named
@@ -31,9 +33,6 @@ pub data Query : Type 0 where
   GetLocal : Id → Query
   RevsLimit : Query
 
-pub data Status : Type 0 where
-  Available IsDeleted NoBody : Status
-
 -- a revision with its body; what was not asked for is None, and of conflicts the empty list
 pub record Document : Type 0 where
   pub id : Id
@@ -44,9 +43,6 @@ pub record Document : Type 0 where
   pub revs_info : Option (List (Rev × Status))
   pub conflicts : List Rev
   pub deleted_conflicts : List Rev
-
-pub data Absent : Type 0 where
-  IsMissing WasDeleted : Absent
 
 -- of the revisions asked for those that are not known, and the leaves that may be their ancestors
 pub record Difference : Type 0 where

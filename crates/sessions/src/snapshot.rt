@@ -5,8 +5,8 @@ ghost use Rattle.model.specs.World.{Asked};
 ghost use Rattle.model.specs.Told.{Tells};
 ghost use Rattle.publications.specs.Histories.{newest, opening_base};
 
-use commands::{Answer, Query};
 use publications::{Naming, Published};
+use queries::{Answer, Query};
 use snapshots::Version;
 use std::alloc::{AllocError, Global};
 use std::marker::Model;

@@ -15,12 +15,14 @@ mod purges;
 
 use crate::record::Record;
 use crate::records::Records;
-use commands::{Command, CommandKind, Counts, Refusal, RefusalKind, Reply, ReplyKind, Seat};
+use commands::{Command, CommandKind, Reply, ReplyKind, Seat};
 use cow_index::{CowMap, Range, Shared};
 use document_id::DocId;
 use json_profile::Body;
 use local_docs::{LocalDoc, LocalFault, Locals};
+use model::Refusal;
 use purge::PurgeLog;
+use queries::Counts;
 use revision_tree::RevTree;
 use std::alloc::{AllocError, Global};
 use std::marker::Model;
@@ -176,9 +178,9 @@ impl Content {
                 self.locals = locals;
                 Ok(Ok(counter))
             }
-            Err(LocalFault::Conflict) => Ok(Err(Refusal::new(RefusalKind::Conflict))),
-            Err(LocalFault::Missing) => Ok(Err(Refusal::new(RefusalKind::Missing))),
-            Err(LocalFault::LastCounter) => Ok(Err(Refusal::new(RefusalKind::GenerationLimit))),
+            Err(LocalFault::Conflict) => Ok(Err(Refusal::Conflict)),
+            Err(LocalFault::Missing) => Ok(Err(Refusal::Missing)),
+            Err(LocalFault::LastCounter) => Ok(Err(Refusal::GenerationLimit)),
             Err(LocalFault::Memory) => Err(AllocError),
         }
     }

@@ -7,9 +7,10 @@ mod purges;
 mod threads;
 
 use crate::Version;
-use commands::{Command, Edit, Merge, Refusal, RefusalKind, ReplyKind, Seat};
+use commands::{Command, Edit, Merge, ReplyKind, Seat};
 use document_id::DocId;
 use json_profile::Body;
+use model::Refusal;
 use purges::{Named, edits_of_many, purge, purge_of_many};
 use revision_id::RevId;
 use std::alloc::Global;
@@ -66,7 +67,7 @@ enum Change {
 enum Answer {
     Revision(RevId),
     Counter(u32),
-    Refused(RefusalKind),
+    Refused(Refusal),
     Done,
 }
 
@@ -223,7 +224,7 @@ fn revision(text: &str) -> Option<Answer> {
     Some(Answer::Revision(RevId::parse(text).ok()?))
 }
 
-fn refused(kind: RefusalKind) -> Option<Answer> {
+fn refused(kind: Refusal) -> Option<Answer> {
     Some(Answer::Refused(kind))
 }
 
@@ -232,7 +233,7 @@ fn answer_at(version: &Version, place: u64) -> Option<Answer> {
     match version.entry(place)?.reply.kind() {
         ReplyKind::Wrote(writes) => first_answer(writes),
         ReplyKind::WroteLocal(Ok(counter)) => Some(Answer::Counter(*counter)),
-        ReplyKind::WroteLocal(Err(refusal)) => refused(refusal.kind()),
+        ReplyKind::WroteLocal(Err(refusal)) => refused(*refusal),
         ReplyKind::Purged { .. } => None,
         ReplyKind::Done => Some(Answer::Done),
     }
@@ -241,7 +242,7 @@ fn answer_at(version: &Version, place: u64) -> Option<Answer> {
 fn first_answer(writes: &[Result<RevId, Refusal>]) -> Option<Answer> {
     match writes.first()? {
         Ok(rev) => Some(Answer::Revision(*rev)),
-        Err(refusal) => refused(refusal.kind()),
+        Err(refusal) => refused(*refusal),
     }
 }
 

@@ -17,11 +17,12 @@ use crate::base::Base;
 use crate::content::Content;
 use crate::record::Record;
 use crate::records::Records;
-use commands::{Command, Copied, Counts, Entry, Reply, ReplyKind, Seat};
+use commands::{Command, Copied, Entry, Reply, ReplyKind, Seat};
 use cow_index::{CowMap, Range, Shared};
 use document_id::DocId;
 use local_docs::LocalDoc;
 use purge::Purged;
+use queries::Counts;
 use std::alloc::{AllocError, Global};
 use std::marker::Model;
 

@@ -6,8 +6,9 @@ ghost use Rattle.model.specs.TreeChange.{IsPath};
 ghost use Rattle.commands.specs.Merge.{newest_of};
 ghost use Rattle.model.specs.Edit.{parent_path, parent_for as parent_in, over_winner as over_leaf, with_path as tree_with, written as written_at, child_written as child_in, edited as edited_in, merged as merged_in};
 
-use commands::{Edit, Merge, Refusal, RefusalKind};
+use commands::{Edit, Merge};
 use json_profile::Body;
+use model::Refusal;
 use revision_id::{RevFault, RevId};
 use revision_tree::{Leaf, RevTree};
 use std::alloc::{AllocError, Global};
@@ -82,7 +83,7 @@ fn parent_for(
             if tree.is_leaf(rev) {
                 Ok(Some(rev))
             } else {
-                Err(Refusal::new(RefusalKind::Conflict))
+                Err(Refusal::Conflict)
             }
         }
     }
@@ -92,11 +93,11 @@ fn parent_of_first(named: Option<RevId>, deleted: bool) -> Result<Option<RevId>,
     ensures { result ≡ parent_in None named deleted }
 {
     if deleted {
-        return Err(Refusal::new(RefusalKind::Missing));
+        return Err(Refusal::Missing);
     }
     match named {
         None => Ok(None),
-        Some(_) => Err(Refusal::new(RefusalKind::Conflict)),
+        Some(_) => Err(Refusal::Conflict),
     }
 }
 
@@ -104,10 +105,10 @@ fn over_winner(winner: Leaf, deleted: bool) -> Result<Option<RevId>, Refusal>
     ensures { result ≡ over_leaf (Some (record { deleted = winner.deleted; rev = winner.rev })) deleted }
 {
     if !winner.deleted {
-        return Err(Refusal::new(RefusalKind::Conflict));
+        return Err(Refusal::Conflict);
     }
     if deleted {
-        return Err(Refusal::new(RefusalKind::Deleted));
+        return Err(Refusal::Deleted);
     }
     Ok(Some(winner.rev))
 }
@@ -127,7 +128,7 @@ fn child_written(
             let _generation = rev.generation();
             child_placed(alloc, limit, tree, edit, parent, rev)
         }
-        Err(RevFault::LastGeneration) => Ok(Err(Refusal::new(RefusalKind::GenerationLimit))),
+        Err(RevFault::LastGeneration) => Ok(Err(Refusal::GenerationLimit)),
         Err(RevFault::Memory) => Err(AllocError),
         Err(RevFault::Malformed) => unreachable!(),
     }
@@ -185,7 +186,7 @@ fn path_written(
     let rev = path[0];
     match with_path(alloc, tree, limit, path, body.clone()?, deleted) {
         Ok(tree) => Ok(Ok(Written { rev, tree })),
-        Err(MergeFault::Contradiction) => Ok(Err(Refusal::new(RefusalKind::BadHistory))),
+        Err(MergeFault::Contradiction) => Ok(Err(Refusal::BadHistory)),
         Err(MergeFault::Memory) => Err(AllocError),
     }
 }

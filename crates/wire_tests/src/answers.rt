@@ -1,10 +1,12 @@
-use commands::{
-    Answer, AnswerKind, ChangesPage, Difference, Differences, Document, NamedRevisions, Options,
-    Query, QueryKind, Row, Style, StyleKind,
-};
+use commands::NamedRevisions;
 use document_id::DocId;
 use http_response::{Connection, answer};
 use json_profile::Body;
+use model::Style;
+use queries::{
+    Answer, AnswerKind, ChangesPage, Difference, Differences, Document, Options, Query, QueryKind,
+    Row,
+};
 use revision_id::RevId;
 use std::sync::Arc;
 use std::test::Fail;
@@ -55,7 +57,7 @@ fn changes(rt: HostRuntime) -> Result<(), Fail> {
     let query = QueryKind::Changes {
         since: 0,
         limit: None,
-        style: Style::new(StyleKind::MainOnly),
+        style: Style::MainOnly,
     };
     let page = ChangesPage {
         last_seq: 7,

@@ -1,8 +1,9 @@
-use commands::{CommandKind, QueryKind};
+use commands::CommandKind;
 use http_bodies::{Reason, Refusal};
 use http_framing::request::Request;
 use http_request::{Asked, Form, read_request};
 use http_routes::{Route, Routes};
+use queries::QueryKind;
 use std::test::Fail;
 
 fn ask(

@@ -1,7 +1,4 @@
-use commands::{
-    Absent, AbsentKind, Answer, AnswerKind, Command, Document, Edit, Merge, Options, Query,
-    QueryKind, Refusal as WriteRefusal, RefusalKind, Reply, ReplyKind,
-};
+use commands::{Command, Edit, Merge, Reply, ReplyKind};
 use document_id::DocId;
 use http_bodies::{Reason, Refusal};
 use http_framing::FramingFault;
@@ -9,6 +6,8 @@ use http_request::Form;
 use http_response::{Connection, Lost, answer, closing, full, no_memory, refused, reply, welcome};
 use http_routes::Route;
 use json_profile::Body;
+use model::{Absent, Refusal as WriteRefusal};
+use queries::{Answer, AnswerKind, Document, Options, Query, QueryKind};
 use revision_id::RevId;
 use std::alloc::Global;
 use std::sync::Arc;
@@ -38,7 +37,7 @@ fn a_put(rt: HostRuntime) -> Result<(), Fail> {
         text.as_str(),
         "HTTP/1.1 201 Created\r\nContent-Type: application/json\r\nContent-Length: 63\r\nCouch-Place: 1\r\n\r\n{\"id\":\"a\",\"ok\":true,\"rev\":\"1-0123456789abcdef0123456789abcdef\"}"
     );
-    let refused = WriteRefusal::new(RefusalKind::Conflict);
+    let refused = WriteRefusal::Conflict;
     let text = reply_to_put(&rt, Form::Put, Err(refused))?;
     assert_eq!(rt;
         text.as_str(),
@@ -70,9 +69,9 @@ fn merge(alloc: Global, name: &str) -> Result<Merge, Fail> {
 }
 
 /// The reply to two writes, of which the second is refused.
-fn two_writes(alloc: Global, refusal: RefusalKind) -> Result<Reply, Fail> {
+fn two_writes(alloc: Global, refusal: Refusal) -> Result<Reply, Fail> {
     let taken = Ok(RevId::parse(A1).ok().ok_or("revision")?);
-    let refused = Err(WriteRefusal::new(refusal));
+    let refused = Err(refusal);
     let outcomes = vec![in alloc; taken, refused]?;
     Ok(Reply::new(ReplyKind::Wrote(outcomes)))
 }
@@ -82,7 +81,7 @@ fn bulks(rt: HostRuntime) -> Result<(), Fail> {
     let alloc = rt.alloc();
     let edits = vec![in alloc; edit(alloc, "a")?, edit(alloc, "b")?]?;
     let edits = Command::edits(edits).ok_or("command")?;
-    let told = two_writes(alloc, RefusalKind::Conflict)?;
+    let told = two_writes(alloc, Refusal::Conflict)?;
     assert_eq!(rt;
         reply(alloc, 1, Connection::Open, Form::Whole, &edits, &told)?
             .ok_or("no text")?
@@ -91,7 +90,7 @@ fn bulks(rt: HostRuntime) -> Result<(), Fail> {
     );
     let merges = vec![in alloc; merge(alloc, "a")?, merge(alloc, "b")?]?;
     let merges = Command::merges(merges).ok_or("command")?;
-    let told = two_writes(alloc, RefusalKind::BadHistory)?;
+    let told = two_writes(alloc, Refusal::BadHistory)?;
     assert_eq!(rt;
         reply(alloc, 2, Connection::Open, Form::Whole, &merges, &told)?
             .ok_or("no text")?
@@ -105,7 +104,7 @@ fn bulks(rt: HostRuntime) -> Result<(), Fail> {
 fn no_such_replies(rt: HostRuntime) -> Result<(), Fail> {
     let alloc = rt.alloc();
     let done = Reply::new(ReplyKind::Done);
-    let written = two_writes(alloc, RefusalKind::BadHistory)?;
+    let written = two_writes(alloc, Refusal::BadHistory)?;
     let merges = Command::merges(vec![in alloc; merge(alloc, "a")?]?).ok_or("command")?;
     let rows = [
         (Form::Whole, Command::compact(), &done),
@@ -140,7 +139,7 @@ fn local_writes(rt: HostRuntime) -> Result<(), Fail> {
         reply_to_local(&rt, Form::Delete, Ok(0))?.as_str(),
         "HTTP/1.1 200 OK\r\nContent-Type: application/json\r\nContent-Length: 39\r\nCouch-Place: 3\r\n\r\n{\"id\":\"_local/a\",\"ok\":true,\"rev\":\"0-0\"}"
     );
-    let missing = WriteRefusal::new(RefusalKind::Missing);
+    let missing = WriteRefusal::Missing;
     assert_eq!(rt;
         reply_to_local(&rt, Form::Delete, Err(missing))?.as_str(),
         "HTTP/1.1 404 Not Found\r\nContent-Type: application/json\r\nContent-Length: 40\r\nCouch-Place: 3\r\n\r\n{\"error\":\"not_found\",\"reason\":\"missing\"}"
@@ -183,7 +182,7 @@ fn a_get(rt: HostRuntime) -> Result<(), Fail> {
         answer_to_get(&rt, Ok(document))?.as_str(),
         "HTTP/1.1 200 OK\r\nContent-Type: application/json\r\nContent-Length: 55\r\nCouch-Place: 1\r\nConnection: close\r\n\r\n{\"_id\":\"a\",\"_rev\":\"1-0123456789abcdef0123456789abcdef\"}"
     );
-    let deleted = Absent::new(AbsentKind::WasDeleted);
+    let deleted = Absent::WasDeleted;
     assert_eq!(rt;
         answer_to_get(&rt, Err(deleted))?.as_str(),
         "HTTP/1.1 404 Not Found\r\nContent-Type: application/json\r\nContent-Length: 40\r\nCouch-Place: 1\r\nConnection: close\r\n\r\n{\"error\":\"not_found\",\"reason\":\"deleted\"}"

@@ -5,8 +5,10 @@ use super::texts::{
     push_opened, push_page,
 };
 use crate::{all_docs, answer, changes, get, info, local_get, open_revs, revs_diff, revs_limit};
-use commands::{AskedRevisions, NamedRevisions, Options, Query, QueryKind, Style, StyleKind};
+use commands::{AskedRevisions, NamedRevisions};
 use document_id::DocId;
+use model::Style;
+use queries::{Options, Query, QueryKind};
 use revision_id::RevId;
 use snapshots::Version;
 use std::alloc::Global;
@@ -20,7 +22,7 @@ pub(super) enum Asked {
     Revisions(&'static str, &'static str, Options),
     /// Of each document which revisions.
     Missing(&'static [(&'static str, &'static str)]),
-    Changes(u64, Option<u64>, StyleKind),
+    Changes(u64, Option<u64>, Style),
     Documents,
     Counts,
     Local(&'static str),
@@ -108,13 +110,10 @@ fn page(
     version: &Version,
     since: u64,
     limit: Option<u64>,
-    style: StyleKind,
+    style: Style,
 ) -> Result<String, Fail> {
     let mut text = String::new(alloc);
-    push_page(
-        &mut text,
-        &changes(alloc, version, since, limit, Style::new(style))?,
-    )?;
+    push_page(&mut text, &changes(alloc, version, since, limit, style)?)?;
     Ok(text)
 }
 
@@ -165,7 +164,7 @@ fn kind(alloc: Global, asked: &Asked) -> Result<QueryKind, Fail> {
         Asked::Changes(since, limit, style) => Ok(QueryKind::Changes {
             since: *since,
             limit: *limit,
-            style: Style::new(*style),
+            style: *style,
         }),
         Asked::Documents => Ok(QueryKind::AllDocuments),
         Asked::Counts => Ok(QueryKind::Info),

@@ -3,7 +3,7 @@ use super::DELETED_FIRST;
 use super::database::{Change, after, changed};
 use super::texts::push_rows;
 use crate::Follower;
-use commands::{Style, StyleKind};
+use model::Style;
 use snapshots::Version;
 use std::alloc::Global;
 use std::test::Fail;
@@ -23,7 +23,7 @@ fn taken(
 #[test]
 fn each_row_is_taken_once(rt: HostRuntime) -> Result<(), Fail> {
     let version = changed(rt.alloc(), DELETED_FIRST)?;
-    let mut follower = Follower::new(0, Style::new(StyleKind::MainOnly));
+    let mut follower = Follower::new(0, Style::MainOnly);
     for (rows, cursor) in [("[2 b A1][3 c A1]", 3), ("[4 a X2 deleted]", 4), ("", 4)] {
         assert_eq!(rt;
             taken(rt.alloc(), &mut follower, &version, 2)?.as_str(),
@@ -45,7 +45,7 @@ const FOLLOWED: &[(Change, &str)] = &[
 #[test]
 fn later_versions_are_followed(rt: HostRuntime) -> Result<(), Fail> {
     let mut version = Version::empty(rt.alloc());
-    let mut follower = Follower::new(0, Style::new(StyleKind::AllDocs));
+    let mut follower = Follower::new(0, Style::AllDocs);
     for (change, rows) in FOLLOWED {
         version = after(rt.alloc(), &version, change)?;
         assert_eq!(rt;
@@ -60,7 +60,7 @@ fn later_versions_are_followed(rt: HostRuntime) -> Result<(), Fail> {
 #[test]
 fn a_follower_begins_above_its_number(rt: HostRuntime) -> Result<(), Fail> {
     let version = changed(rt.alloc(), DELETED_FIRST)?;
-    let mut follower = Follower::new(3, Style::new(StyleKind::MainOnly));
+    let mut follower = Follower::new(3, Style::MainOnly);
     assert_eq!(rt; follower.cursor(), 3);
     assert_eq!(rt;
         taken(rt.alloc(), &mut follower, &version, 2)?.as_str(),

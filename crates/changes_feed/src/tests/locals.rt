@@ -2,14 +2,15 @@
 use super::asked::Asked;
 use super::compare;
 use super::database::{Change, after};
-use commands::{RefusalKind, ReplyKind, StyleKind};
+use commands::ReplyKind;
+use model::{Refusal, Style};
 use snapshots::Version;
 use std::test::Fail;
 
 /// A write of the local document, what it is answered, and what stands after it.
 struct Write {
     change: Change,
-    reply: Result<u32, RefusalKind>,
+    reply: Result<u32, Refusal>,
     stands: &'static str,
 }
 
@@ -25,7 +26,7 @@ const WRITES: &[Write] = &[
     },
     Write {
         change: Change::Local(None),
-        reply: Err(RefusalKind::Conflict),
+        reply: Err(Refusal::Conflict),
         stands: FIRST,
     },
     Write {
@@ -40,16 +41,16 @@ const WRITES: &[Write] = &[
     },
     Write {
         change: Change::LocalDeletion(2),
-        reply: Err(RefusalKind::Missing),
+        reply: Err(Refusal::Missing),
         stands: "missing",
     },
 ];
 
 /// What the last write was answered.
-fn last_reply(version: &Version) -> Option<Result<u32, RefusalKind>> {
+fn last_reply(version: &Version) -> Option<Result<u32, Refusal>> {
     match version.entry(version.place())?.reply.kind() {
         ReplyKind::WroteLocal(Ok(counter)) => Some(Ok(*counter)),
-        ReplyKind::WroteLocal(Err(refusal)) => Some(Err(refusal.kind())),
+        ReplyKind::WroteLocal(Err(refusal)) => Some(Err(*refusal)),
         _ => None,
     }
 }
@@ -66,7 +67,7 @@ fn local_documents_are_told(rt: HostRuntime) -> Result<(), Fail> {
         &rt,
         rt.alloc(),
         &version,
-        &Asked::Changes(0, None, StyleKind::MainOnly),
+        &Asked::Changes(0, None, Style::MainOnly),
         "[last 0 pending 0]",
     )
 }

@@ -1,11 +1,9 @@
 //! Answers as texts.
 use super::names::name_of;
-use commands::{
-    Absent, AbsentKind, Answer, AnswerKind, ChangesPage, Counts, Difference, Differences, Document,
-    Row, Status, StatusKind,
-};
 use document_id::DocId;
 use json_profile::Body;
+use model::{Absent, Status};
+use queries::{Answer, AnswerKind, ChangesPage, Counts, Difference, Differences, Document, Row};
 use revision_id::RevId;
 use std::alloc::AllocError;
 use std::sync::Arc;
@@ -29,14 +27,14 @@ pub(super) fn push_found(
 ) -> Result<(), AllocError> {
     match found {
         Ok(document) => push_document(text, document),
-        Err(absent) => text.push_str(absence(absent.kind())),
+        Err(absent) => text.push_str(absence(*absent)),
     }
 }
 
-fn absence(kind: AbsentKind) -> &'static str {
+fn absence(kind: Absent) -> &'static str {
     match kind {
-        AbsentKind::IsMissing => "missing",
-        AbsentKind::WasDeleted => "deleted",
+        Absent::IsMissing => "missing",
+        Absent::WasDeleted => "deleted",
     }
 }
 
@@ -89,16 +87,16 @@ fn push_names(text: &mut String, word: &str, revs: &[RevId]) -> Result<(), Alloc
 fn push_infos(text: &mut String, infos: &[(RevId, Status)]) -> Result<(), AllocError> {
     text.push_str(" status")?;
     for (rev, status) in infos {
-        write!(text, " {} {}", name_of(*rev), status_text(status.kind()))?;
+        write!(text, " {} {}", name_of(*rev), status_text(*status))?;
     }
     Ok(())
 }
 
-fn status_text(kind: StatusKind) -> &'static str {
+fn status_text(kind: Status) -> &'static str {
     match kind {
-        StatusKind::Available => "available",
-        StatusKind::IsDeleted => "deleted",
-        StatusKind::NoBody => "missing",
+        Status::Available => "available",
+        Status::IsDeleted => "deleted",
+        Status::NoBody => "missing",
     }
 }
 

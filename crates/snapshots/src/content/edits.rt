@@ -6,8 +6,9 @@ ghost use Rattle.model.specs.Database.{same_tree, tree_at, edit_in, merge_in, af
 
 use crate::content::Content;
 use crate::written::{Written, edited, merged};
-use commands::{Edit, Merge, Refusal};
+use commands::{Edit, Merge};
 use document_id::DocId;
+use model::Refusal;
 use revision_id::RevId;
 use revision_tree::RevTree;
 use std::alloc::AllocError;

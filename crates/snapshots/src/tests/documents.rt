@@ -3,8 +3,8 @@ use crate::tests::{
     AS, BS, CS, Change, DELETED, DELETION, FIRST, FS, NOTHING, ONE_EDIT, OVER_DELETION, SECOND,
     Stands, TWO_EDITS, ZEROS, at, changed, outcome, refused, revision,
 };
-use commands::RefusalKind;
 use document_id::DocId;
+use model::Refusal;
 use revision_id::RevId;
 use std::alloc::Global;
 use std::test::Fail;
@@ -26,7 +26,7 @@ fn other_edits_conflict(rt: HostRuntime) -> Result<(), Fail> {
     let changes = [Change::Edit("a", None), Change::Edit("a", None)];
     assert_eq!(rt;
         outcome(rt.alloc(), &changes)?,
-        (refused(RefusalKind::Conflict), at(2, ONE_EDIT))
+        (refused(Refusal::Conflict), at(2, ONE_EDIT))
     );
     let changes = [
         Change::Edit("a", None),
@@ -35,12 +35,12 @@ fn other_edits_conflict(rt: HostRuntime) -> Result<(), Fail> {
     ];
     assert_eq!(rt;
         outcome(rt.alloc(), &changes)?,
-        (refused(RefusalKind::Conflict), at(3, TWO_EDITS))
+        (refused(Refusal::Conflict), at(3, TWO_EDITS))
     );
     let changes = [Change::Edit("a", Some(FIRST))];
     assert_eq!(rt;
         outcome(rt.alloc(), &changes)?,
-        (refused(RefusalKind::Conflict), at(1, NOTHING))
+        (refused(Refusal::Conflict), at(1, NOTHING))
     );
     Ok(())
 }
@@ -59,12 +59,12 @@ fn deletions_name_the_leaf(rt: HostRuntime) -> Result<(), Fail> {
     ];
     assert_eq!(rt;
         outcome(rt.alloc(), &changes)?,
-        (refused(RefusalKind::Deleted), at(3, DELETED))
+        (refused(Refusal::Deleted), at(3, DELETED))
     );
     let changes = [Change::Deletion("a", None)];
     assert_eq!(rt;
         outcome(rt.alloc(), &changes)?,
-        (refused(RefusalKind::Missing), at(1, NOTHING))
+        (refused(Refusal::Missing), at(1, NOTHING))
     );
     Ok(())
 }
@@ -109,7 +109,7 @@ fn merges_add_branches_once(rt: HostRuntime) -> Result<(), Fail> {
     assert_eq!(rt;
         outcome(rt.alloc(), &changes)?,
         (
-            refused(RefusalKind::BadHistory),
+            refused(Refusal::BadHistory),
             Stands {
                 place: 2,
                 revisions: 2,

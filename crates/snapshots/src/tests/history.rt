@@ -4,8 +4,9 @@ use crate::tests::{
     changed_by, command, edit, first_answer, refused, revision, standing,
 };
 use crate::{Record, Version};
-use commands::{Command, CommandKind, Edit, Entry, RefusalKind, ReplyKind};
+use commands::{Command, CommandKind, Edit, Entry, ReplyKind};
 use document_id::DocId;
+use model::Refusal;
 use std::alloc::Global;
 use std::test::Fail;
 
@@ -190,7 +191,7 @@ fn second_answer(version: &Version) -> Option<Answer> {
 fn writes_are_done_in_order(rt: HostRuntime) -> Result<(), Fail> {
     let version = edited_twice(rt.alloc())?;
     assert_eq!(rt; answer_at(&version, 1), revision(FIRST));
-    assert_eq!(rt; second_answer(&version), refused(RefusalKind::Conflict));
+    assert_eq!(rt; second_answer(&version), refused(Refusal::Conflict));
     assert_eq!(rt; version.update_seq(), 1);
     Ok(())
 }

@@ -3,7 +3,7 @@ use crate::tests::{
     Answer, Change, FIRST, NOTHING, ONE_EDIT, SECOND, Stands, THIRD, TWO_EDITS, outcome, refused,
     revision,
 };
-use commands::RefusalKind;
+use model::Refusal;
 use std::test::Fail;
 
 /// After a limit of 1.
@@ -54,7 +54,7 @@ fn a_limit_waits_for_a_write(rt: HostRuntime) -> Result<(), Fail> {
     assert_eq!(rt;
         outcome(rt.alloc(), &changes)?,
         (
-            refused(RefusalKind::Conflict),
+            refused(Refusal::Conflict),
             Stands {
                 place: 4,
                 revs_limit: 1,

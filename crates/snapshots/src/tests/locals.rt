@@ -1,6 +1,6 @@
 // Local documents.
 use crate::tests::{Answer, Change, NOTHING, Stands, outcome, refused};
-use commands::RefusalKind;
+use model::Refusal;
 use std::test::Fail;
 
 /// After writes of the local document alone.
@@ -30,12 +30,12 @@ fn other_counters_conflict(rt: HostRuntime) -> Result<(), Fail> {
     let changes = [Change::Local(None), Change::Local(None)];
     assert_eq!(rt;
         outcome(rt.alloc(), &changes)?,
-        (refused(RefusalKind::Conflict), counted(2, 1))
+        (refused(Refusal::Conflict), counted(2, 1))
     );
     let changes = [Change::Local(Some(1))];
     assert_eq!(rt;
         outcome(rt.alloc(), &changes)?,
-        (refused(RefusalKind::Conflict), counted(1, 0))
+        (refused(Refusal::Conflict), counted(1, 0))
     );
     let changes = [
         Change::Local(None),
@@ -44,7 +44,7 @@ fn other_counters_conflict(rt: HostRuntime) -> Result<(), Fail> {
     ];
     assert_eq!(rt;
         outcome(rt.alloc(), &changes)?,
-        (refused(RefusalKind::Conflict), counted(3, 2))
+        (refused(Refusal::Conflict), counted(3, 2))
     );
     Ok(())
 }
@@ -63,7 +63,7 @@ fn deletions_begin_again(rt: HostRuntime) -> Result<(), Fail> {
     let changes = [Change::LocalDeletion(None)];
     assert_eq!(rt;
         outcome(rt.alloc(), &changes)?,
-        (refused(RefusalKind::Missing), counted(1, 0))
+        (refused(Refusal::Missing), counted(1, 0))
     );
     Ok(())
 }

@@ -6,8 +6,8 @@ use Rattle.model.specs.Database.{Database}
 use Rattle.model.specs.History.{now}
 use Rattle.model.specs.Documents.{opened}
 use Rattle.model.specs.Answers.{answer_to}
-use Rattle.commands.specs.Query.{query_of}
-use Rattle.commands.specs.declared.query.QueryKind.{QueryKind}
+use Rattle.queries.specs.Query.{query_of}
+use Rattle.queries.specs.declared.query.QueryKind.{QueryKind}
 use Rattle.changes_feed.proofs.answered.answer.Goals as goal
 
 -- a query is what its kind says

@@ -1,13 +1,13 @@
 //! Answers to queries.
 ghost use Rattle.std.specs.Prelude.{◌≡◌};
-ghost use Rattle.commands.specs.Answer.{answer_of};
+ghost use Rattle.queries.specs.Answer.{answer_of};
 
-use crate::absent::Absent;
 use crate::difference::Differences;
 use crate::document::Document;
 use crate::page::{ChangesPage, Counts};
 use document_id::DocId;
 use json_profile::Body;
+use model::Absent;
 use revision_id::RevId;
 use std::marker::Model;
 use std::sync::Arc;
@@ -44,7 +44,7 @@ impl Model for Answer {
 
     ghost coded = { Prim.hlevel (codes, coded_members) };
 
-    ghost use Rattle.commands.specs.Answer.{answer_of};
+    ghost use Rattle.queries.specs.Answer.{answer_of};
 
     ghost view = { λ a. answer_of a.kind };
 }

@@ -2,8 +2,8 @@
 use Rattle.std.specs.Prelude.{option_map}
 use Rattle.std.specs.Arc.{arc_value}
 use Rattle.model.specs.Query as model
-use Rattle.commands.specs.declared.answer.AnswerKind.{AnswerKind}
-use Rattle.commands.specs.declared.answer.AnswerKind.TheVariants.{Found, Opened, Differences, Changed, Documents, Counted, FoundLocal, Limit}
+use Rattle.queries.specs.declared.answer.AnswerKind.{AnswerKind}
+use Rattle.queries.specs.declared.answer.AnswerKind.TheVariants.{Found, Opened, Differences, Changed, Documents, Counted, FoundLocal, Limit}
 
 abbrev pub answer_of : AnswerKind → model.Answer
 answer_of (Found document) = model.Found document

@@ -1,8 +1,8 @@
 -- The kinds of queries in the words of the model.
 use Rattle.std.specs.Prelude.{option_map}
 use Rattle.model.specs.Query as model
-use Rattle.commands.specs.declared.query.QueryKind.{QueryKind}
-use Rattle.commands.specs.declared.query.QueryKind.TheVariants.{Get, OpenRevs, RevsDiff, Changes, AllDocuments, Info, GetLocal, RevsLimit}
+use Rattle.queries.specs.declared.query.QueryKind.{QueryKind}
+use Rattle.queries.specs.declared.query.QueryKind.TheVariants.{Get, OpenRevs, RevsDiff, Changes, AllDocuments, Info, GetLocal, RevsLimit}
 
 abbrev pub query_of : QueryKind → model.Query
 query_of (Get id rev options) = model.Get id rev options

@@ -1,7 +1,7 @@
 //! A revision as a query shows it.
-use crate::status::Status;
 use document_id::DocId;
 use json_profile::Body;
+use model::Status;
 use revision_id::RevId;
 use std::marker::Model;
 use std::sync::Arc;

@@ -1,11 +1,11 @@
 //! Queries: what is asked of a database as it stands.
 ghost use Rattle.std.specs.Prelude.{◌≡◌};
-ghost use Rattle.commands.specs.Query.{query_of};
+ghost use Rattle.queries.specs.Query.{query_of};
 
-use crate::named::NamedRevisions;
 use crate::options::Options;
-use crate::style::Style;
+use commands::NamedRevisions;
 use document_id::DocId;
+use model::Style;
 use revision_id::RevId;
 use std::marker::Model;
 
@@ -49,7 +49,7 @@ impl Model for Query {
 
     ghost Value = { Query };
 
-    ghost use Rattle.commands.specs.Query.{query_of};
+    ghost use Rattle.queries.specs.Query.{query_of};
 
     ghost view = { λ q. query_of q.kind };
 }

@@ -1,0 +1,12 @@
+//! What is kept of revisions.
+
+/// What is kept of a revision, as `revs_info` tells it.
+#[derive(Clone, Copy, Debug, PartialEq, Eq)]
+pub enum Status {
+    /// Its body.
+    Available,
+    /// Its body, as that of a deletion.
+    IsDeleted,
+    /// Its identity alone.
+    NoBody,
+}

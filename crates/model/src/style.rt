@@ -1,0 +1,10 @@
+//! The two styles of the changes feed.
+
+/// What a change lists.
+#[derive(Clone, Copy, Debug, PartialEq, Eq)]
+pub enum Style {
+    /// The winner alone.
+    MainOnly,
+    /// All leaves.
+    AllDocs,
+}
