@@ -7,7 +7,8 @@ use Rattle.std.proofs.lemmas.List.Elements.{All-get_or}
 use Rattle.std.specs.List.{list_all}
 use Rattle.std.specs.Char.{digit_value, is_ascii_digit}
 use Rattle.std.specs.Str.Parse.{digits_value}
-use Rattle.http_framing.specs.Body.{is_digits, length_said, body_limit}
+use Rattle.decimals.specs.Number.{is_digits}
+use Rattle.http_framing.specs.Body.{length_said, body_limit}
 use Rattle.http_framing.specs.declared.FramingFault.TheVariants.{ContentLength, LargeBody}
 
 pub length_said-no_digits : (value : List ℕ) → is_digits value ≡ false → Err ContentLength ≡ length_said value

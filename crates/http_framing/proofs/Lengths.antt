@@ -6,7 +6,8 @@ use Rattle.std.specs.Str.Parse.{digits_value}
 use Rattle.http_framing.specs.declared.FramingFault.{FramingFault}
 use Rattle.http_framing.specs.declared.FramingFault.TheVariants.{Head, LargeHead, TransferEncoding, ContentLength, LargeBody}
 use Rattle.http_framing.specs.Headers.{Header, values_named}
-use Rattle.http_framing.specs.Body.{body_limit, is_digits, length_said, content_length, unless_coded, body_length}
+use Rattle.decimals.specs.Number.{is_digits}
+use Rattle.http_framing.specs.Body.{body_limit, length_said, content_length, unless_coded, body_length}
 use Rattle.http_framing.specs.Refusal.{HasBadBody, IsRefused}
 
 -- the fault is of the body

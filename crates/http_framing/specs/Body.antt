@@ -1,8 +1,7 @@
 -- How long a request's body is (RFC 9112, section 6, with `Content-Length` alone).
-use Rattle.std.specs.Prelude.{ℕ, Bool, ◌&&◌, List, [], ◌∷◌, length, Result, Ok, Err, codes, if◌then◌else◌, nat_lt, nat_le}
-use Rattle.std.specs.List.{list_all}
-use Rattle.std.specs.Char.{is_ascii_digit}
+use Rattle.std.specs.Prelude.{ℕ, List, [], ◌∷◌, Result, Ok, Err, codes, if◌then◌else◌, nat_le}
 use Rattle.std.specs.Str.Parse.{digits_value}
+use Rattle.decimals.specs.Number.{is_digits}
 use Rattle.http_framing.specs.Headers.{Header, values_named}
 use Rattle.http_framing.specs.declared.FramingFault.{FramingFault}
 use Rattle.http_framing.specs.declared.FramingFault.TheVariants.{TransferEncoding, ContentLength, LargeBody}
@@ -10,10 +9,6 @@ use Rattle.http_framing.specs.declared.FramingFault.TheVariants.{TransferEncodin
 -- the most bytes of a body
 abbrev pub body_limit : ℕ
 body_limit = 1048576
-
--- one digit or more, and nothing else
-abbrev pub is_digits : List ℕ → Bool
-is_digits value = nat_lt 0 (length value) && list_all is_ascii_digit value
 
 -- the length that one value of `Content-Length` gives
 unfoldable pub length_said : List ℕ → Result ℕ FramingFault

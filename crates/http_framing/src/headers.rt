@@ -1,15 +1,15 @@
 //! What the headers of a head say of the body and of the connection.
 
 ghost use Rattle.std.specs.Prelude.{◌≡◌, ℕ, List, [], ◌∷◌, ◌++◌, length, map, All};
-ghost use Rattle.std.specs.List.{list_all, list_any};
-ghost use Rattle.std.specs.Char.{is_ascii_digit};
+ghost use Rattle.std.specs.List.{list_any};
 ghost use Rattle.httparse.specs.Spans.{header_bytes, IsHeaderWithin};
-ghost use Rattle.http_framing.specs.Body.{is_digits, length_said, body_length};
+ghost use Rattle.http_framing.specs.Body.{length_said, body_length};
 ghost use Rattle.http_framing.specs.Headers.{is_named, values_named};
 ghost use Rattle.http_framing.specs.Occurs.{Occurs};
 ghost use Rattle.http_framing.specs.Request.{is_close, closes_after};
 
 use crate::{BODY_LIMIT, FramingFault};
+use decimals::is_digits;
 use httparse::spans::HeaderSpan;
 
 fn is_named(bytes: &[u8], header: &HeaderSpan, name: &[u8]) -> bool
@@ -54,18 +54,6 @@ fn find_header<'a>(bytes: &'a [u8], headers: &[HeaderSpan], name: &[u8]) -> Occu
         found = found.add(bytes, header, name);
     }
     found
-}
-
-fn are_all_digits(value: &[u8]) -> bool
-    ensures { result ≡ list_all is_ascii_digit value.now }
-{
-    value.iter().all(|b| b.is_ascii_digit())
-}
-
-fn is_digits(value: &[u8]) -> bool
-    ensures { result ≡ is_digits value.now }
-{
-    !value.is_empty() && are_all_digits(value)
 }
 
 /// The length that one value of `Content-Length` gives.

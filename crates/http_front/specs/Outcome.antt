@@ -11,7 +11,7 @@ use Rattle.http_request.specs.Decide.{decide}
 use Rattle.http_request.specs.declared.asked.Asked.{Asked as Asking}
 use Rattle.http_request.specs.declared.asked.Asked.TheVariants as asked
 use Rattle.http_request.specs.declared.asked.Form.{Form}
-use Rattle.http_bodies.specs.declared.refusal.Refusal.{Refusal}
+use Rattle.http_request.specs.declared.rejection.Rejection.{Rejection}
 use Rattle.http_response.specs.Texts.{closing_text, refusal_text, welcome_text, reply_text, answer_text, full_text, no_memory_text}
 use Rattle.http_response.specs.declared.connection.Connection.{Connection as After}
 use Rattle.http_response.specs.declared.connection.Connection.TheVariants as after
@@ -82,7 +82,7 @@ abbrev pub after_closing : Bool → After
 after_closing closes = if closes then after.Close else after.Open
 
 -- the text is that of a refusal, or of `/`
-abbrev pub IsFixedText : ℕ → Bool → Result Asking Refusal → List ℕ → Type 0
+abbrev pub IsFixedText : ℕ → Bool → Result Asking Rejection → List ℕ → Type 0
 IsFixedText place closes (Err refusal) text = text ≡ refusal_text place (after_closing closes) refusal
 IsFixedText place closes (Ok asked.Welcome) text = text ≡ welcome_text place (after_closing closes)
 IsFixedText place closes (Ok (asked.Command form command)) text = ⊥

@@ -1,5 +1,5 @@
 -- Each request asks for a command in a form in which it is told.
-use Rattle.std.proofs.Common.{◌≡◌, ℕ, Bool, true, false, List, Option, None, Some, Ok, Err, subst}
+use Rattle.std.proofs.Common.{◌≡◌, ℕ, Bool, true, false, List, Option, None, Some, Result, Ok, Err, subst}
 use Rattle.std.specs.Prelude.{IfOk, if◌then◌else◌, codes, not, ◌||◌}
 use Rattle.std.specs.Str.{bytes_eq}
 use Rattle.http_framing.specs.Request.{Request}
@@ -11,37 +11,43 @@ use Rattle.http_routes.specs.declared.Method.{Method}
 use Rattle.http_routes.specs.declared.Method.TheVariants as method
 use Rattle.model.specs.Command.{Command, Id}
 use Rattle.model.specs.Query.{Options, Style}
-use Rattle.http_bodies.specs.Steps.{Checked, and_then, or_refused, check}
-use Rattle.http_bodies.specs.Each.{each}
-use Rattle.http_bodies.specs.Text.{json_of}
-use Rattle.http_bodies.specs.Lists.{text_list_of, rev_in}
-use Rattle.http_bodies.specs.declared.refusal.Reason.TheVariants as reason
-use Rattle.http_bodies.specs.Bulk.{bulk_of, command_in, documents_in, edit_in, listed_in, merge_in, new_edits_in}
-use Rattle.http_bodies.specs.Document.{edit_of, parts_in}
-use Rattle.http_bodies.specs.Limit.{limit_of}
-use Rattle.http_bodies.specs.Local.{counter_in, counter_over, local_document_of, local_edit_of}
-use Rattle.http_bodies.specs.Difference.{difference_of}
+use Rattle.document_json.specs.Steps.{Checked, and_then, or_refused, check}
+use Rattle.document_json.specs.Each.{each}
+use Rattle.document_json.specs.Text.{json_of}
+use Rattle.document_json.specs.Lists.{text_list_of, rev_in}
+use Rattle.document_json.specs.declared.fault.Reason.TheVariants as reason
+use Rattle.document_json.specs.Bulk.{bulk_of, command_in, documents_in, edit_in, listed_in, merge_in, new_edits_in}
+use Rattle.document_json.specs.Document.{edit_of, parts_in}
+use Rattle.document_json.specs.Limit.{limit_of}
+use Rattle.document_json.specs.Local.{counter_in, counter_over, local_document_of, local_edit_of}
+use Rattle.document_json.specs.Difference.{difference_of}
 use Rattle.http_request.specs.Decide.{decide, route_in, method_in, asked_of, get_document, opened_or_got, put_document, post_bulk}
 use Rattle.http_request.specs.Feeds.{all_docs_of, asks_for_keys, asks_for_other_changes, asks_for_range, changes_of, changes_since, is_normal, style_in}
 use Rattle.http_request.specs.Forms.{IsFormOf, HasForm}
 use Rattle.http_request.specs.Identity.{path_id}
 use Rattle.http_request.specs.Local.{rev_text, put_local}
 use Rattle.http_request.specs.Opened.{open_leaves, open_listed, open_revs_of}
+use Rattle.http_request.specs.Rejections.{decided}
 use Rattle.http_request.specs.Parameters.{asks_for_documents, is_given, number_parameter, options_of, rev_parameter, no_replication}
 use Rattle.http_request.specs.declared.asked.Asked.TheVariants as asked
 use Rattle.http_request.specs.declared.asked.Form.{Form}
 use Rattle.http_request.specs.declared.asked.Form.TheVariants as form
 
 -- what holds of whatever the last check finds
-after : {X Y : Type 0} (checked : Checked X) (next : X → Checked Y) (P : Y → Type 0) → ((x : X) → IfOk (next x) P) → IfOk (and_then checked next) P
+after : {X Y E : Type 0} (checked : Result X E) (next : X → Result Y E) (P : Y → Type 0) → ((x : X) → IfOk (next x) P) → IfOk (and_then checked next) P
 after (Ok x) next P all = all x
-after (Err refusal) next P all = tt
+after (Err why) next P all = tt
 
 -- the same, where something holds of what the check before finds
 after_such : {X Y : Type 0} (checked : Checked X) (next : X → Checked Y) (Q : X → Type 0) (P : Y → Type 0) → IfOk checked Q → ((x : X) → Q x → IfOk (next x) P)
     → IfOk (and_then checked next) P
 after_such (Ok x) next Q P such all = all x such
-after_such (Err refusal) next Q P such all = tt
+after_such (Err why) next Q P such all = tt
+
+-- where it holds of what is checked, it holds of what is decided
+decided-fits-so : {Y : Type 0} (checked : Checked Y) (P : Y → Type 0) → IfOk checked P → IfOk (decided checked) P
+decided-fits-so (Ok y) P holds = holds
+decided-fits-so (Err reason) P holds = tt
 
 either_way : {Y : Type 0} (test : Bool) (x y : Checked Y) (P : Y → Type 0) → IfOk x P → IfOk y P → IfOk (if test then x else y) P
 either_way true x y P p q = p
@@ -127,34 +133,34 @@ asked-fits route.DatabaseSlash method.Get path query body = tt
 asked-fits route.DatabaseSlash method.Put path query body = tt
 asked-fits route.DatabaseSlash method.Post path query body = tt
 asked-fits route.DatabaseSlash method.Delete path query body = tt
-asked-fits route.AllDocs method.Get path query body = all_docs-fits (parameters_of query)
+asked-fits route.AllDocs method.Get path query body = decided-fits-so _ HasForm (all_docs-fits (parameters_of query))
 asked-fits route.AllDocs method.Put path query body = tt
 asked-fits route.AllDocs method.Post path query body = tt
 asked-fits route.AllDocs method.Delete path query body = tt
 asked-fits route.BulkDocs method.Get path query body = tt
 asked-fits route.BulkDocs method.Put path query body = tt
-asked-fits route.BulkDocs method.Post path query body = bulk-fits body
+asked-fits route.BulkDocs method.Post path query body = decided-fits-so _ HasForm (bulk-fits body)
 asked-fits route.BulkDocs method.Delete path query body = tt
-asked-fits route.Changes method.Get path query body = changes-fits (parameters_of query)
+asked-fits route.Changes method.Get path query body = decided-fits-so _ HasForm (changes-fits (parameters_of query))
 asked-fits route.Changes method.Put path query body = tt
 asked-fits route.Changes method.Post path query body = tt
 asked-fits route.Changes method.Delete path query body = tt
-asked-fits route.Local method.Get path query body = after (path_id path) _ HasForm (λ id. tt)
-asked-fits route.Local method.Put path query body = put_local-fits path query body
+asked-fits route.Local method.Get path query body = decided-fits-so _ HasForm (after (path_id path) _ HasForm (λ id. tt))
+asked-fits route.Local method.Put path query body = decided-fits-so _ HasForm (put_local-fits path query body)
 asked-fits route.Local method.Post path query body = tt
-asked-fits route.Local method.Delete path query body = after (path_id path) _ HasForm (λ id. after (counter_in (rev_text query)) _ HasForm (λ counter. tt))
+asked-fits route.Local method.Delete path query body = decided-fits-so _ HasForm (after (path_id path) _ HasForm (λ id. after (counter_in (rev_text query)) _ HasForm (λ counter. tt)))
 asked-fits route.RevsDiff method.Get path query body = tt
 asked-fits route.RevsDiff method.Put path query body = tt
-asked-fits route.RevsDiff method.Post path query body = after (difference_of body) _ HasForm (λ named. tt)
+asked-fits route.RevsDiff method.Post path query body = decided-fits-so _ HasForm (after (difference_of body) _ HasForm (λ named. tt))
 asked-fits route.RevsDiff method.Delete path query body = tt
 asked-fits route.RevsLimit method.Get path query body = tt
-asked-fits route.RevsLimit method.Put path query body = after (limit_of body) _ HasForm (λ limit. tt)
+asked-fits route.RevsLimit method.Put path query body = decided-fits-so _ HasForm (after (limit_of body) _ HasForm (λ limit. tt))
 asked-fits route.RevsLimit method.Post path query body = tt
 asked-fits route.RevsLimit method.Delete path query body = tt
-asked-fits route.Document method.Get path query body = get_document-fits path query
-asked-fits route.Document method.Put path query body = put_document-fits path query body
+asked-fits route.Document method.Get path query body = decided-fits-so _ HasForm (get_document-fits path query)
+asked-fits route.Document method.Put path query body = decided-fits-so _ HasForm (put_document-fits path query body)
 asked-fits route.Document method.Post path query body = tt
-asked-fits route.Document method.Delete path query body = after (path_id path) _ HasForm (λ id. after (rev_parameter (parameters_of query)) _ HasForm (λ rev. tt))
+asked-fits route.Document method.Delete path query body = decided-fits-so _ HasForm (after (path_id path) _ HasForm (λ id. after (rev_parameter (parameters_of query)) _ HasForm (λ rev. tt)))
 
 pub decided-fits : (request : Request) → IfOk (decide request) HasForm
 unfolding decide

@@ -1,4 +1,4 @@
--- What a request asks, or why it is refused.
+-- What a request asks, or why it is rejected.
 use Rattle.std.specs.Prelude.{ℕ, true, List, [], ◌∷◌, Option, Ok, Err, Some, None, codes}
 use Rattle.std.specs.List.{find}
 use Rattle.std.specs.Str.{bytes_eq}
@@ -13,38 +13,39 @@ use Rattle.http_routes.specs.declared.Method.TheVariants as method
 use Rattle.serde_json.specs.Data.{no_members}
 use Rattle.model.specs.Command.{Id, Edits, SetLimit}
 use Rattle.model.specs.Query.{Get, Info, Options, RevsLimit, RevsDiff}
-use Rattle.http_bodies.specs.Steps.{Checked, and_then}
+use Rattle.document_json.specs.Steps.{Checked, and_then}
 use Rattle.http_request.specs.Identity.{path_id}
 use Rattle.http_request.specs.Parameters.{options_of, rev_parameter, no_replication}
-use Rattle.http_bodies.specs.Document.{edit_of}
-use Rattle.http_bodies.specs.Limit.{limit_of}
-use Rattle.http_bodies.specs.Bulk.{bulk_of}
+use Rattle.document_json.specs.Document.{edit_of}
+use Rattle.document_json.specs.Limit.{limit_of}
+use Rattle.document_json.specs.Bulk.{bulk_of}
 use Rattle.http_request.specs.Feeds.{all_docs_of, changes_of}
 use Rattle.http_request.specs.Opened.{open_revs_of}
 use Rattle.http_request.specs.Local.{delete_local, get_local, put_local}
-use Rattle.http_bodies.specs.Difference.{difference_of}
+use Rattle.document_json.specs.Difference.{difference_of}
 use Rattle.http_request.specs.declared.asked.Asked.{Asked}
 use Rattle.http_request.specs.declared.asked.Asked.TheVariants as asked
 use Rattle.http_request.specs.declared.asked.Form.TheVariants as form
-use Rattle.http_bodies.specs.declared.refusal.Refusal.TheVariants as refusal
+use Rattle.http_request.specs.Rejections.{Decided, decided}
+use Rattle.http_request.specs.declared.rejection.Rejection.TheVariants as rejection
 
-abbrev pub route_found : Option Route → Checked Route
-route_found None = Err refusal.Missing
+abbrev pub route_found : Option Route → Decided Route
+route_found None = Err rejection.Missing
 route_found (Some route) = Ok route
 
 -- the route of the path
-abbrev pub route_in : List ℕ → Checked Route
+abbrev pub route_in : List ℕ → Decided Route
 route_in path = route_found (route_of path)
 
 -- the method of the route that has this name
 abbrev pub method_of : Route → List ℕ → Option Method
 method_of route name = find (λ method. bytes_eq (name_of method) name) (methods_of route)
 
-abbrev pub method_found : Route → Option Method → Checked Method
-method_found route None = Err (refusal.MethodNotAllowed route)
+abbrev pub method_found : Route → Option Method → Decided Method
+method_found route None = Err (rejection.MethodNotAllowed route)
 method_found route (Some method) = Ok method
 
-abbrev pub method_in : Route → List ℕ → Checked Method
+abbrev pub method_in : Route → List ℕ → Decided Method
 method_in route name = method_found route (method_of route name)
 
 -- the revisions of `open_revs` where it is given, else one
@@ -88,26 +89,26 @@ abbrev pub post_revs_diff : List ℕ → Checked Asked
 post_revs_diff body = and_then (difference_of body) (λ named. Ok (asked.Query (RevsDiff named)))
 
 -- what is asked of a route
-abbrev pub asked_of : Route → Method → List ℕ → List ℕ → List ℕ → Checked Asked
+abbrev pub asked_of : Route → Method → List ℕ → List ℕ → List ℕ → Decided Asked
 asked_of route.Root method.Get path query body = Ok asked.Welcome
 asked_of route.Database method.Get path query body = Ok (asked.Query Info)
 asked_of route.DatabaseSlash method.Get path query body = Ok (asked.Query Info)
-asked_of route.BulkDocs method.Post path query body = post_bulk body
-asked_of route.AllDocs method.Get path query body = all_docs_of (parameters_of query)
-asked_of route.Changes method.Get path query body = changes_of (parameters_of query)
-asked_of route.Local method.Get path query body = get_local path
-asked_of route.Local method.Put path query body = put_local path query body
-asked_of route.Local method.Delete path query body = delete_local path query
-asked_of route.RevsDiff method.Post path query body = post_revs_diff body
+asked_of route.BulkDocs method.Post path query body = decided (post_bulk body)
+asked_of route.AllDocs method.Get path query body = decided (all_docs_of (parameters_of query))
+asked_of route.Changes method.Get path query body = decided (changes_of (parameters_of query))
+asked_of route.Local method.Get path query body = decided (get_local path)
+asked_of route.Local method.Put path query body = decided (put_local path query body)
+asked_of route.Local method.Delete path query body = decided (delete_local path query)
+asked_of route.RevsDiff method.Post path query body = decided (post_revs_diff body)
 asked_of route.RevsLimit method.Get path query body = Ok (asked.Query RevsLimit)
-asked_of route.RevsLimit method.Put path query body = put_revs_limit body
-asked_of route.Document method.Get path query body = get_document path query
-asked_of route.Document method.Put path query body = put_document path query body
-asked_of route.Document method.Delete path query body = delete_document path query
-asked_of route method path query body = Err (refusal.MethodNotAllowed route)
+asked_of route.RevsLimit method.Put path query body = decided (put_revs_limit body)
+asked_of route.Document method.Get path query body = decided (get_document path query)
+asked_of route.Document method.Put path query body = decided (put_document path query body)
+asked_of route.Document method.Delete path query body = decided (delete_document path query)
+asked_of route method path query body = Err (rejection.MethodNotAllowed route)
 
--- what a request asks, or why it is refused; each check is made before the next
-unfoldable pub decide : Request → Checked Asked
+-- what a request asks, or why it is rejected; each check is made before the next
+unfoldable pub decide : Request → Decided Asked
 decide request =
     and_then (route_in (path_of request.target)) (λ route.
     and_then (method_in route request.method) (λ method.

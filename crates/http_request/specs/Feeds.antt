@@ -4,11 +4,11 @@ use Rattle.std.specs.Option.{option_map_or}
 use Rattle.std.specs.Str.{bytes_eq}
 use Rattle.http_target.specs.Query.{Parameters, parameter}
 use Rattle.model.specs.Query.{AllDocuments, Changes, Style, MainOnly, AllDocs}
-use Rattle.http_bodies.specs.Steps.{Checked, and_then, or_refused, check}
+use Rattle.document_json.specs.Steps.{Checked, and_then, or_refused, check}
 use Rattle.http_request.specs.Parameters.{asks_for_documents, is_given, is_there, number_parameter}
 use Rattle.http_request.specs.declared.asked.Asked.{Asked}
 use Rattle.http_request.specs.declared.asked.Asked.TheVariants as asked
-use Rattle.http_bodies.specs.declared.refusal.Reason.TheVariants as reason
+use Rattle.document_json.specs.declared.fault.Reason.TheVariants as reason
 
 -- ---- the changes
 

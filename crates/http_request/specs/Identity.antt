@@ -2,9 +2,9 @@
 use Rattle.std.specs.Prelude.{ℕ, List}
 use Rattle.http_target.specs.Target.{last_segment, segment_text}
 use Rattle.model.specs.Command.{Id}
-use Rattle.http_bodies.specs.Identity.{id_named}
-use Rattle.http_bodies.specs.Steps.{Checked, and_then, or_refused}
-use Rattle.http_bodies.specs.declared.refusal.Reason.TheVariants as reason
+use Rattle.document_json.specs.Identity.{id_named}
+use Rattle.document_json.specs.Steps.{Checked, and_then, or_refused}
+use Rattle.document_json.specs.declared.fault.Reason.TheVariants as reason
 
 -- the id that a path ends in
 abbrev pub path_id : List ℕ → Checked Id

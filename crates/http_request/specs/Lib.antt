@@ -1,3 +1,4 @@
+pub mod Rejections
 pub mod Identity
 pub mod Parameters
 pub mod Feeds

@@ -3,8 +3,8 @@ use Rattle.std.specs.Prelude.{ℕ, List, Option, None, Ok, codes}
 use Rattle.http_target.specs.Query.{parameter, parameters_of}
 use Rattle.model.specs.Command.{PutLocal}
 use Rattle.model.specs.Query.{GetLocal}
-use Rattle.http_bodies.specs.Local.{counter_in, local_edit_of}
-use Rattle.http_bodies.specs.Steps.{Checked, and_then}
+use Rattle.document_json.specs.Local.{counter_in, local_edit_of}
+use Rattle.document_json.specs.Steps.{Checked, and_then}
 use Rattle.http_request.specs.Identity.{path_id}
 use Rattle.http_request.specs.declared.asked.Asked.{Asked}
 use Rattle.http_request.specs.declared.asked.Asked.TheVariants as asked

@@ -4,10 +4,10 @@ use Rattle.std.specs.Str.{bytes_eq}
 use Rattle.http_target.specs.Query.{Parameters}
 use Rattle.model.specs.Command.{Id}
 use Rattle.model.specs.Query.{OpenRevs, Options}
-use Rattle.http_bodies.specs.Steps.{Checked, and_then, or_refused}
-use Rattle.http_bodies.specs.Each.{each}
-use Rattle.http_bodies.specs.Lists.{rev_in, text_list_of}
-use Rattle.http_bodies.specs.declared.refusal.Reason.TheVariants as reason
+use Rattle.document_json.specs.Steps.{Checked, and_then, or_refused}
+use Rattle.document_json.specs.Each.{each}
+use Rattle.document_json.specs.Lists.{rev_in, text_list_of}
+use Rattle.document_json.specs.declared.fault.Reason.TheVariants as reason
 use Rattle.http_request.specs.Parameters.{rev_parameter}
 use Rattle.http_request.specs.declared.asked.Asked.{Asked}
 use Rattle.http_request.specs.declared.asked.Asked.TheVariants as asked

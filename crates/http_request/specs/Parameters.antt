@@ -3,12 +3,13 @@ use Rattle.std.specs.Prelude.{ℕ, ◌||◌, Bool, false, List, Option, Some, No
 use Rattle.std.specs.Option.{option_map_or}
 use Rattle.std.specs.Str.{bytes_eq}
 use Rattle.http_target.specs.Query.{Parameters, parameter}
-use Rattle.http_target.specs.Value.{flag, number}
+use Rattle.http_target.specs.Value.{flag}
+use Rattle.decimals.specs.Number.{number}
 use Rattle.model.specs.Revision.{Rev}
 use Rattle.model.specs.Query.{Options}
-use Rattle.http_bodies.specs.Steps.{Checked, and_then, or_refused, check}
-use Rattle.http_bodies.specs.Revisions.{rev_of}
-use Rattle.http_bodies.specs.declared.refusal.Reason.TheVariants as reason
+use Rattle.document_json.specs.Steps.{Checked, and_then, or_refused, check}
+use Rattle.document_json.specs.Revisions.{rev_of}
+use Rattle.document_json.specs.declared.fault.Reason.TheVariants as reason
 
 -- a truth value, false where it is not given
 abbrev pub flag_of : Option (List ℕ) → Checked Bool

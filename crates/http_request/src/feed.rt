@@ -2,12 +2,12 @@
 
 ghost use Rattle.std.specs.Prelude.{◌≡◌, codes};
 ghost use Rattle.http_request.specs.Feeds.{all_docs_of, asks_for_keys, asks_for_other_changes, asks_for_range, changes_of, changes_since, is_normal, style_in, style_named};
-ghost use Rattle.http_bodies.specs.Steps.{Decides};
+ghost use Rattle.document_json.specs.Steps.{Decides};
 ghost use Rattle.http_target.specs.Query.{parameter, parameters_of};
 
 use crate::asked::Asked;
 use crate::parameter::{asks_for_documents, is_given, is_there, read_number};
-use http_bodies::{Fault, Reason, Refusal, refuse};
+use document_json::{Fault, Reason};
 use http_target::query::Parameters;
 use model::Style;
 use queries::{Query, QueryKind};
@@ -42,7 +42,7 @@ fn style_named(name: &str) -> Option<Style>
 }
 
 /// The style, of which the winner alone is the default.
-fn read_style(parameters: &Parameters<'_>) -> Result<Style, Refusal>
+fn read_style(parameters: &Parameters<'_>) -> Result<Style, Reason>
     ensures { result ≡ style_in (parameter (codes "style") parameters.now) }
 {
     let Some(name) = parameters.get("style") else {
@@ -50,7 +50,7 @@ fn read_style(parameters: &Parameters<'_>) -> Result<Style, Refusal>
     };
     match style_named(name) {
         Some(style) => Ok(style),
-        None => Err(Refusal::BadRequest(Reason::Parameter)),
+        None => Err(Reason::Parameter),
     }
 }
 
@@ -59,7 +59,7 @@ fn read_since(
     limit: Option<u64>,
     style: Style,
     parameters: &Parameters<'_>,
-) -> Result<Asked, Refusal>
+) -> Result<Asked, Reason>
     ensures { result ≡ changes_since limit style parameters.now }
 {
     if is_given(parameters, "since", "now") {
@@ -79,7 +79,7 @@ pub(crate) fn read_changes(alloc: Global, query: &str) -> Result<Asked, Fault>
 {
     let parameters = Parameters::read(alloc, query)?;
     if asks_for_other_changes(&parameters) || !is_normal(&parameters) {
-        return Err(refuse(Reason::Parameter));
+        return Err(Fault::Refused(Reason::Parameter));
     }
     let style = read_style(&parameters)?;
     let limit = read_number(&parameters, "limit")?;
@@ -115,7 +115,7 @@ pub(crate) fn read_all_docs(alloc: Global, query: &str) -> Result<Asked, Fault>
         || asks_for_keys(&parameters)
         || asks_for_range(&parameters)
     {
-        return Err(refuse(Reason::Parameter));
+        return Err(Fault::Refused(Reason::Parameter));
     }
     Ok(Asked::Query(Query::new(QueryKind::AllDocuments)))
 }

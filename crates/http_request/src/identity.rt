@@ -1,10 +1,10 @@
 //! The ids that paths name.
 
-ghost use Rattle.http_bodies.specs.Steps.{Decides};
+ghost use Rattle.document_json.specs.Steps.{Decides};
 ghost use Rattle.http_request.specs.Identity.{path_id};
 
 use document_id::DocId;
-use http_bodies::{Fault, Reason, read_id, refuse};
+use document_json::{Fault, Reason, read_id};
 use http_target::last_segment;
 use http_target::segment::{SegmentFault, decode_segment};
 use std::alloc::Global;
@@ -15,7 +15,7 @@ pub(crate) fn read_path_id(alloc: Global, path: &str) -> Result<DocId, Fault>
 {
     match decode_segment(alloc, last_segment(path)) {
         Ok(text) => read_id(alloc, text.as_str()),
-        Err(SegmentFault::NotText) => Err(refuse(Reason::Id)),
+        Err(SegmentFault::NotText) => Err(Fault::Refused(Reason::Id)),
         Err(SegmentFault::Memory) => Err(Fault::Memory),
     }
 }

@@ -1,5 +1,5 @@
 #![tactic(auto)]
-//! What a request asks of the database, or why it is refused.
+//! What a request asks of the database, or why it is rejected.
 //!
 //! The checks of a request are made in one order: route, method, path, parameters, and then the
 //! body. `decide`, in `specs/Decide.antt`, has them from top to bottom for each route.
@@ -12,6 +12,8 @@ mod local;
 mod opened;
 mod parameter;
 mod read;
+mod rejection;
 
 pub use asked::{Asked, Form};
 pub use read::read_request;
+pub use rejection::Rejection;

@@ -1,12 +1,12 @@
 //! Local documents, as requests name them.
 
-ghost use Rattle.http_bodies.specs.Steps.{Decides};
+ghost use Rattle.document_json.specs.Steps.{Decides};
 ghost use Rattle.http_request.specs.Local.{delete_local, get_local, put_local};
 
 use crate::asked::{Asked, Form};
 use crate::identity::read_path_id;
 use commands::Command;
-use http_bodies::{Fault, name_counter, read_local_edit};
+use document_json::{Fault, name_counter, read_local_edit};
 use http_target::query::Parameters;
 use queries::{Query, QueryKind};
 use std::alloc::Global;

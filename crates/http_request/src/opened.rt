@@ -1,19 +1,19 @@
 //! Which revisions of a document are asked for by `open_revs`.
 
 ghost use Rattle.std.specs.Prelude.{◌≡◌};
-ghost use Rattle.http_bodies.specs.Steps.{Decides};
+ghost use Rattle.document_json.specs.Steps.{Decides};
 ghost use Rattle.http_request.specs.Opened.{open_leaves, open_listed, open_revs_of};
 
 use crate::asked::Asked;
 use crate::parameter::read_named_revision;
 use document_id::DocId;
-use http_bodies::{Fault, Reason, Refusal, read_revisions, read_text_list, refuse};
+use document_json::{Fault, Reason, read_revisions, read_text_list};
 use http_target::query::Parameters;
 use queries::{Options, Query, QueryKind};
 use std::alloc::Global;
 
 /// What asks for all leaves.
-fn read_leaves(id: DocId, options: Options, parameters: &Parameters<'_>) -> Result<Asked, Refusal>
+fn read_leaves(id: DocId, options: Options, parameters: &Parameters<'_>) -> Result<Asked, Reason>
     ensures { result ≡ open_leaves id options parameters.now }
 {
     let _named = read_named_revision(parameters)?;
@@ -35,7 +35,7 @@ fn read_listed(
     ensures { Decides result (open_listed id options text.now parameters.now) }
 {
     let Some(values) = read_text_list(alloc, text)? else {
-        return Err(refuse(Reason::Parameter));
+        return Err(Fault::Refused(Reason::Parameter));
     };
     let _named = read_named_revision(parameters)?;
     let revs = read_revisions(alloc, values)?;

@@ -3,14 +3,15 @@
 ghost use Rattle.std.specs.Prelude.{◌≡◌};
 ghost use Rattle.http_request.specs.Parameters.{asks_for_documents, flag_parameter, is_given, is_there, no_replication, number_parameter, options_of, rev_parameter};
 
-use http_bodies::{Reason, Refusal, name_revision};
+use decimals::parse_number;
+use document_json::{Reason, name_revision};
 use http_target::query::Parameters;
-use http_target::value::{parse_flag, parse_number};
+use http_target::value::parse_flag;
 use queries::Options;
 use revision_id::RevId;
 
 /// A truth value, false where it is not given.
-fn read_flag(parameters: &Parameters<'_>, name: &str) -> Result<bool, Refusal>
+fn read_flag(parameters: &Parameters<'_>, name: &str) -> Result<bool, Reason>
     ensures { result ≡ flag_parameter name.now parameters.now }
 {
     let Some(value) = parameters.get(name) else {
@@ -18,12 +19,12 @@ fn read_flag(parameters: &Parameters<'_>, name: &str) -> Result<bool, Refusal>
     };
     match parse_flag(value) {
         Some(flag) => Ok(flag),
-        None => Err(Refusal::BadRequest(Reason::Parameter)),
+        None => Err(Reason::Parameter),
     }
 }
 
 /// A number, if it is given.
-pub(crate) fn read_number(parameters: &Parameters<'_>, name: &str) -> Result<Option<u64>, Refusal>
+pub(crate) fn read_number(parameters: &Parameters<'_>, name: &str) -> Result<Option<u64>, Reason>
     ensures { result ≡ number_parameter name.now parameters.now }
 {
     let Some(value) = parameters.get(name) else {
@@ -31,12 +32,12 @@ pub(crate) fn read_number(parameters: &Parameters<'_>, name: &str) -> Result<Opt
     };
     match parse_number(value) {
         Some(number) => Ok(Some(number)),
-        None => Err(Refusal::BadRequest(Reason::Parameter)),
+        None => Err(Reason::Parameter),
     }
 }
 
 /// The revision that the request names.
-pub(crate) fn read_named_revision(parameters: &Parameters<'_>) -> Result<Option<RevId>, Refusal>
+pub(crate) fn read_named_revision(parameters: &Parameters<'_>) -> Result<Option<RevId>, Reason>
     ensures { result ≡ rev_parameter parameters.now }
 {
     let Some(text) = parameters.get("rev") else {
@@ -63,11 +64,11 @@ pub(crate) fn is_there(parameters: &Parameters<'_>, name: &str) -> bool
 }
 
 /// Refuses the parameter that says that a write is a replication.
-pub(crate) fn refuse_replication(parameters: &Parameters<'_>) -> Result<(), Refusal>
+pub(crate) fn refuse_replication(parameters: &Parameters<'_>) -> Result<(), Reason>
     ensures { result ≡ no_replication parameters.now }
 {
     if is_given(parameters, "new_edits", "false") {
-        return Err(Refusal::BadRequest(Reason::Parameter));
+        return Err(Reason::Parameter);
     }
     Ok(())
 }
@@ -80,7 +81,7 @@ pub(crate) fn asks_for_documents(parameters: &Parameters<'_>) -> bool
 }
 
 /// What beside its body is asked of a document.
-pub(crate) fn read_options(parameters: &Parameters<'_>) -> Result<Options, Refusal>
+pub(crate) fn read_options(parameters: &Parameters<'_>) -> Result<Options, Reason>
     ensures { result ≡ options_of parameters.now }
 {
     let latest = read_flag(parameters, "latest")?;

@@ -3,7 +3,8 @@
 ghost use Rattle.std.specs.Prelude.{◌≡◌, [], ◌∷◌, Ok, IfOk};
 ghost use Rattle.model.specs.Command.{Edits};
 ghost use Rattle.http_request.specs.Decide.{asked_of, decide, delete_document, get_document, method_in, method_of, post_bulk, post_revs_diff, put_document, put_revs_limit, route_in};
-ghost use Rattle.http_bodies.specs.Steps.{Decides};
+ghost use Rattle.document_json.specs.Steps.{Checked, Decides};
+ghost use Rattle.http_request.specs.Rejections.{decided, DecidesSo};
 
 use crate::asked::{Asked, Form};
 use crate::feed::{read_all_docs, read_changes};
@@ -11,8 +12,9 @@ use crate::identity::read_path_id;
 use crate::local::{read_local_deletion, read_local_put, read_local_query};
 use crate::opened::read_open_revs;
 use crate::parameter::{read_named_revision, read_options, refuse_replication};
+use crate::rejection::{Rejection, Undecided};
 use commands::{Command, Edit};
-use http_bodies::{Fault, Refusal, read_bulk, read_difference, read_edit, read_limit};
+use document_json::{Fault, read_bulk, read_difference, read_edit, read_limit};
 use http_framing::request::Request;
 use http_routes::{Method, Route, Routes};
 use http_target::query::Parameters;
@@ -22,24 +24,24 @@ use queries::{Query, QueryKind};
 use std::alloc::{AllocError, Global};
 use std::sync::Arc;
 
-/// What a request asks, or why it is refused.
+/// What a request asks, or why it is rejected.
 pub fn read_request(
     alloc: Global,
     routes: &Routes,
     request: &Request<'_>,
-) -> Result<Result<Asked, Refusal>, AllocError>
+) -> Result<Result<Asked, Rejection>, AllocError>
     ensures decides { IfOk result (λ decided. decided ≡ decide request.now) }
 {
     match read_asked(alloc, routes, request) {
         Ok(asked) => Ok(Ok(asked)),
-        Err(Fault::Refused(refusal)) => Ok(Err(refusal)),
-        Err(Fault::Memory) => Err(AllocError),
+        Err(Undecided::Rejected(rejection)) => Ok(Err(rejection)),
+        Err(Undecided::Memory) => Err(AllocError),
     }
 }
 
 #[tactic(auto, unfolding(crate::specs::Decide::decide))]
-fn read_asked(alloc: Global, routes: &Routes, request: &Request<'_>) -> Result<Asked, Fault>
-    ensures { Decides result (decide request.now) }
+fn read_asked(alloc: Global, routes: &Routes, request: &Request<'_>) -> Result<Asked, Undecided>
+    ensures { DecidesSo result (decide request.now) }
 {
     let (path, query) = split_target(request.target());
     let route = find_route(routes, path)?;
@@ -55,45 +57,56 @@ fn read_route(
     path: &str,
     query: &str,
     body: &[u8],
-) -> Result<Asked, Fault>
-    ensures { Decides result (asked_of route method path.now query.now body.now) }
+) -> Result<Asked, Undecided>
+    ensures { DecidesSo result (asked_of route method path.now query.now body.now) }
 {
     match (route, method) {
         (Route::Root, Method::Get) => Ok(Asked::Welcome),
         (Route::Database | Route::DatabaseSlash, Method::Get) => {
             Ok(Asked::Query(Query::new(QueryKind::Info)))
         }
-        (Route::BulkDocs, Method::Post) => read_bulk_docs(alloc, body),
-        (Route::AllDocs, Method::Get) => read_all_docs(alloc, query),
-        (Route::Changes, Method::Get) => read_changes(alloc, query),
-        (Route::Local, Method::Get) => read_local_query(alloc, path),
-        (Route::Local, Method::Put) => read_local_put(alloc, path, query, body),
-        (Route::Local, Method::Delete) => read_local_deletion(alloc, path, query),
-        (Route::RevsDiff, Method::Post) => read_revs_diff(alloc, body),
+        (Route::BulkDocs, Method::Post) => decide_by(read_bulk_docs(alloc, body)),
+        (Route::AllDocs, Method::Get) => decide_by(read_all_docs(alloc, query)),
+        (Route::Changes, Method::Get) => decide_by(read_changes(alloc, query)),
+        (Route::Local, Method::Get) => decide_by(read_local_query(alloc, path)),
+        (Route::Local, Method::Put) => decide_by(read_local_put(alloc, path, query, body)),
+        (Route::Local, Method::Delete) => decide_by(read_local_deletion(alloc, path, query)),
+        (Route::RevsDiff, Method::Post) => decide_by(read_revs_diff(alloc, body)),
         (Route::RevsLimit, Method::Get) => Ok(Asked::Query(Query::new(QueryKind::RevsLimit))),
-        (Route::RevsLimit, Method::Put) => read_revs_limit(alloc, body),
-        (Route::Document, Method::Get) => read_document_query(alloc, path, query),
-        (Route::Document, Method::Put) => read_document_edit(alloc, path, query, body),
-        (Route::Document, Method::Delete) => read_deletion(alloc, path, query),
-        _ => Err(Fault::Refused(Refusal::MethodNotAllowed(route))),
+        (Route::RevsLimit, Method::Put) => decide_by(read_revs_limit(alloc, body)),
+        (Route::Document, Method::Get) => decide_by(read_document_query(alloc, path, query)),
+        (Route::Document, Method::Put) => decide_by(read_document_edit(alloc, path, query, body)),
+        (Route::Document, Method::Delete) => decide_by(read_deletion(alloc, path, query)),
+        _ => Err(Undecided::Rejected(Rejection::MethodNotAllowed(route))),
     }
 }
 
-fn find_route(routes: &Routes, path: &str) -> Result<Route, Refusal>
+/// Rejects a request that is not as its route asks.
+fn decide_by(asked: Result<Asked, Fault>) -> Result<Asked, Undecided>
+    ensures { (checked : Checked _) → Decides asked checked → DecidesSo result (decided checked) }
+{
+    match asked {
+        Ok(asked) => Ok(asked),
+        Err(Fault::Refused(reason)) => Err(Undecided::Rejected(Rejection::BadRequest(reason))),
+        Err(Fault::Memory) => Err(Undecided::Memory),
+    }
+}
+
+fn find_route(routes: &Routes, path: &str) -> Result<Route, Rejection>
     ensures { result ≡ route_in path.now }
 {
     match routes.at(path) {
         Some(route) => Ok(route),
-        None => Err(Refusal::Missing),
+        None => Err(Rejection::Missing),
     }
 }
 
-fn find_method(route: Route, name: &[u8]) -> Result<Method, Refusal>
+fn find_method(route: Route, name: &[u8]) -> Result<Method, Rejection>
     ensures { result ≡ method_in route name.now }
 {
     match method_of(route, name) {
         Some(method) => Ok(method),
-        None => Err(Refusal::MethodNotAllowed(route)),
+        None => Err(Rejection::MethodNotAllowed(route)),
     }
 }
 

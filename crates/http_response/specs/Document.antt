@@ -3,7 +3,7 @@ use Rattle.std.specs.Prelude.{ℕ, Bool, true, List, [], ◌∷◌, ◌++◌, ma
 use Rattle.hex.specs.Hex.{encode_lower}
 use Rattle.serde_json.specs.Data.{Data, unsigned, number, string, boolean, array, object, Members, no_members, member, put}
 use Rattle.serde_json.specs.View.{items_of}
-use Rattle.http_bodies.specs.Local.{local_id}
+use Rattle.document_json.specs.Local.{local_id}
 use Rattle.model.specs.Body.{Body}
 use Rattle.model.specs.Command.{Id}
 use Rattle.model.specs.Query.{Counts, Document, Status, Available, IsDeleted, NoBody}

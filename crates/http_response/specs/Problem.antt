@@ -2,10 +2,10 @@
 use Rattle.std.specs.Prelude.{ℕ, List, ◌++◌, codes}
 use Rattle.http_framing.specs.declared.FramingFault.{FramingFault}
 use Rattle.http_framing.specs.declared.FramingFault.TheVariants as fault
-use Rattle.http_bodies.specs.declared.refusal.Refusal.{Refusal}
-use Rattle.http_bodies.specs.declared.refusal.Refusal.TheVariants as refusal
-use Rattle.http_bodies.specs.declared.refusal.Reason.{Reason}
-use Rattle.http_bodies.specs.declared.refusal.Reason.TheVariants as reason
+use Rattle.http_request.specs.declared.rejection.Rejection.{Rejection}
+use Rattle.http_request.specs.declared.rejection.Rejection.TheVariants as refusal
+use Rattle.document_json.specs.declared.fault.Reason.{Reason}
+use Rattle.document_json.specs.declared.fault.Reason.TheVariants as reason
 use Rattle.model.specs.Command as model
 use Rattle.model.specs.Query as query
 use Rattle.http_response.specs.declared.response.Status.{Status}
@@ -29,17 +29,17 @@ reason_name reason.Member = codes "member"
 
 -- ---- a request that is refused
 
-abbrev pub refusal_status : Refusal → Status
+abbrev pub refusal_status : Rejection → Status
 refusal_status refusal.Missing = status.NotFound
 refusal_status (refusal.MethodNotAllowed route) = status.MethodNotAllowed
 refusal_status (refusal.BadRequest reason) = status.BadRequest
 
-abbrev pub refusal_allow : Refusal → Allow
+abbrev pub refusal_allow : Rejection → Allow
 refusal_allow refusal.Missing = allow.Unsaid
 refusal_allow (refusal.MethodNotAllowed route) = allow.Methods route
 refusal_allow (refusal.BadRequest reason) = allow.Unsaid
 
-abbrev pub refusal_body : Refusal → List ℕ
+abbrev pub refusal_body : Rejection → List ℕ
 refusal_body refusal.Missing = problem_text (codes "not_found") (codes "missing")
 refusal_body (refusal.MethodNotAllowed route) = problem_text (codes "method_not_allowed") (codes "Method not allowed.")
 refusal_body (refusal.BadRequest reason) = problem_text (codes "bad_request") (reason_name reason)

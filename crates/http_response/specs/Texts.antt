@@ -5,7 +5,7 @@ use Rattle.model.specs.Query.{Query, Answer}
 use Rattle.http_framing.specs.declared.FramingFault.{FramingFault}
 use Rattle.http_framing.specs.declared.FramingFault.TheVariants as fault
 use Rattle.http_request.specs.declared.asked.Form.{Form}
-use Rattle.http_bodies.specs.declared.refusal.Refusal.{Refusal}
+use Rattle.http_request.specs.declared.rejection.Rejection.{Rejection}
 use Rattle.http_response.specs.Response.{response_text, status_text, content_head, place_head, connection_line, crlf}
 use Rattle.http_response.specs.Problem.{problem_text, refusal_status, refusal_allow, refusal_body, closing_status, closing_body}
 use Rattle.http_response.specs.Told.{Told, reply_told, answer_told}
@@ -30,7 +30,7 @@ after_place body = crlf ++ (connection_line connection.Close ++ (crlf ++ body))
 -- ---- what is told of no call of the database
 
 -- a request that is refused
-unfoldable pub refusal_text : ℕ → Connection → Refusal → List ℕ
+unfoldable pub refusal_text : ℕ → Connection → Rejection → List ℕ
 refusal_text place connection refusal =
     response_text (refusal_status refusal) place (refusal_allow refusal) connection (refusal_body refusal)
 

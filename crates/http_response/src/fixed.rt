@@ -7,7 +7,8 @@ ghost use Rattle.http_response.specs.Texts.{full_text, refusal_text, welcome_tex
 use crate::connection::Connection;
 use crate::problem::body_of_absent;
 use crate::response::{Allow, Status, plain_response, response};
-use http_bodies::{Reason, Refusal};
+use document_json::Reason;
+use http_request::Rejection;
 use model::Absent;
 use std::alloc::{AllocError, Global};
 
@@ -17,7 +18,7 @@ pub fn refused(
     alloc: Global,
     place: u64,
     connection: Connection,
-    refusal: Refusal,
+    refusal: Rejection,
 ) -> Result<String, AllocError>
     ensures text { IfOk result (λ text. string_bytes text ≡ refusal_text place connection refusal) }
 {
@@ -26,39 +27,39 @@ pub fn refused(
     response(alloc, status, place, allow, connection, body_of(refusal))
 }
 
-fn status_of(refusal: Refusal) -> Status
+fn status_of(refusal: Rejection) -> Status
     ensures { result ≡ refusal_status refusal }
 {
     match refusal {
-        Refusal::Missing => Status::NotFound,
-        Refusal::MethodNotAllowed(_) => Status::MethodNotAllowed,
-        Refusal::BadRequest(_) => Status::BadRequest,
+        Rejection::Missing => Status::NotFound,
+        Rejection::MethodNotAllowed(_) => Status::MethodNotAllowed,
+        Rejection::BadRequest(_) => Status::BadRequest,
     }
 }
 
-fn allow_of(refusal: Refusal) -> Allow
+fn allow_of(refusal: Rejection) -> Allow
     ensures { result ≡ refusal_allow refusal }
 {
     match refusal {
-        Refusal::MethodNotAllowed(route) => Allow::Methods(route),
-        Refusal::Missing | Refusal::BadRequest(_) => Allow::Unsaid,
+        Rejection::MethodNotAllowed(route) => Allow::Methods(route),
+        Rejection::Missing | Rejection::BadRequest(_) => Allow::Unsaid,
     }
 }
 
-fn body_of(refusal: Refusal) -> &'static str
+fn body_of(refusal: Rejection) -> &'static str
     ensures { result.now ≡ refusal_body refusal }
 {
     match refusal {
-        Refusal::Missing => body_of_absent(Absent::IsMissing),
-        Refusal::MethodNotAllowed(_) => {
+        Rejection::Missing => body_of_absent(Absent::IsMissing),
+        Rejection::MethodNotAllowed(_) => {
             r#"{"error":"method_not_allowed","reason":"Method not allowed."}"#
         }
-        Refusal::BadRequest(reason) => bad_request(reason),
+        Rejection::BadRequest(reason) => bad_request(reason),
     }
 }
 
 fn bad_request(reason: Reason) -> &'static str
-    ensures { result.now ≡ refusal_body (Refusal.BadRequest reason) }
+    ensures { result.now ≡ refusal_body (Rejection.BadRequest reason) }
 {
     match reason {
         Reason::Id => r#"{"error":"bad_request","reason":"id"}"#,

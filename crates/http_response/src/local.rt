@@ -4,13 +4,13 @@ ghost use Rattle.std.specs.Prelude.{◌≡◌, codes, IfOk, OnOk, string_bytes};
 ghost use Rattle.serde_json.specs.Data.{string, put as with_member};
 ghost use Rattle.serde_json.specs.View.{members_view};
 ghost use Rattle.serde_json.specs.Written.{compact_text};
-ghost use Rattle.http_bodies.specs.Local.{local_id};
+ghost use Rattle.document_json.specs.Local.{local_id};
 ghost use Rattle.http_response.specs.Document.{counter_text, local_data, local_written_data};
 
 use crate::document::{copy_members, object_text, write_value};
 use crate::written::value_text;
 use document_id::DocId;
-use http_bodies::local_id_text;
+use document_json::local_id_text;
 use json_profile::Body;
 use serde_json::{Map, Value, put};
 use std::alloc::{AllocError, Global};

@@ -1,9 +1,7 @@
 //! The values of parameters.
 
 ghost use Rattle.std.specs.Prelude.{◌≡◌};
-ghost use Rattle.std.specs.Char.{is_ascii_digit};
-ghost use Rattle.std.specs.List.{list_all};
-ghost use Rattle.http_target.specs.Value.{flag, is_number, number};
+ghost use Rattle.http_target.specs.Value.{flag};
 
 /// A truth value: `true` or `false`.
 pub fn parse_flag(value: &str) -> Option<bool>
@@ -14,26 +12,4 @@ pub fn parse_flag(value: &str) -> Option<bool>
         "false" => Some(false),
         _ => None,
     }
-}
-
-fn are_all_digits(value: &[u8]) -> bool
-    ensures { result ≡ list_all is_ascii_digit value.now }
-{
-    value.iter().all(|b| b.is_ascii_digit())
-}
-
-fn is_number(value: &str) -> bool
-    ensures { result ≡ is_number value.now }
-{
-    !value.is_empty() && value.len() <= 18 && are_all_digits(value.as_bytes())
-}
-
-/// A number of 1 to 18 decimal digits.
-pub fn parse_number(value: &str) -> Option<u64>
-    ensures { result ≡ number value.now }
-{
-    if !is_number(value) {
-        return None;
-    }
-    value.parse().ok()
 }

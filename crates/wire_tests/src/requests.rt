@@ -1,7 +1,7 @@
 use commands::CommandKind;
-use http_bodies::{Reason, Refusal};
+use document_json::Reason;
 use http_framing::request::Request;
-use http_request::{Asked, Form, read_request};
+use http_request::{Asked, Form, Rejection, read_request};
 use http_routes::{Route, Routes};
 use queries::QueryKind;
 use std::test::Fail;
@@ -11,7 +11,7 @@ fn ask(
     method: &str,
     target: &str,
     body: &str,
-) -> Result<Result<Asked, Refusal>, Fail> {
+) -> Result<Result<Asked, Rejection>, Fail> {
     let routes = Routes::new(rt.alloc())?;
     let request = Request::new(method.as_bytes(), target, body.as_bytes(), false);
     Ok(read_request(rt.alloc(), &routes, &request)?)
@@ -22,13 +22,13 @@ fn refusal(
     method: &str,
     target: &str,
     body: &str,
-) -> Result<Option<Refusal>, Fail> {
+) -> Result<Option<Rejection>, Fail> {
     Ok(ask(rt, method, target, body)?.err())
 }
 
 fn bad(rt: &HostRuntime, target: &str, body: &str) -> Result<Option<Reason>, Fail> {
     match ask(rt, "PUT", target, body)? {
-        Err(Refusal::BadRequest(reason)) => Ok(Some(reason)),
+        Err(Rejection::BadRequest(reason)) => Ok(Some(reason)),
         _ => Ok(None),
     }
 }
@@ -77,12 +77,12 @@ fn a_get(rt: HostRuntime) -> Result<(), Fail> {
 
 #[test]
 fn routes_and_methods(rt: HostRuntime) -> Result<(), Fail> {
-    let missing = Some(Refusal::Missing);
+    let missing = Some(Rejection::Missing);
     assert_eq!(rt; refusal(&rt, "GET", "/db//a", "")?, missing);
     assert_eq!(rt; refusal(&rt, "X", "/other", "")?, missing);
-    let not_allowed = Some(Refusal::MethodNotAllowed(Route::RevsLimit));
+    let not_allowed = Some(Rejection::MethodNotAllowed(Route::RevsLimit));
     assert_eq!(rt; refusal(&rt, "DELETE", "/db/_revs_limit", "")?, not_allowed);
-    let not_allowed = Some(Refusal::MethodNotAllowed(Route::Document));
+    let not_allowed = Some(Rejection::MethodNotAllowed(Route::Document));
     assert_eq!(rt; refusal(&rt, "HEAD", "/db/_x", "")?, not_allowed);
     Ok(())
 }
@@ -176,7 +176,7 @@ fn limits(rt: HostRuntime) -> Result<(), Fail> {
 /// Why the body of a POST is refused.
 fn bad_post(rt: &HostRuntime, target: &str, body: &str) -> Result<Option<Reason>, Fail> {
     match ask(rt, "POST", target, body)? {
-        Err(Refusal::BadRequest(reason)) => Ok(Some(reason)),
+        Err(Rejection::BadRequest(reason)) => Ok(Some(reason)),
         _ => Ok(None),
     }
 }

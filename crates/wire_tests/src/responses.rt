@@ -1,12 +1,12 @@
 use commands::{Command, Edit, Merge, Reply, ReplyKind};
 use document_id::DocId;
-use http_bodies::{Reason, Refusal};
+use document_json::Reason;
 use http_framing::FramingFault;
-use http_request::Form;
+use http_request::{Form, Rejection};
 use http_response::{Connection, Lost, answer, closing, full, no_memory, refused, reply, welcome};
 use http_routes::Route;
 use json_profile::Body;
-use model::{Absent, Refusal as WriteRefusal};
+use model::{Absent, Refusal};
 use queries::{Answer, AnswerKind, Document, Options, Query, QueryKind};
 use revision_id::RevId;
 use std::alloc::Global;
@@ -18,7 +18,7 @@ const A1: &str = "1-0123456789abcdef0123456789abcdef";
 fn reply_to_put(
     rt: &HostRuntime,
     form: Form,
-    outcome: Result<RevId, WriteRefusal>,
+    outcome: Result<RevId, Refusal>,
 ) -> Result<String, Fail> {
     let alloc = rt.alloc();
     let edits = vec![in alloc; edit(alloc, "a")?].ok().ok_or("memory")?;
@@ -37,7 +37,7 @@ fn a_put(rt: HostRuntime) -> Result<(), Fail> {
         text.as_str(),
         "HTTP/1.1 201 Created\r\nContent-Type: application/json\r\nContent-Length: 63\r\nCouch-Place: 1\r\n\r\n{\"id\":\"a\",\"ok\":true,\"rev\":\"1-0123456789abcdef0123456789abcdef\"}"
     );
-    let refused = WriteRefusal::Conflict;
+    let refused = Refusal::Conflict;
     let text = reply_to_put(&rt, Form::Put, Err(refused))?;
     assert_eq!(rt;
         text.as_str(),
@@ -120,7 +120,7 @@ fn no_such_replies(rt: HostRuntime) -> Result<(), Fail> {
 fn reply_to_local(
     rt: &HostRuntime,
     form: Form,
-    outcome: Result<u32, WriteRefusal>,
+    outcome: Result<u32, Refusal>,
 ) -> Result<String, Fail> {
     let alloc = rt.alloc();
     let command = Command::put_local(id(alloc, "a")?, None, None).ok_or("command")?;
@@ -139,7 +139,7 @@ fn local_writes(rt: HostRuntime) -> Result<(), Fail> {
         reply_to_local(&rt, Form::Delete, Ok(0))?.as_str(),
         "HTTP/1.1 200 OK\r\nContent-Type: application/json\r\nContent-Length: 39\r\nCouch-Place: 3\r\n\r\n{\"id\":\"_local/a\",\"ok\":true,\"rev\":\"0-0\"}"
     );
-    let missing = WriteRefusal::Missing;
+    let missing = Refusal::Missing;
     assert_eq!(rt;
         reply_to_local(&rt, Form::Delete, Err(missing))?.as_str(),
         "HTTP/1.1 404 Not Found\r\nContent-Type: application/json\r\nContent-Length: 40\r\nCouch-Place: 3\r\n\r\n{\"error\":\"not_found\",\"reason\":\"missing\"}"
@@ -197,13 +197,13 @@ fn refusals(rt: HostRuntime) -> Result<(), Fail> {
         alloc,
         12,
         Connection::Open,
-        Refusal::BadRequest(Reason::Number),
+        Rejection::BadRequest(Reason::Number),
     )?;
     assert_eq!(rt;
         number.as_str(),
         "HTTP/1.1 400 Bad Request\r\nContent-Type: application/json\r\nContent-Length: 41\r\nCouch-Place: 12\r\n\r\n{\"error\":\"bad_request\",\"reason\":\"number\"}"
     );
-    let refusal = Refusal::MethodNotAllowed(Route::Document);
+    let refusal = Rejection::MethodNotAllowed(Route::Document);
     assert_eq!(rt;
         refused(alloc, 0, Connection::Close, refusal)?.as_str(),
         "HTTP/1.1 405 Method Not Allowed\r\nContent-Type: application/json\r\nContent-Length: 61\r\nCouch-Place: 0\r\nAllow: GET, PUT, DELETE\r\nConnection: close\r\n\r\n{\"error\":\"method_not_allowed\",\"reason\":\"Method not allowed.\"}"

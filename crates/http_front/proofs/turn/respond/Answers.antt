@@ -1,6 +1,6 @@
 use Rattle.std.proofs.Common.{Err, refl, sym, ◌∙◌, subst}
 use Rattle.std.specs.Prelude.{IfOk}
-use Rattle.http_bodies.specs.Steps.{Checked}
+use Rattle.document_json.specs.Steps.{Checked}
 use Rattle.http_request.specs.Forms.{HasForm}
 use Rattle.http_request.specs.declared.asked.Asked.{Asked}
 use Rattle.http_request.proofs.Forms.{decided-fits}

@@ -3,7 +3,7 @@ use Rattle.std.specs.Prelude.{codes}
 use Rattle.serde_json.specs.Data.{object, string, put}
 use Rattle.serde_json.specs.Written.{members_have_float}
 use Rattle.json_profile.proofs.Floats.{has_float-whole}
-use Rattle.http_bodies.specs.Local.{local_id}
+use Rattle.document_json.specs.Local.{local_id}
 use Rattle.http_response.specs.Document.{counter_text}
 use Rattle.http_response.proofs.Floats.{no_float-put}
 use Rattle.http_response.proofs.local.local_text.Goals as goal

@@ -1,0 +1,17 @@
+-- Numbers in decimal digits.
+use Rattle.std.specs.Prelude.{ℕ, ◌&&◌, Bool, List, length, Option, Some, None, if◌then◌else◌, nat_lt, nat_le}
+use Rattle.std.specs.Char.{is_ascii_digit}
+use Rattle.std.specs.List.{list_all}
+use Rattle.std.specs.Str.Parse.{digits_value}
+
+-- one digit or more, and nothing else
+abbrev pub is_digits : List ℕ → Bool
+is_digits text = nat_lt 0 (length text) && list_all is_ascii_digit text
+
+-- 1 to 18 digits
+abbrev pub is_number : List ℕ → Bool
+is_number text = nat_le (length text) 18 && is_digits text
+
+-- the number that they write
+abbrev pub number : List ℕ → Option ℕ
+number text = if is_number text then Some (digits_value 10 text) else None

@@ -1,0 +1,23 @@
+-- The body of a request, as JSON.
+use Rattle.std.specs.Prelude.{ℕ, List, Option, None, Ok, nat_le, if◌then◌else◌}
+use Rattle.std.specs.Str.{is_utf8}
+use Rattle.serde_json.specs.Data.{Data, depth}
+use Rattle.serde_json.specs.Read.{read}
+use Rattle.model.specs.Profile.{is_whole, max_nesting}
+use Rattle.document_json.specs.Steps.{Checked, and_then, or_refused, check}
+use Rattle.document_json.specs.declared.fault.Reason.TheVariants as reason
+
+-- the value of a text
+abbrev pub value_of : List ℕ → Option Data
+value_of bytes = if is_utf8 bytes then read bytes else None
+
+-- a value of whole numbers that does not nest too deep
+abbrev pub in_profile : Data → Checked Data
+in_profile value =
+    and_then (check (is_whole value) reason.Number) (λ _.
+    and_then (check (nat_le (depth value) max_nesting) reason.Depth) (λ _.
+    Ok value))
+
+-- the value of a body
+unfoldable pub json_of : List ℕ → Checked Data
+json_of bytes = and_then (or_refused (value_of bytes) reason.Json) in_profile
