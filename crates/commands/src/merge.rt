@@ -51,7 +51,7 @@ impl Merge {
             return None;
         }
         let _text = id.as_str();
-        let _object = body.value();
+        let _text = body.text();
         Some(Merge {
             id,
             path,

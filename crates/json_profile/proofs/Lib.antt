@@ -1,8 +1,8 @@
-pub mod Bodies
 pub mod Floats
+pub mod Joined
+pub mod Kept
 pub mod Order
 pub mod Parts
-pub mod Sameness
 pub mod Specials
 pub mod Taken
 pub mod Texts

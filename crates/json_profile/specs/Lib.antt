@@ -1,3 +1,4 @@
+pub mod Joined
 pub mod Objects
 pub mod Profiled
-pub mod Same
+pub mod Texts

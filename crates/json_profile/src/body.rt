@@ -1,41 +1,43 @@
 //! The body of a document.
-ghost use Rattle.std.specs.Prelude.{◌≡◌, ◌↔◌, ◌≤◌, ◌<◌, Some, true, IfOk, IfErr, string_bytes};
+ghost use Rattle.std.specs.Prelude.{◌≡◌, ◌↔◌, ◌≤◌, ◌<◌, ◌≢◌, ◌-◌, Some, true, false, IfOk, length, take, drop};
 ghost use Rattle.serde_json.specs.Data.{Members, no_members, object, depth as nesting};
 ghost use Rattle.serde_json.specs.View.{view as data_of, members_view};
 ghost use Rattle.serde_json.specs.Read.{read};
 ghost use Rattle.model.specs.Body.{IsBody, body_text};
 ghost use Rattle.model.specs.Profile.{max_body_nesting};
+ghost use Rattle.json_profile.specs.Joined.{bare_text, front_of, back_of, has_member, split_of};
+ghost use Rattle.json_profile.specs.Objects.{members_in};
 ghost use Rattle.json_profile.specs.Profiled.{ArePlain};
-ghost use Rattle.json_profile.specs.declared.fault.JsonFault.TheVariants.{Depth};
+ghost use Rattle.json_profile.specs.declared.fault.JsonFault.TheVariants.{Malformed, Number, Depth, NotAnObject};
 
 use crate::fault::JsonFault;
 use crate::measure::members_nest_within;
-use crate::same::is_same;
+use crate::members::keep_front;
 use serde_json::{Map, Value};
 use std::alloc::{AllocError, Global};
 use std::marker::Model;
 
-/// The members of a document: no name begins with `_`, and the object nests at most 64 deep.
+/// The members of a document: no name begins with `_`, and the object nests at most 64 deep. They
+/// are kept as their compact text, and `{}` as no byte.
 #[derive(Drop)]
 pub struct Body {
-    object: Value,
+    text: String,
+    split: usize,
 }
 
 impl Model for Body {
-    ghost use Rattle.std.specs.Prelude.{◌≡◌};
-    ghost use Rattle.serde_json.specs.Data.{Members, object as object_of};
-    ghost use Rattle.serde_json.specs.View.{view as data_of};
+    ghost use Rattle.std.specs.Prelude.{string_bytes};
+    ghost use Rattle.serde_json.specs.Data.{Members};
     ghost use Rattle.model.specs.JsonCode.{coded_members};
-    ghost use Rattle.model.specs.Body.{IsBody};
-    ghost use Rattle.json_profile.specs.Objects.{members_in};
+    ghost use Rattle.json_profile.specs.Texts.{members_read, IsSplit};
 
     ghost Value = { Members };
 
     ghost coded = { coded_members };
 
-    ghost view = { λ b. members_in (data_of b.object) };
+    ghost view = { λ b. members_read (string_bytes b.text) };
 
-    ghost invariant = { λ b. (data_of b.object ≡ object_of (members_in (data_of b.object))) × IsBody (members_in (data_of b.object)) };
+    ghost invariant = { λ b. IsSplit b.split (string_bytes b.text) (members_read (string_bytes b.text)) };
 }
 
 impl Body {
@@ -44,45 +46,96 @@ impl Body {
         ensures { result ≡ no_members }
     {
         Body {
-            object: Value::Object(Map::new(alloc)),
+            text: String::new(alloc),
+            split: 1,
         }
     }
 
-    pub(crate) fn of_plain(members: Map<String, Value>) -> Result<Body, JsonFault>
+    pub(crate) fn of_plain(alloc: Global, members: Map<String, Value>) -> Result<Body, JsonFault>
         requires { ArePlain (members_view members.entries) }
         ensures body { IfOk result (λ body. (body ≡ members_view members.entries)
             × (nesting (object body) ≤ max_body_nesting)) }
-        ensures depth { IfErr result (λ fault. (fault ≡ Depth)
-            × (max_body_nesting < nesting (object (members_view members.entries)))) }
+        ensures depth { result ≡ Err Depth
+            → max_body_nesting < nesting (object (members_view members.entries)) }
+        ensures of_members { (result ≢ Err Malformed) × (result ≢ Err Number) × (result ≢ Err NotAnObject) }
     {
+        if members.is_empty() {
+            return Ok(Body::empty(alloc));
+        }
         if !members_nest_within(&members, 63) {
             return Err(JsonFault::Depth);
         }
-        Ok(Body {
-            object: Value::Object(members),
-        })
+        let object = Value::Object(members);
+        let text = object.to_string(alloc)?;
+        let split = front_end(alloc, object)?;
+        Ok(Body { text, split })
     }
 
-    /// The object, for a look inside.
-    pub fn value(&self) -> &Value
-        ensures value { data_of result.now ≡ object self.now }
+    /// The text of the members whose names stand before `_`.
+    pub fn front(&self) -> &[u8]
+        ensures { result.now ≡ bare_text false (front_of self.now) }
+    {
+        if self.text.is_empty() {
+            return b"";
+        }
+        part(self.text.as_bytes(), 1, self.split)
+    }
+
+    /// The text of the other members, which begins with a comma where some stand in front.
+    pub fn back(&self) -> &[u8]
+        ensures { result.now ≡ bare_text (has_member (front_of self.now)) (back_of self.now) }
+    {
+        if self.text.is_empty() {
+            return b"";
+        }
+        part(self.text.as_bytes(), self.split, self.text.len() - 1)
+    }
+
+    /// The compact text. Takes no memory.
+    pub fn text(&self) -> &str
+        ensures text { result.now ≡ body_text self.now }
+        ensures reads_back { read result.now ≡ Some (object self.now) }
         ensures body { IsBody self.now }
     {
-        &self.object
-    }
-
-    /// The compact text.
-    pub fn text(&self, alloc: Global) -> Result<String, AllocError>
-        ensures text { IfOk result (λ text. string_bytes text ≡ body_text self.now) }
-        ensures reads_back { IfOk result (λ text. read (string_bytes text) ≡ Some (object self.now)) }
-    {
-        self.object.to_string(alloc)
+        if self.text.is_empty() {
+            return "{}";
+        }
+        self.text.as_str()
     }
 
     /// Whether the two are one body. Takes no memory.
     pub fn is_same(&self, other: &Body) -> bool
         ensures { (result ≡ true) ↔ (self.now ≡ other.now) }
     {
-        is_same(&self.object, &other.object)
+        self.text.as_str() == other.text.as_str()
     }
+}
+
+/// Where special members go in the text of an object.
+fn front_end(alloc: Global, value: Value) -> Result<usize, AllocError>
+    requires { ArePlain (members_in (data_of value)) }
+    ensures { IfOk result (λ at. at ≡ split_of (members_in (data_of value))) }
+{
+    match value {
+        Value::Object(members) => members_end(alloc, members),
+        _ => Ok(1),
+    }
+}
+
+fn members_end(alloc: Global, members: Map<String, Value>) -> Result<usize, AllocError>
+    requires { ArePlain (members_view members.entries) }
+    ensures { IfOk result (λ at. at ≡ split_of (members_view members.entries)) }
+{
+    let mut members = members;
+    keep_front(&mut members);
+    let text = Value::Object(members).to_string(alloc)?;
+    Ok(text.as_bytes().len() - 1)
+}
+
+fn part(bytes: &[u8], from: usize, to: usize) -> &[u8]
+    requires order { from ≤ to }
+    requires end { to ≤ length bytes.now }
+    ensures { result.now ≡ take (to - from) (drop from bytes.now) }
+{
+    &bytes[from..to]
 }

@@ -7,7 +7,6 @@ mod fault;
 mod measure;
 mod members;
 mod object;
-mod same;
 #[cfg(test)]
 mod tests;
 mod value;

@@ -1,12 +1,12 @@
 //! An object that is taken apart.
-ghost use Rattle.std.specs.Prelude.{◌≡◌, ◌≤◌, ◌<◌, map, IfOk, IfErr};
+ghost use Rattle.std.specs.Prelude.{◌≡◌, ◌≤◌, ◌<◌, ◌≢◌, map, IfOk};
 ghost use Rattle.serde_json.specs.Data.{Members, object, depth as nesting};
 ghost use Rattle.serde_json.specs.Find.{get_member};
 ghost use Rattle.serde_json.specs.View.{members_of, members_view};
 ghost use Rattle.model.specs.Profile.{without_specials, max_body_nesting};
 ghost use Rattle.json_profile.specs.Objects.{without, has_special as some_special};
 ghost use Rattle.json_profile.specs.Profiled.{IsProfiled};
-ghost use Rattle.json_profile.specs.declared.fault.JsonFault.TheVariants.{Depth};
+ghost use Rattle.json_profile.specs.declared.fault.JsonFault.TheVariants.{Malformed, Number, Depth, NotAnObject};
 
 use crate::body::Body;
 use crate::fault::JsonFault;
@@ -71,15 +71,16 @@ impl Object {
 
     /// The body that the members are, without those that are special. Fails where it nests more
     /// than 64 deep.
-    pub fn into_body(self) -> Result<Body, JsonFault>
+    pub fn into_body(self, alloc: Global) -> Result<Body, JsonFault>
         ensures body { IfOk result (λ body. (body ≡ without_specials self)
             × (nesting (object body) ≤ max_body_nesting)) }
-        ensures depth { IfErr result (λ fault. (fault ≡ Depth)
-            × (max_body_nesting < nesting (object (without_specials self)))) }
+        ensures depth { result ≡ Err Depth
+            → max_body_nesting < nesting (object (without_specials self)) }
+        ensures of_members { (result ≢ Err Malformed) × (result ≢ Err Number) × (result ≢ Err NotAnObject) }
     {
         let Object { mut members } = self;
         drop_specials(&mut members);
-        Body::of_plain(members)
+        Body::of_plain(alloc, members)
     }
 
     /// The members in the order of their names.

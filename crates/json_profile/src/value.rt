@@ -142,7 +142,7 @@ impl Json {
             return Err(JsonFault::NotAnObject);
         };
         let kept = copy_plain(alloc, members)?;
-        Body::of_plain(kept)
+        Body::of_plain(alloc, kept)
     }
 
     /// The compact text.

@@ -35,7 +35,7 @@ pub(crate) fn child_hash(
         Some(parent) => parent.text(alloc)?,
         None => String::new(alloc),
     };
-    let body = body.text(alloc)?;
+    let body = body.text();
     let mut hasher = Md5::new();
     hasher.update(if deleted { b"1," } else { b"0," });
     hasher.update(parent.as_bytes());

@@ -92,5 +92,5 @@ fn revs_in_range(path: &[RevId])
 fn body_in_range(body: &Body)
     ensures { IsBody body.now }
 {
-    let _members = body.value();
+    let _text = body.text();
 }

@@ -1,0 +1,311 @@
+-- The text of an object, by the texts of parts of its members, and where a special member goes.
+use Rattle.std.proofs.Common.{string_bytes, ◌≡◌, ℕ, suc, subst, ◌<◌, ◌≤◌, List, [], ◌∷◌, ◌++◌, length, take, drop, ◌+◌, ◌-◌, Bool, true, false, ◌||◌, ◌&&◌, cond, nat_lt, nat_cmp, Less, Equal, Greater, Ordering, true≢false, refl, sym, ap, ◌∙◌, arith, append_assoc}
+use Rattle.std.specs.Prelude.{◌≢◌, not}
+use Rattle.std.proofs.lemmas.Bool.{and_parts, and_from, or_parts, ltb-false, ltb-true, lt-ltb, eqb-true, eq-eqb}
+use Rattle.std.proofs.lemmas.Cmp.{nat_list_cmp_total, nat_cmp_total}
+use Rattle.std.specs.Cmp.Lexicographic.{slice_cmp}
+use Rattle.std.specs.Ordering.{is_lt, ordering_reverse, ordering_then, match_ordering}
+use Rattle.std.proofs.Math.Seq.{take-append_seam, drop-append_seam}
+use Rattle.std.proofs.lemmas.List.{length-append}
+use Rattle.std.specs.List.{filter}
+use Rattle.json.specs.Print.{quoted}
+use Rattle.serde_json.specs.Events.{members_len as members_count}
+use Rattle.serde_json.specs.View.{view, members_view}
+use Rattle.serde_json.proofs.Views.{Entry}
+use Rattle.serde_json.specs.Data.{Data, object, Members, no_members, member, put}
+use Rattle.serde_json.specs.Written.{comma_if, compact_text, members_text, has_float}
+use Rattle.model.specs.Profile.{is_whole, members_whole, is_special, is_before, members_ordered, without_specials}
+use Rattle.json_profile.specs.Joined.{join, has_member, bare_text, is_front, front_of, back_of, all_front, all_back, fronts, split_of}
+use Rattle.json_profile.specs.Objects.{has_special}
+use Rattle.model.proofs.ProfileLaws.{first_of, rest_of}
+use Rattle.json_profile.specs.Profiled.{ArePlain}
+use Rattle.json_profile.specs.Texts.{IsSplit}
+use Rattle.json_profile.proofs.Floats.{has_float-whole}
+
+-- ---- texts
+
+regroup : (q a b c d : List ℕ) → q ++ (a ++ 58 ∷ (b ++ (c ++ d))) ≡ (q ++ (a ++ 58 ∷ (b ++ c))) ++ d
+regroup q a b c d = simp append_assoc
+
+pub members_text-bare : (later : Bool) (ms : Members) → members_text later ms ≡ bare_text later ms ++ 125 ∷ []
+members_text-bare later no_members = refl
+members_text-bare later (member k d ms) =
+    ap (λ s. comma_if later ++ (quoted k ++ 58 ∷ (compact_text d ++ s))) (members_text-bare true ms) ∙ regroup (comma_if later) (quoted k) (compact_text d) (bare_text true ms) (125 ∷ [])
+
+pub bare_text-join : (later : Bool) (ms ns : Members) → bare_text later (join ms ns) ≡ bare_text later ms ++ bare_text (later || has_member ms) ns
+bare_text-join true no_members ns = refl
+bare_text-join false no_members ns = refl
+bare_text-join true (member k d ms) ns =
+    ap (λ s. comma_if true ++ (quoted k ++ 58 ∷ (compact_text d ++ s))) (bare_text-join true ms ns) ∙ regroup (comma_if true) (quoted k) (compact_text d) (bare_text true ms) (bare_text true ns)
+bare_text-join false (member k d ms) ns =
+    ap (λ s. comma_if false ++ (quoted k ++ 58 ∷ (compact_text d ++ s))) (bare_text-join true ms ns) ∙ regroup (comma_if false) (quoted k) (compact_text d) (bare_text true ms) (bare_text true ns)
+
+-- the text of front, special and back members, where there is a special one
+pub text-joined : (front special back : Members) → has_member special ≡ true
+    → compact_text (object (join front (join special back))) ≡ 123 ∷ (bare_text false front ++ (bare_text (has_member front) special ++ (bare_text true back ++ 125 ∷ [])))
+text-joined front special back some =
+    let inner = bare_text-join (has_member front) special back in
+    let later : (b : Bool) → b || has_member special ≡ true = λ b. rw some (or-true b) in
+    let all = bare_text-join false front (join special back) ∙ ap (λ s. bare_text false front ++ s) (inner ∙ ap (λ b. bare_text (has_member front) special ++ bare_text b back) (later (has_member front))) in
+    ap (λ s. 123 ∷ s) (members_text-bare false (join front (join special back)) ∙ ap (λ s. s ++ 125 ∷ []) all ∙ append_assoc (bare_text false front) _ _ ∙ ap (λ s. bare_text false front ++ s) (append_assoc (bare_text (has_member front) special) (bare_text true back) (125 ∷ [])))
+  where
+    or-true : (b : Bool) → b || true ≡ true
+    or-true true = refl
+    or-true false = refl
+
+-- the text of plain members, by the same parts
+pub text-plain : (front back : Members) → compact_text (object (join front back)) ≡ 123 ∷ (bare_text false front ++ (bare_text (has_member front) back ++ 125 ∷ []))
+text-plain front back =
+    ap (λ s. 123 ∷ s) (members_text-bare false (join front back) ∙ ap (λ s. s ++ 125 ∷ []) (bare_text-join false front back) ∙ append_assoc (bare_text false front) (bare_text (has_member front) back) (125 ∷ []))
+
+-- ---- the parts
+
+pub parts : (ms : Members) → join (front_of ms) (back_of ms) ≡ ms
+parts no_members = refl
+parts (member k d ms) = at (is_front k) (parts ms)
+  where
+    at : (b : Bool) → join (front_of ms) (back_of ms) ≡ ms → join (cond b (member k d (front_of ms)) no_members) (cond b (back_of ms) (member k d ms)) ≡ member k d ms
+    at true h = ap (member k d) h
+    at false h = refl
+
+pub all_front-front_of : (ms : Members) → all_front (front_of ms) ≡ true
+all_front-front_of no_members = refl
+all_front-front_of (member k d ms) = at (is_front k) refl (all_front-front_of ms)
+  where
+    at : (b : Bool) → is_front k ≡ b → all_front (front_of ms) ≡ true → all_front (cond b (member k d (front_of ms)) no_members) ≡ true
+    at true is h = and_from (is_front k) (all_front (front_of ms)) is h
+    at false is h = refl
+
+-- ---- where a special name stands
+
+pub front-below : (n k : List ℕ) → is_special n ≡ true → is_front k ≡ true → slice_cmp nat_cmp k n ≡ Less
+front-below [] k special front = absurd (true≢false (sym special))
+front-below (c ∷ r) [] special front = refl
+front-below (c ∷ r) (e ∷ q) special front = rw (eqb-true c 95 special, front) refl
+
+pub back-above : (n k : List ℕ) → is_special n ≡ true → is_front k ≡ false → is_special k ≡ false → slice_cmp nat_cmp n k ≡ Less
+back-above [] k special back plain = absurd (true≢false (sym special))
+back-above (c ∷ r) [] special back plain = absurd (true≢false back)
+back-above (c ∷ r) (e ∷ q) special back plain =
+    let high : 95 ≤ e = ltb-false e 95 back in
+    let apart : e ≢ 95 = λ is. true≢false (sym (eq-eqb e 95 is) ∙ plain) in
+    let above : 95 < e = omega (arith, high, apart) in
+    rw (eqb-true c 95 special, lt-ltb 95 e above) refl
+
+-- ---- a special member goes between the parts
+
+put-front : (n : List ℕ) (v : Data) (front ms : Members) → is_special n ≡ true → all_front front ≡ true → put n v (join front ms) ≡ join front (put n v ms)
+put-front n v no_members ms special all = refl
+put-front n v (member k d front) ms special all =
+    let both = and_parts (is_front k) (all_front front) all in
+    let above : slice_cmp nat_cmp n k ≡ Greater = nat_list_cmp_total.antisymm n k ∙ ap ordering_reverse (front-below n k special both.0) in
+    rw above (ap (member k d) (put-front n v front ms special both.1))
+
+put-at : (o : Ordering) (n l : List ℕ) (v e : Data) (special back : Members) → put n v (join special back) ≡ join (put n v special) back
+    → match_ordering o (member n v (member l e (join special back))) (member l v (join special back)) (member l e (put n v (join special back)))
+    ≡ join (match_ordering o (member n v (member l e special)) (member l v special) (member l e (put n v special))) back
+put-at Less n l v e special back h = refl
+put-at Equal n l v e special back h = refl
+put-at Greater n l v e special back h = ap (member l e) h
+
+negated : (b : Bool) → not b ≡ true → b ≡ false
+negated true h = absurd (true≢false (sym h))
+negated false h = refl
+
+put-back : (n : List ℕ) (v : Data) (special back : Members) → is_special n ≡ true → all_back back ≡ true → put n v (join special back) ≡ join (put n v special) back
+put-back n v no_members no_members is all = refl
+put-back n v no_members (member k d back) is all =
+    let both = and_parts (not (is_front k) && not (is_special k)) (all_back back) all in
+    let name = and_parts (not (is_front k)) (not (is_special k)) both.0 in
+    rw (back-above n k is (negated _ name.0) (negated _ name.1)) refl
+put-back n v (member l e special) back is all = put-at (slice_cmp nat_cmp n l) n l v e special back (put-back n v special back is all)
+
+pub put-joined : (n : List ℕ) (v : Data) (front special back : Members) → is_special n ≡ true → all_front front ≡ true → all_back back ≡ true
+    → put n v (join front (join special back)) ≡ join front (join (put n v special) back)
+put-joined n v front special back is below above = put-front n v front (join special back) is below ∙ ap (join front) (put-back n v special back is above)
+
+-- ---- all that stand after a name that is not in front are not in front
+
+greater_less : Greater ≡ Less → ⊥
+greater_less h = cc
+
+lt : (o : Ordering) → is_lt o ≡ true → o ≡ Less
+lt Less h = refl
+lt Equal h = absurd (true≢false (sym h))
+lt Greater h = absurd (true≢false (sym h))
+
+pub front-closed : (k l : List ℕ) → slice_cmp nat_cmp k l ≡ Less → is_front l ≡ true → is_front k ≡ true
+front-closed [] l low front = refl
+front-closed (c ∷ r) [] low front = absurd (cc)
+front-closed (c ∷ r) (e ∷ q) low front = at (nat_lt c 95) refl
+  where
+    at : (b : Bool) → nat_lt c 95 ≡ b → nat_lt c 95 ≡ true
+    at true is = is
+    at false is =
+        let high : 95 ≤ c = ltb-false c 95 is in
+        let low' : e < 95 = ltb-true e 95 front in
+        let above : e < c = omega (arith, high, low') in
+        let bigger : nat_cmp e c ≡ Less = rw (lt-ltb e c above) refl in
+        let turned : nat_cmp c e ≡ Greater = nat_cmp_total.antisymm c e ∙ ap ordering_reverse bigger in
+        absurd (greater_less (sym (ap (λ o. ordering_then o (slice_cmp nat_cmp r q)) turned) ∙ low))
+
+pub all_back-of : (ms : Members) → members_ordered ms ≡ true → has_special ms ≡ false → all_back (back_of ms) ≡ true
+all_back-of no_members ordered plain = refl
+all_back-of (member k d ms) ordered plain =
+    let p = or_parts (is_special k) (has_special ms) plain in
+    at (is_front k) refl p.0 p.1 (all_back-of ms (rest_of k d ms ordered) p.1)
+  where
+    later : (l : List ℕ) (ns : Members) → is_front l ≡ false → is_before l ns ≡ true → members_ordered ns ≡ true → has_special ns ≡ false → all_back ns ≡ true
+    later l no_members back before ordered plain = refl
+    later l (member m e ns) back before ordered plain =
+        let p = or_parts (is_special m) (has_special ns) plain in
+        let up : is_front m ≡ false = turned (is_front m) refl in
+        and_from (not (is_front m) && not (is_special m)) (all_back ns) (rw (up, p.0) refl) (later m ns up (first_of m e ns ordered) (rest_of m e ns ordered) p.1)
+      where
+        turned : (b : Bool) → is_front m ≡ b → b ≡ false
+        turned true is = sym (front-closed l m (lt _ before) is) ∙ back
+        turned false is = refl
+
+    at : (b : Bool) → is_front k ≡ b → is_special k ≡ false → has_special ms ≡ false → all_back (back_of ms) ≡ true → all_back (cond b (back_of ms) (member k d ms)) ≡ true
+    at true is plain others h = h
+    at false is plain others h = and_from (not (is_front k) && not (is_special k)) (all_back ms) (rw (is, plain) refl) (later k ms is (first_of k d ms ordered) (rest_of k d ms ordered) others)
+
+-- ---- the test of each name finds the front
+
+no_fronts : (ms : Members) → all_back ms ≡ true → fronts ms ≡ no_members
+no_fronts no_members all = refl
+no_fronts (member k d ms) all =
+    let both = and_parts (not (is_front k) && not (is_special k)) (all_back ms) all in
+    let back = negated (is_front k) (and_parts (not (is_front k)) (not (is_special k)) both.0).0 in
+    rw back (no_fronts ms both.1)
+
+pub fronts-front_of : (ms : Members) → all_back (back_of ms) ≡ true → fronts ms ≡ front_of ms
+fronts-front_of no_members all = refl
+fronts-front_of (member k d ms) all = at (is_front k) all (fronts-front_of ms)
+  where
+    at : (b : Bool) → all_back (cond b (back_of ms) (member k d ms)) ≡ true → (all_back (back_of ms) ≡ true → fronts ms ≡ front_of ms)
+        → cond b (member k d (fronts ms)) (fronts ms) ≡ cond b (member k d (front_of ms)) no_members
+    at true h later = ap (member k d) (later h)
+    at false h later = no_fronts ms (and_parts (not (is_front k) && not (is_special k)) (all_back ms) h).1
+
+pub fronts-plain : (ms : Members) → members_ordered ms ≡ true → has_special ms ≡ false → fronts ms ≡ front_of ms
+fronts-plain ms ordered plain = fronts-front_of ms (all_back-of ms ordered plain)
+
+-- the walk over a map
+front_if : (b : Bool) (e : Entry) (es : List Entry) (ms : Members) → members_view es ≡ ms → members_view (cond b (e ∷ es) es) ≡ cond b (member (string_bytes e.0) (view e.1) ms) ms
+front_if true e es ms h = ap (member (string_bytes e.0) (view e.1)) h
+front_if false e es ms h = h
+
+pub filter_front : (es : List Entry) → members_view (filter (λ e. is_front (string_bytes e.0)) es) ≡ fronts (members_view es)
+filter_front [] = refl
+filter_front (e ∷ es) = front_if (is_front (string_bytes e.0)) e (filter (λ e. is_front (string_bytes e.0)) es) (fronts (members_view es)) (filter_front es)
+
+-- no special name is among plain members
+plain_grows : (k : List ℕ) (d : Data) (ms ns : Members) → without_specials ns ≡ member k d ms → members_count (member k d ms) ≤ members_count ns
+plain_grows k d ms no_members is = absurd (cc)
+plain_grows k d ms (member l e ns) is = subst (λ os. members_count os ≤ members_count (member l e ns)) is (fewer (member l e ns))
+  where
+    fewer : (os : Members) → members_count (without_specials os) ≤ members_count os
+    fewer no_members = omega arith
+    fewer (member m f os) = at (is_special m) (fewer os)
+      where
+        at : (b : Bool) → members_count (without_specials os) ≤ members_count os → members_count (cond b (without_specials os) (member m f (without_specials os))) ≤ suc (members_count os)
+        at true h = omega (arith, h)
+        at false h = omega (arith, h)
+
+abbrev tail_of : Members → Members
+tail_of no_members = no_members
+tail_of (member k d ms) = ms
+
+pub no_special : (ms : Members) → without_specials ms ≡ ms → has_special ms ≡ false
+no_special no_members plain = refl
+no_special (member k d ms) plain = at (is_special k) plain (no_special ms)
+  where
+    at : (b : Bool) → cond b (without_specials ms) (member k d (without_specials ms)) ≡ member k d ms → (without_specials ms ≡ ms → has_special ms ≡ false) → b || has_special ms ≡ false
+    at true is later = let grown : suc (members_count ms) ≤ members_count ms = plain_grows k d ms ms is in absurd (omega (arith, grown))
+    at false is later = later (ap tail_of is)
+
+-- ---- where the split is
+
+fronts-whole : (ms : Members) → members_whole ms ≡ true → members_whole (fronts ms) ≡ true
+fronts-whole no_members whole = refl
+fronts-whole (member k d ms) whole =
+    let both = and_parts (is_whole d) (members_whole ms) whole in
+    at (is_front k) both.0 (fronts-whole ms both.1)
+  where
+    at : (b : Bool) → is_whole d ≡ true → members_whole (fronts ms) ≡ true → members_whole (cond b (member k d (fronts ms)) (fronts ms)) ≡ true
+    at true here later = and_from (is_whole d) (members_whole (fronts ms)) here later
+    at false here later = later
+
+pub fronts-no_float : (ms : Members) → members_whole ms ≡ true → has_float (object (fronts ms)) ≡ false
+fronts-no_float ms whole = has_float-whole (object (fronts ms)) (fronts-whole ms whole)
+
+length-last : (xs : List ℕ) (x : ℕ) → length (xs ++ x ∷ []) ≡ suc (length xs)
+length-last [] x = refl
+length-last (y ∷ ys) x = ap suc (length-last ys x)
+
+pub length-fronts : (text : List ℕ) (ms : Members) → ArePlain ms → text ≡ compact_text (object (fronts ms)) → length text ≡ suc (split_of ms)
+length-fronts text ms plain is =
+    let same : fronts ms ≡ front_of ms = fronts-plain ms plain.ordered (no_special ms plain.plain) in
+    ap length (is ∙ ap (λ os. compact_text (object os)) same) ∙ ap (λ s. suc (length s)) (members_text-bare false (front_of ms)) ∙ ap suc (length-last (bare_text false (front_of ms)) 125)
+
+pub plain-text : (ms : Members) → compact_text (object ms) ≡ 123 ∷ (bare_text false (front_of ms) ++ (bare_text (has_member (front_of ms)) (back_of ms) ++ 125 ∷ []))
+plain-text ms = ap (λ os. compact_text (object os)) (sym (parts ms)) ∙ text-plain (front_of ms) (back_of ms)
+
+-- ---- the text is cut at the split
+
+pub record Cuts (text : List ℕ) (split : ℕ) (F B : List ℕ) : Type 0 where
+  pub front : take (split - 1) (drop 1 text) ≡ F
+  pub back : take ((length text - 1) - split) (drop split text) ≡ B
+  pub some : 1 ≤ split
+  pub order : split ≤ length text - 1
+  pub end : split ≤ length text
+
+seam : (F B : List ℕ) (n : ℕ) → n ≡ length B → take n (drop (length F) (F ++ (B ++ 125 ∷ []))) ≡ B
+seam F B n is = ap (λ s. take n s) (drop-append_seam F (B ++ 125 ∷ [])) ∙ ap (λ m. take m (B ++ 125 ∷ [])) is ∙ take-append_seam B (125 ∷ [])
+
+cuts : (F B : List ℕ) → Cuts (123 ∷ (F ++ (B ++ 125 ∷ []))) (suc (length F)) F B
+cuts F B =
+    let long : length (F ++ (B ++ 125 ∷ [])) ≡ length F + (length B + 1) = length-append F (B ++ 125 ∷ []) ∙ ap (λ n. length F + n) (length-append B (125 ∷ [])) in
+    let one : suc (length F) - 1 ≡ length F = omega arith in
+    let rest : (suc (length (F ++ (B ++ 125 ∷ []))) - 1) - suc (length F) ≡ length B = omega (arith, long) in
+    record {
+      front = ap (λ n. take n (F ++ (B ++ 125 ∷ []))) one ∙ take-append_seam F (B ++ 125 ∷ []);
+      back = seam F B _ rest;
+      some = omega arith;
+      order = omega (arith, long);
+      end = omega (arith, long);
+    }
+
+pub cut : (text : List ℕ) (split : ℕ) (ms ns : Members) → IsSplit split text ms → ms ≡ ns → (length text ≡ 0 → ⊥) → Cuts text split (bare_text false (front_of ns)) (bare_text (has_member (front_of ns)) (back_of ns))
+cut text split no_members ns is same some = absurd (some (ap length is.whole.kept))
+cut text split (member k d ms) ns is same some =
+    let P : Members → Type 0 = λ os. Cuts text split (bare_text false (front_of os)) (bare_text (has_member (front_of os)) (back_of os)) in
+    let whole = is.whole.kept ∙ plain-text (member k d ms) in
+    subst P same (rw (whole, is.at) (cuts (bare_text false (front_of (member k d ms))) (bare_text (has_member (front_of (member k d ms))) (back_of (member k d ms)))))
+
+-- ---- for the writer of an answer
+
+-- a special member that is put into a body and others goes to the others
+pub put-between : (n : List ℕ) (v : Data) (ms special : Members) → ArePlain ms → is_special n ≡ true
+    → put n v (join (front_of ms) (join special (back_of ms))) ≡ join (front_of ms) (join (put n v special) (back_of ms))
+put-between n v ms special plain is = put-joined n v (front_of ms) special (back_of ms) is (all_front-front_of ms) (all_back-of ms plain.ordered (no_special ms plain.plain))
+
+pub put-first : (n : List ℕ) (v : Data) (ms : Members) → ArePlain ms → is_special n ≡ true → put n v ms ≡ join (front_of ms) (join (member n v no_members) (back_of ms))
+put-first n v ms plain is = ap (put n v) (sym (parts ms)) ∙ put-between n v ms no_members plain is
+
+-- the comma that is missing where none stands in front
+pub later-text : (later : Bool) (back : Members) → bare_text true back ≡ comma_if (not later && has_member back) ++ bare_text later back
+later-text true no_members = refl
+later-text false no_members = refl
+later-text true (member k d ms) = refl
+later-text false (member k d ms) = refl
+
+-- the answer's text: what the body lends, with the special members' text between
+pub answer-text : (ms special : Members) → has_member special ≡ true
+    → compact_text (object (join (front_of ms) (join special (back_of ms))))
+    ≡ 123 ∷ (bare_text false (front_of ms) ++ (bare_text (has_member (front_of ms)) special
+    ++ ((comma_if (not (has_member (front_of ms)) && has_member (back_of ms)) ++ bare_text (has_member (front_of ms)) (back_of ms)) ++ 125 ∷ [])))
+answer-text ms special some =
+    text-joined (front_of ms) special (back_of ms) some
+    ∙ ap (λ s. 123 ∷ (bare_text false (front_of ms) ++ (bare_text (has_member (front_of ms)) special ++ (s ++ 125 ∷ [])))) (later-text (has_member (front_of ms)) (back_of ms))

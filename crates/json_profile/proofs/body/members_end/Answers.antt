@@ -1,0 +1,25 @@
+use Rattle.std.proofs.Common.{◌≡◌, string_bytes, length, false, ap, ◌∙◌, arith}
+use Rattle.serde_json.specs.Data.{object}
+use Rattle.serde_json.specs.View.{view, members_view}
+use Rattle.serde_json.specs.Written.{has_float, compact_text}
+use Rattle.serde_json.specs.declared.value.Value.{Object}
+use Rattle.serde_json.proofs.Views.{view-Object}
+use Rattle.json_profile.specs.Joined.{fronts}
+use Rattle.json_profile.proofs.Joined.{fronts-no_float, length-fronts}
+use Rattle.json_profile.proofs.body.members_end.Goals as goal
+
+pub overflow_sub-result : goal.overflow_sub-result
+overflow_sub-result c =
+    let ms = members_view c.args.members.entries in
+    let is : view (Object c.keep_front.new.members) ≡ object (fronts ms) = view-Object c.keep_front.new.members ∙ ap object c.keep_front.ensures in
+    let plain : has_float (view (Object c.keep_front.new.members)) ≡ false = rw is (fronts-no_float ms c.requires.whole) in
+    let long = ap length c.as_bytes.ensures.value ∙ length-fronts (string_bytes c.in_ok-text.text) ms c.requires (c.in_ok-text.ensures.text plain ∙ ap compact_text is) in
+    rw long (omega arith)
+
+pub returns : goal.returns
+returns c =
+    let ms = members_view c.args.members.entries in
+    let is : view (Object c.keep_front.new.members) ≡ object (fronts ms) = view-Object c.keep_front.new.members ∙ ap object c.keep_front.ensures in
+    let plain : has_float (view (Object c.keep_front.new.members)) ≡ false = rw is (fronts-no_float ms c.requires.whole) in
+    let long = ap length c.as_bytes.ensures.value ∙ length-fronts (string_bytes c.in_ok-text.text) ms c.requires (c.in_ok-text.ensures.text plain ∙ ap compact_text is) in
+    omega (arith, long)
