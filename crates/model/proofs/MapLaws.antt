@@ -11,22 +11,11 @@ use Rattle.std.proofs.lemmas.Option.{none-some, same_Some}
 use Rattle.std.proofs.lemmas.List.Elements.{All-nil, All-cons, All-head, All-tail, All-contains, All-map}
 use Rattle.std.proofs.lemmas.List.Kept.{AllPairs-cons}
 use Rattle.std.proofs.lemmas.Map.Views.{Contains-from_any, list_any-from_Contains}
+use Rattle.model.specs.Truth.{both, first, second}
 use Rattle.model.specs.Map.{Order, Map, IsRising, entries, keys, get, from_list, same_map, get-from_list, refine, get-refine, same_key, same_key-equal, same_key_itself}
 use Rattle.model.proofs.ListLaws.{by_cases, Contains-tail, AllPairs-head, AllPairs-tail}
 
 -- ---- tests with a proof
-
-first : (a b : Bool) → T (a && b) → T a
-first true b p = tt
-first false b p = p
-
-second : (a b : Bool) → T (a && b) → T b
-second true b p = p
-second false b p = absurd p
-
-both : (a b : Bool) → T a → T b → T (a && b)
-both true b p q = q
-both false b p q = p
 
 less : (o : Ordering) → T (is_lt o) → o ≡ Less
 less Less p = refl

@@ -1,4 +1,5 @@
 pub mod Lists
+pub mod Truth
 pub mod Map
 pub mod JsonCode
 pub mod Profile

@@ -12,6 +12,7 @@ use Rattle.std.specs.FinMap.{IsAntisymmetric}
 use Rattle.std.specs.FinMap.Entries as es
 use Rattle.std.specs.FinMap.Entries.{find, is_sorted, below_all, is_sorted-put, find-put, same_entries}
 use Rattle.std.specs.Coded.{Coded, coded×, coded_list}
+use Rattle.model.specs.Truth.{both, first, second}
 use base.Stored.{coded_via}
 use lib.Dec.{T_prop}
 use mathlib.Core.Path.{sym, ap, subst, ◌∙◌}
@@ -32,18 +33,6 @@ IsRising O = AllPairs (λ a b. O.cmp a b ≡ Less)
 pub record Map (O : Order) (X : Type 0) : Type 0 where
   pub list : List (O.key × X)
   pub sorted : T (is_sorted O.cmp list)
-
-both : (a b : Bool) → T a → T b → T (a && b)
-both true b p q = q
-both false b p q = p
-
-first : (a b : Bool) → T (a && b) → T a
-first true b p = tt
-first false b p = p
-
-second : (a b : Bool) → T (a && b) → T b
-second true b p = p
-second false b p = absurd p
 
 module _ {O : Order} {X : Type 0} where
   abbrev pub entries : Map O X → List (O.key × X)

@@ -7,15 +7,12 @@ use Rattle.std.specs.FinMap.Entries as listed
 use Rattle.std.specs.FinMap.Entries.{find, is_sorted, below_all, by_order, length-put}
 use Rattle.std.proofs.Common.{ap, sym, subst, ◌∙◌, arith}
 use Rattle.cow_index.specs.Entries.{without}
+use Rattle.model.specs.Truth.{first, second}
 use Rattle.model.specs.Map.{same_key, same_key-equal}
 use Rattle.model.specs.Command.{Id, names}
 use Rattle.model.specs.Database.{Record}
 use Rattle.model.specs.Answers.{is_live}
 use Rattle.snapshots.specs.Listing.{live_count, live_in}
-
-second : (a b : Bool) → T (a && b) → T b
-second true b p = p
-second false b p = absurd p
 
 abbrev Records : Type 0
 Records = List (Id × Record)
@@ -53,10 +50,6 @@ live_count-put k x (e ∷ es) s =
     ] refl
 
 -- ---- one removed
-
-first : (a b : Bool) → T (a && b) → T a
-first true b p = tt
-first false b p = p
 
 above_is_other : (k : Id) (o : Ordering) → T (is_lt o) → is_eq o ≡ false
 above_is_other k Less h = refl
