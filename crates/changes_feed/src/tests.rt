@@ -1,11 +1,4 @@
-// Each query on small databases, made with ample memory. Answers are compared as texts.
-use asked::{Asked, answered, told};
-use commands::{Options, StyleKind};
-use database::{Change, changed};
-use snapshots::Version;
-use std::alloc::Global;
-use std::process::Abort;
-use std::test::Fail;
+//! Each query on small databases, made with ample memory. Answers are compared as texts.
 
 mod asked;
 mod database;
@@ -13,6 +6,14 @@ mod following;
 mod locals;
 mod names;
 mod texts;
+
+use asked::{Asked, answered, told};
+use commands::{Options, StyleKind};
+use database::{Change, changed};
+use snapshots::Version;
+use std::alloc::Global;
+use std::process::Abort;
+use std::test::Fail;
 
 const PLAIN: Options = Options {
     latest: false,

@@ -1,4 +1,5 @@
 //! A revision as a query shows it.
+
 use crate::status::Status;
 use document_id::DocId;
 use json_profile::Body;

@@ -1,4 +1,5 @@
-// Each kind of what is asked and answered, made with ample memory.
+//! Each kind of what is asked and answered, made with ample memory.
+
 use crate::{
     Absent, AbsentKind, Answer, AnswerKind, AskedRevisions, Command, CommandKind, Config, Copied,
     Difference, Differences, Edit, Entry, Limits, Merge, NamedRevisions, Query, QueryKind, Refusal,

@@ -1,4 +1,5 @@
 //! Why a compaction does not go on.
+
 use std::alloc::AllocError;
 use thiserror::Error;
 

@@ -1,4 +1,5 @@
 //! How an identity is refused.
+
 use std::alloc::AllocError;
 use thiserror::Error;
 

@@ -1,5 +1,4 @@
 //! The ids of documents, as requests name them.
-
 ghost use Rattle.http_bodies.specs.Identity.{id_named};
 ghost use Rattle.http_bodies.specs.Steps.{Decides};
 

@@ -1,9 +1,9 @@
-#![tactic(auto)]
 //! What the body of a request says, or why the request is refused.
 //!
 //! A body is checked from its text to its revisions: it is JSON, has the form that its route
 //! takes, has no unknown special member, and its ids and revisions are such. Of a list each check
 //! is made of all before the next. A refusal leaves nothing behind.
+#![tactic(auto)]
 
 mod bulk;
 mod counter;

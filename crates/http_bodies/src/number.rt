@@ -1,5 +1,4 @@
 //! Numbers from 1, as the limit of revisions, generations and local documents have them.
-
 ghost use Rattle.std.specs.Prelude.{◌≡◌, ◌≤◌, IfSome};
 ghost use Rattle.http_bodies.specs.Numbers.{from_one};
 

@@ -1,5 +1,4 @@
 //! Why a request is refused.
-
 ghost use Rattle.std.specs.Prelude.{◌≡◌};
 
 use http_routes::Route;

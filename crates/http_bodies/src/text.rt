@@ -1,5 +1,4 @@
 //! The body of a request, as JSON.
-
 ghost use Rattle.http_bodies.specs.Steps.{Decides};
 ghost use Rattle.http_bodies.specs.Text.{json_of};
 

@@ -1,5 +1,4 @@
 //! The ids that paths name.
-
 ghost use Rattle.http_bodies.specs.Steps.{Decides};
 ghost use Rattle.http_request.specs.Identity.{path_id};
 

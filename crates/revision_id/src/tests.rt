@@ -1,3 +1,5 @@
+//! Identities of revisions, made and read with ample memory.
+
 use crate::{RevFault, RevId};
 use json_profile::{Body, read};
 use md5::{Digest, Md5};

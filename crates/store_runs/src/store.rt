@@ -1,4 +1,5 @@
 //! A version of many documents.
+
 use commands::{Command, Edit, Seat};
 use document_id::DocId;
 use json_profile::Body;

@@ -1,4 +1,5 @@
 //! What a run is to do.
+
 use commands::{Config, Limits};
 
 /// What the sessions do.

@@ -1,4 +1,5 @@
 //! Why a path is not grafted.
+
 use std::alloc::AllocError;
 use thiserror::Error;
 

@@ -1,3 +1,5 @@
+//! The texts of answers to queries.
+
 use commands::{
     Answer, AnswerKind, ChangesPage, Difference, Differences, Document, NamedRevisions, Options,
     Query, QueryKind, Row, Style, StyleKind,

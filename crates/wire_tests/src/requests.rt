@@ -1,3 +1,5 @@
+//! What requests ask, and why they are refused.
+
 use commands::{CommandKind, QueryKind};
 use http_bodies::{Reason, Refusal};
 use http_framing::request::Request;

@@ -1,3 +1,5 @@
+//! The texts of replies to commands, and of refusals.
+
 use commands::{
     Absent, AbsentKind, Answer, AnswerKind, Command, Document, Edit, Merge, Options, Query,
     QueryKind, Refusal as WriteRefusal, RefusalKind, Reply, ReplyKind,

@@ -1,4 +1,5 @@
 //! Small databases, by what is done to the empty one.
+
 use super::names::{revision, revisions};
 use commands::{AskedRevisions, Command, Edit, Merge, NamedRevisions, Seat};
 use document_id::DocId;

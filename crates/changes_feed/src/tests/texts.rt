@@ -1,4 +1,5 @@
 //! Answers as texts.
+
 use super::names::name_of;
 use commands::{
     Absent, AbsentKind, Answer, AnswerKind, ChangesPage, Counts, Difference, Differences, Document,

@@ -1,4 +1,5 @@
 //! Commands of session 0.
+
 use commands::{AskedRevisions, Command, Edit, NamedRevisions};
 use document_id::DocId;
 use json_profile::{Body, read};
