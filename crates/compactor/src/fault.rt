@@ -13,7 +13,7 @@ pub enum CopyFault {
     #[error("the log no longer has a purge that the copy lacks")]
     Overrun,
     /// Memory was refused.
-    #[error("memory was refused")]
+    #[error("out of memory")]
     Memory,
 }
 

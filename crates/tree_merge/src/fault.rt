@@ -10,7 +10,7 @@ pub enum MergeFault {
     #[error("the path contradicts a known parent")]
     Contradiction,
     /// Memory was refused.
-    #[error("memory was refused")]
+    #[error("out of memory")]
     Memory,
 }
 
