@@ -28,7 +28,7 @@ mod tests;
 pub use absent::{Absent, AbsentKind};
 pub use answer::{Answer, AnswerKind};
 pub use command::{Command, CommandKind, MAX_EDITS};
-pub use config::{Config, Limits};
+pub use config::{Config, Limits, MAX_PLACES};
 pub use copied::{Copied, copy_all};
 pub use difference::{Difference, Differences};
 pub use document::Document;

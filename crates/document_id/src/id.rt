@@ -14,6 +14,9 @@ use std::cmp::Ordering;
 use std::marker::Model;
 use std::sync::ArcStr;
 
+/// The most bytes of an id.
+const MAX_BYTES: usize = 512;
+
 /// A text of 1 to 512 bytes, shared by all that name the document.
 #[derive(Drop)]
 pub struct DocId {
@@ -37,7 +40,7 @@ impl DocId {
         ensures id { IfOk result (λ id. id ≡ text.now) }
         ensures length { (result ≡ Err Length) ↔ ((length text.now ≡ 0) ⊎ (512 < length text.now)) }
     {
-        if text.is_empty() || text.len() > 512 {
+        if text.is_empty() || text.len() > MAX_BYTES {
             return Err(IdFault::Length);
         }
         Ok(DocId {

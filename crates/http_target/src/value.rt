@@ -4,6 +4,9 @@ ghost use Rattle.std.specs.Char.{is_ascii_digit};
 ghost use Rattle.std.specs.List.{list_all};
 ghost use Rattle.http_target.specs.Value.{flag, is_number, number};
 
+/// The most digits of a number, so that each fits 64 bits.
+const MAX_DIGITS: usize = 18;
+
 /// A truth value: `true` or `false`.
 pub fn parse_flag(value: &str) -> Option<bool>
     ensures { result ≡ flag value.now }
@@ -24,7 +27,7 @@ fn are_all_digits(value: &[u8]) -> bool
 fn is_number(value: &str) -> bool
     ensures { result ≡ is_number value.now }
 {
-    !value.is_empty() && value.len() <= 18 && are_all_digits(value.as_bytes())
+    !value.is_empty() && value.len() <= MAX_DIGITS && are_all_digits(value.as_bytes())
 }
 
 /// A number of 1 to 18 decimal digits.
