@@ -1,4 +1,4 @@
-//! The identity of a document or a local document.
+//! The id of a document or a local document.
 ghost use Rattle.std.specs.Prelude.{◌≡◌, ◌↔◌, ◌⊎◌, ◌<◌, IfOk, Some, Err, length, refl};
 ghost use Rattle.std.specs.Cmp.{partial_equiv_from_equiv, eq_by_cmp_equiv, po};
 ghost use Rattle.std.proofs.lemmas.Cmp.{nat_list_cmp_total};
@@ -35,7 +35,7 @@ impl Model for DocId {
 }
 
 impl DocId {
-    /// The identity with this text, which has 1 to 512 bytes.
+    /// The id with this text, which has 1 to 512 bytes.
     pub fn new(alloc: Global, text: &str) -> Result<DocId, IdFault>
         ensures id { IfOk result (λ id. id ≡ text.now) }
         ensures length { (result ≡ Err Length) ↔ ((length text.now ≡ 0) ⊎ (512 < length text.now)) }
@@ -55,7 +55,7 @@ impl DocId {
         self.text.as_str()
     }
 
-    /// One more owner of the same text. It grows nothing, but is refused at the largest count of
+    /// One more owner of the same text. It takes no memory, but is refused at the largest count of
     /// owners.
     pub fn share(&self) -> Result<DocId, AllocError>
         ensures same { IfOk result (λ id. id ≡ self.now) }

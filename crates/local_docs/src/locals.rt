@@ -18,7 +18,7 @@ use std::alloc::{AllocError, Global};
 use std::marker::Model;
 use std::sync::Arc;
 
-/// The local documents by their identities.
+/// The local documents by their ids.
 ///
 /// No call changes a value: a write gives a new one, which shares with the older one all but the
 /// nodes on the way to its document, and the older one holds what it held.
