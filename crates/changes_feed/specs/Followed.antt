@@ -8,6 +8,7 @@ use Rattle.model.specs.History.{Chronicle, Follows, now}
 use Rattle.model.specs.Changes.{every_id, fed, IsRightFeed}
 
 -- at most how many of `count` rows a page has
+-- CouchDB: GET /{db}/_changes, "limit"
 abbrev pub most_of : Option ℕ → ℕ → ℕ
 most_of None count = count
 most_of (Some limit) count = max 1 limit
@@ -18,6 +19,7 @@ pub record Following : Type 0 where
   pub style : Style
 
 -- a map that is right up to the cursor at any version before is right up to the next cursor, with the rows
+-- CouchDB: "CouchDB Replication Protocol", "Locate Changed Documents"
 abbrev pub KeepsRight : Following → List Row → ℕ → Chronicle → Type 0
 KeepsRight f rows next later = (m : Map names Row) (s : ℕ) (earlier : Chronicle) → IsNumbered earlier.base → Follows later earlier
     → f.cursor ≤ (now earlier).update_seq → IsRightFeed every_id f.style m s f.cursor (now earlier)

@@ -12,6 +12,7 @@ abbrev pub known_tree : Option Tree → Tree
 known_tree tree = unwrap_or tree empty
 
 -- the leaves of a lower generation, in rising order
+-- CouchDB: POST /{db}/_revs_diff, "possible_ancestors"
 abbrev pub ancestors_of : ℕ → Tree → List Rev
 ancestors_of generation t = in_order (filter (λ l. nat_lt l.generation generation) (revs_of (leaves t)))
 

@@ -1,4 +1,12 @@
-// Each query on small databases, made with ample memory. Answers are compared as texts.
+//! Each query on small databases, made with ample memory. Answers are compared as texts.
+
+mod asked;
+mod database;
+mod following;
+mod locals;
+mod names;
+mod texts;
+
 use asked::{Asked, answered, told};
 use database::{Change, changed};
 use model::Style;
@@ -7,13 +15,6 @@ use snapshots::Version;
 use std::alloc::Global;
 use std::process::Abort;
 use std::test::Fail;
-
-mod asked;
-mod database;
-mod following;
-mod locals;
-mod names;
-mod texts;
 
 const PLAIN: Options = Options {
     latest: false,

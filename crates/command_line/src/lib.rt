@@ -1,5 +1,5 @@
-#![tactic(auto)]
 //! The command line of `couchd`.
+#![tactic(auto)]
 
 ghost use Rattle.std.specs.Prelude.{◌≡◌, [], map, true, false, IfOk, IfErr, OnOk};
 ghost use Rattle.clap.specs.Words.{app_of, fault_of, kind_of};
@@ -7,6 +7,9 @@ ghost use Rattle.clap.specs.declared.builder.command.Command.TheViews.{out-Comma
 ghost use Rattle.clap.specs.declared.error.kind.ErrorKind.TheVariants.{OutOfMemory};
 ghost use Rattle.command_line.specs.declared.WordsFault.TheVariants.{Memory};
 ghost use Rattle.command_line.specs.Couchd.{couchd, IsRunOf};
+
+#[cfg(test)]
+mod tests;
 
 use clap::Command;
 use clap::error::ErrorKind;
@@ -101,6 +104,3 @@ pub fn read_words<S: AsStr>(alloc: Global, words: &[S]) -> Result<Run, WordsFaul
         _ => unreachable!(),
     }
 }
-
-#[cfg(test)]
-mod tests;

@@ -1,3 +1,5 @@
+//! Words of a command line, and what they are read as.
+
 use super::*;
 use std::alloc::Global;
 use std::process::Abort;

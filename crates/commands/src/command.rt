@@ -1,7 +1,6 @@
 //! Commands: what a session asks to be done.
 ghost use Rattle.std.specs.Prelude.{◌≡◌, ◌↔◌, ◌≤◌, ◌<◌, length, Some, IsTrue, IsSome, IfSome, IfOk, option_map};
 ghost use Rattle.std.specs.Arc.{arc_value};
-ghost use Rattle.model.specs.Command.{IsCommand, IsCounter, IsLimit, max_edits};
 ghost use Rattle.model.specs.Command as model;
 ghost use Rattle.model.specs.Map.{entries};
 ghost use Rattle.commands.specs.Command.{command_of};
@@ -67,7 +66,7 @@ impl Model for Command {
 impl Command {
     /// Edits, at most [`MAX_EDITS`] of them.
     pub fn edits(edits: Vec<Edit>) -> Option<Command>
-        ensures few { IsSome result ↔ (length edits.items ≤ max_edits) }
+        ensures few { IsSome result ↔ (length edits.items ≤ model.max_edits) }
         ensures command { IfSome result (λ command. command ≡ model.Edits edits.items) }
     {
         if edits.len() > MAX_EDITS {
@@ -81,7 +80,7 @@ impl Command {
 
     /// Merges, at most [`MAX_EDITS`] of them.
     pub fn merges(merges: Vec<Merge>) -> Option<Command>
-        ensures few { IsSome result ↔ (length merges.items ≤ max_edits) }
+        ensures few { IsSome result ↔ (length merges.items ≤ model.max_edits) }
         ensures command { IfSome result (λ command. command ≡ model.Merges merges.items) }
     {
         if merges.len() > MAX_EDITS {
@@ -96,7 +95,7 @@ impl Command {
     /// A write of a local document, or with no body its deletion. A revision number that is named
     /// is from 1.
     pub fn put_local(id: DocId, named: Option<u32>, body: Option<Arc<Body>>) -> Option<Command>
-        ensures counter { IsSome result ↔ IfSome named IsCounter }
+        ensures counter { IsSome result ↔ IfSome named model.IsCounter }
         ensures command { IfSome result (λ command. command ≡ model.PutLocal id named (option_map arc_value body)) }
     {
         if named == Some(0) {
@@ -113,7 +112,7 @@ impl Command {
 
     /// A purge of at most [`MAX_EDITS`] documents.
     pub fn purge(named: NamedRevisions) -> Option<Command>
-        ensures few { IsSome result ↔ (length (entries named) ≤ max_edits) }
+        ensures few { IsSome result ↔ (length (entries named) ≤ model.max_edits) }
         ensures command { IfSome result (λ command. command ≡ model.Purge named) }
     {
         if named.documents().len() > MAX_EDITS {
@@ -136,7 +135,7 @@ impl Command {
 
     /// The limit of revisions, from 1.
     pub fn set_limit(limit: u32) -> Option<Command>
-        ensures in_range { IsSome result ↔ IsLimit limit }
+        ensures in_range { IsSome result ↔ model.IsLimit limit }
         ensures command { IfSome result (λ command. command ≡ model.SetLimit limit) }
     {
         if limit == 0 {
@@ -149,7 +148,7 @@ impl Command {
 
     pub fn kind(&self) -> &CommandKind
         ensures kind { command_of result.now ≡ self.now }
-        ensures is_command { IsCommand self.now }
+        ensures is_command { model.IsCommand self.now }
     {
         &self.kind
     }

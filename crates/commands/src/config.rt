@@ -5,6 +5,27 @@ ghost use Rattle.commands.specs.Config.{config_of};
 
 use std::marker::Model;
 
+/// The most sessions of a database.
+pub(crate) const MAX_SESSIONS: u16 = 64;
+
+/// The most jobs that may wait.
+const MAX_QUEUE: u16 = 1024;
+
+/// The most jobs of a batch.
+const MAX_GATHER: u16 = 64;
+
+/// The most records that a compaction copies at a time.
+const MAX_SLICE: u16 = 4096;
+
+/// The most touched documents that a compaction takes over at its end.
+const MAX_SLACK: u16 = 64;
+
+/// How often a compaction is tried at most.
+const MAX_TRIES: u16 = 64;
+
+/// The most entries of a history.
+pub const MAX_PLACES: u32 = 4_294_967_295;
+
 /// Numbers for a configuration.
 #[derive(Debug, Clone, Copy, Drop)]
 pub struct Limits {
@@ -20,7 +41,7 @@ pub struct Limits {
     pub slack: u16,
     /// How often a compaction is tried, 1 to 64.
     pub tries: u16,
-    /// The most entries of a history, 1 to 4,294,967,295.
+    /// The most entries of a history, 1 to [`MAX_PLACES`].
     pub max_places: u32,
 }
 
@@ -66,12 +87,12 @@ impl Config {
 fn are_in_range(limits: &Limits) -> bool
     ensures in_range { IsTrue result ↔ IsConfig (config_of limits.now) }
 {
-    is_from_to(1, 64, limits.sessions)
-        && is_from_to(1, 1024, limits.queue)
-        && is_from_to(1, 64, limits.gather)
-        && is_from_to(1, 4096, limits.slice)
-        && is_from_to(0, 64, limits.slack)
-        && is_from_to(1, 64, limits.tries)
+    is_from_to(1, MAX_SESSIONS, limits.sessions)
+        && is_from_to(1, MAX_QUEUE, limits.queue)
+        && is_from_to(1, MAX_GATHER, limits.gather)
+        && is_from_to(1, MAX_SLICE, limits.slice)
+        && is_from_to(0, MAX_SLACK, limits.slack)
+        && is_from_to(1, MAX_TRIES, limits.tries)
         && limits.max_places >= 1
 }
 

@@ -16,7 +16,7 @@ mod seat;
 mod tests;
 
 pub use command::{Command, CommandKind, MAX_EDITS};
-pub use config::{Config, Limits};
+pub use config::{Config, Limits, MAX_PLACES};
 pub use copied::{Copied, copy_all};
 pub use edit::Edit;
 pub use entry::{Entry, Job};

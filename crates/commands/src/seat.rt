@@ -2,6 +2,7 @@
 ghost use Rattle.std.specs.Prelude.{◌≡◌, ◌↔◌, ◌<◌, IsSome, IfSome};
 ghost use Rattle.model.specs.Command.{IsSeat};
 
+use crate::config::MAX_SESSIONS;
 use std::marker::Model;
 
 /// Which call of which session a command is.
@@ -29,7 +30,7 @@ impl Seat {
         ensures in_range { IsSome result ↔ ((session < 64) × (0 < call)) }
         ensures seat { IfSome result (λ seat. seat ≡ record { session = session; call = call }) }
     {
-        if session >= 64 || call == 0 {
+        if session >= MAX_SESSIONS || call == 0 {
             return None;
         }
         Some(Seat { session, call })

@@ -4,7 +4,7 @@ ghost use Rattle.model.specs.History.{Extends};
 
 use crate::documents::{BULK, REVISIONS, with_edits, written};
 use crate::steps::tell;
-use commands::Seat;
+use commands::{MAX_PLACES, Seat};
 use compactor::Compaction;
 use snapshots::Version;
 use std::alloc::Global;
@@ -90,7 +90,7 @@ fn finish(rt: &HostRuntime, copy: &mut Compaction, version: &Version) -> Option<
     requires { Extends version.now copy.old.seen }
 {
     tell(rt, "edited-last", 0, 0)?;
-    if copy.left() > 0 || version.place() >= u64::from(u32::MAX) {
+    if copy.left() > 0 || version.place() >= u64::from(MAX_PLACES) {
         return None;
     }
     let seat = Seat::new(COMPACTING, version.next_call(COMPACTING))?;

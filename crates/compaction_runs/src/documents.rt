@@ -2,9 +2,9 @@
 ghost use Rattle.std.specs.Prelude.{IfSome};
 ghost use Rattle.model.specs.History.{Extends};
 
-use commands::{Command, Edit, Seat};
+use commands::{Command, Edit, MAX_PLACES, Seat};
 use document_id::DocId;
-use json_profile::{Body, read};
+use json_profile::{Body, MAX_NESTING, read};
 use revision_id::RevId;
 use snapshots::Version;
 use std::alloc::Global;
@@ -16,9 +16,6 @@ pub(crate) const BULK: u32 = 1000;
 
 /// How many revisions each document has.
 pub(crate) const REVISIONS: u32 = 10;
-
-/// How deep a JSON value nests at most.
-const DEEPEST: u8 = 72;
 
 const BODY: &str = "{\"kind\":\"note\",\"number\":1,\"text\":\"a small document\"}";
 
@@ -63,7 +60,7 @@ pub(crate) fn with_edits(
 ) -> Option<Version>
     ensures extends { IfSome result (λ v. Extends v version.now) }
 {
-    if version.place() >= u64::from(u32::MAX) {
+    if version.place() >= u64::from(MAX_PLACES) {
         return None;
     }
     let seat = Seat::new(0, version.next_call(0))?;
@@ -113,6 +110,6 @@ fn id_of(alloc: Global, number: u32) -> Option<DocId> {
 }
 
 fn body(alloc: Global) -> Option<Body> {
-    let json = read(alloc, BODY.as_bytes(), DEEPEST).ok()?;
+    let json = read(alloc, BODY.as_bytes(), MAX_NESTING).ok()?;
     json.object_without_specials(alloc).ok()
 }

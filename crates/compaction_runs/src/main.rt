@@ -6,12 +6,12 @@
 //! nothing can be read, and 2 for other words.
 #![tactic(auto)]
 
-use std::process::ExitCode;
-use std::{env, io};
-
 mod copy;
 mod documents;
 mod steps;
+
+use std::process::ExitCode;
+use std::{env, io};
 
 /// The status of a run that was refused memory, or told to end.
 const ENDED: u8 = 1;

@@ -1,4 +1,5 @@
 //! The steps of a run, each of which is told and waited after.
+
 use std::io::Read;
 
 /// Prints what was done, and what is left of it.

@@ -1,4 +1,5 @@
 //! Why a compaction does not go on.
+
 use std::alloc::AllocError;
 use thiserror::Error;
 
@@ -12,7 +13,7 @@ pub enum CopyFault {
     #[error("the log no longer has a purge that the copy lacks")]
     Overrun,
     /// Memory was refused.
-    #[error("memory was refused")]
+    #[error("out of memory")]
     Memory,
 }
 

@@ -1,7 +1,10 @@
-// Copies that follow versions, with ample memory. What each step tells and what stands at the end
-// are compared as texts.
+//! Copies that follow versions, with ample memory. What each step tells and what stands at the end
+//! are compared as texts.
 ghost use Rattle.std.specs.Prelude.{◌≡◌, IfOk};
 ghost use Rattle.model.specs.History.{Extends};
+
+mod database;
+mod texts;
 
 use crate::Compaction;
 use commands::{Command, Seat};
@@ -11,9 +14,6 @@ use std::alloc::Global;
 use std::process::Abort;
 use std::test::Fail;
 use texts::{push_content, push_fault, push_left};
-
-mod database;
-mod texts;
 
 /// What is done, one after another.
 enum Step {

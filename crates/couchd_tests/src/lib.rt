@@ -1,5 +1,5 @@
-#![tactic(auto)]
 //! Tests of connections over the whole store.
+#![tactic(auto)]
 
 #[cfg(test)]
 mod tests;

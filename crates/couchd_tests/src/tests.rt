@@ -1,3 +1,5 @@
+//! Requests of one connection, in pieces and with failures, and all that is written to it.
+
 use http_front::{Session, Setting, run_once, serve};
 use serving::{Cause, Ended};
 use std::alloc::Global;

@@ -2,11 +2,6 @@
 //! older one all that it did not change, and the older map stays as it was.
 #![tactic(auto)]
 
-pub use key::IndexKey;
-pub use map::CowMap;
-pub use shared::Shared;
-pub use walk::Range;
-
 mod key;
 mod map;
 mod nodes;
@@ -15,3 +10,8 @@ mod shared;
 mod tests;
 mod tree;
 mod walk;
+
+pub use key::IndexKey;
+pub use map::CowMap;
+pub use shared::Shared;
+pub use walk::Range;

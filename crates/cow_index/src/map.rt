@@ -121,7 +121,7 @@ impl<K: IndexKey, V: Drop> CowMap<K, V> {
         Range::from_key(&self.tree, key)
     }
 
-    /// The same map, which shares all nodes. It grows nothing, but is refused at the largest count
+    /// The same map, which shares all nodes. It takes no memory, but is refused at the largest count
     /// of owners of the root.
     pub fn share(&self) -> Result<Self, AllocError>
         ensures entries { IfOk result (λ m. m.entries ≡ self.now.entries) }

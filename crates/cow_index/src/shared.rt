@@ -28,7 +28,7 @@ impl<T: Drop> Shared<T> {
         })
     }
 
-    /// One more owner of the same value. It grows nothing, but is refused at the largest count of
+    /// One more owner of the same value. It takes no memory, but is refused at the largest count of
     /// owners.
     pub fn share(&self) -> Result<Self, AllocError>
         ensures { IfOk result (λ s. s ≡ self.now) }

@@ -1,4 +1,5 @@
-// Maps made one from the other, with the older ones kept.
+//! Maps made one from the other, with the older ones kept.
+
 use crate::{CowMap, IndexKey, Shared};
 use std::alloc::AllocError;
 use std::process::Abort;

@@ -1,8 +1,9 @@
-//! How an identity is refused.
+//! How an id is refused.
+
 use std::alloc::AllocError;
 use thiserror::Error;
 
-/// Why no identity was given.
+/// Why no id was given.
 #[derive(Debug, Clone, Copy, PartialEq, Eq, Drop, Error)]
 pub enum IdFault {
     #[error("an id has 1 to 512 bytes")]

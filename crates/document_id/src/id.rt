@@ -1,4 +1,4 @@
-//! The identity of a document or a local document.
+//! The id of a document or a local document.
 ghost use Rattle.std.specs.Prelude.{◌≡◌, ◌↔◌, ◌⊎◌, ◌<◌, IfOk, Some, Err, length, refl};
 ghost use Rattle.std.specs.Cmp.{partial_equiv_from_equiv, eq_by_cmp_equiv, po};
 ghost use Rattle.std.proofs.lemmas.Cmp.{nat_list_cmp_total};
@@ -13,6 +13,9 @@ use std::alloc::{AllocError, Global};
 use std::cmp::Ordering;
 use std::marker::Model;
 use std::sync::ArcStr;
+
+/// The most bytes of an id.
+const MAX_BYTES: usize = 512;
 
 /// A text of 1 to 512 bytes, shared by all that name the document.
 #[derive(Drop)]
@@ -32,12 +35,12 @@ impl Model for DocId {
 }
 
 impl DocId {
-    /// The identity with this text, which has 1 to 512 bytes.
+    /// The id with this text, which has 1 to 512 bytes.
     pub fn new(alloc: Global, text: &str) -> Result<DocId, IdFault>
         ensures id { IfOk result (λ id. id ≡ text.now) }
         ensures length { (result ≡ Err Length) ↔ ((length text.now ≡ 0) ⊎ (512 < length text.now)) }
     {
-        if text.is_empty() || text.len() > 512 {
+        if text.is_empty() || text.len() > MAX_BYTES {
             return Err(IdFault::Length);
         }
         Ok(DocId {
@@ -52,7 +55,7 @@ impl DocId {
         self.text.as_str()
     }
 
-    /// One more owner of the same text. It grows nothing, but is refused at the largest count of
+    /// One more owner of the same text. It takes no memory, but is refused at the largest count of
     /// owners.
     pub fn share(&self) -> Result<DocId, AllocError>
         ensures same { IfOk result (λ id. id ≡ self.now) }

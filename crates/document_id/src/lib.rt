@@ -1,4 +1,4 @@
-//! Identities of documents.
+//! Ids of documents.
 #![tactic(auto)]
 
 mod fault;

@@ -1,4 +1,5 @@
-// Identities, made with ample memory.
+//! Ids, made with ample memory.
+
 use crate::{DocId, IdFault};
 use std::cmp::Ordering;
 

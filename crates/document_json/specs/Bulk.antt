@@ -24,6 +24,7 @@ abbrev pub few : List Data → Option (List Data)
 few values = if nat_le (length values) max_edits then Some values else None
 
 -- the documents that are listed
+-- CouchDB: POST /{db}/_bulk_docs, "docs"
 abbrev pub listed_in : Data → Option (List Data)
 listed_in value = option_and_then few (option_map values_of (option_and_then as_array (get (codes "docs") value)))
 
@@ -32,6 +33,7 @@ flag_or_true None = Some true
 flag_or_true (Some value) = as_bool value
 
 -- they are new edits where it is not said
+-- CouchDB: POST /{db}/_bulk_docs, "new_edits"
 abbrev pub new_edits_in : Data → Option Bool
 new_edits_in value = flag_or_true (get (codes "new_edits") value)
 
@@ -47,6 +49,7 @@ abbrev pub with_path : Parts → Checked Listed
 with_path parts = and_then (path_found parts.revisions) (λ path. Ok (record { parts = parts; path = path }))
 
 -- a document from elsewhere names its revision, by `_rev` or by a path
+-- CouchDB: POST /{db}/_bulk_docs, "new_edits"
 abbrev pub merged_in : Parts → Checked Listed
 merged_in parts = and_then (check (is_some parts.rev || is_some parts.revisions) reason.Shape) (λ _. with_path parts)
 
@@ -108,11 +111,13 @@ abbrev pub documents_in : Bool → List (Option Parts) → Checked (List Named)
 documents_in new_edits found = and_then (each (document_listed new_edits) found) (λ documents. named_in documents)
 
 -- the command that writes them
+-- CouchDB: POST /{db}/_bulk_docs, "new_edits"
 abbrev pub command_in : Bool → List Named → Checked Command
 command_in true documents = and_then (each edit_in documents) (λ edits. Ok (Edits edits))
 command_in false documents = and_then (each merge_in documents) (λ merges. Ok (Merges merges))
 
 -- the command of a bulk
+-- CouchDB: POST /{db}/_bulk_docs
 abbrev pub bulk_of : List ℕ → Checked Command
 bulk_of body =
     and_then (json_of body) (λ value.

@@ -36,6 +36,7 @@ abbrev pub member_texts : Member → Checked (List ℕ × List Data)
 member_texts m = texts_listed (member_pair m)
 
 -- the revisions that are listed of each document
+-- CouchDB: POST /{db}/_revs_diff
 unfoldable pub asked_in : List (List ℕ × Data) → Checked (List (Id × List Rev))
 asked_in pairs =
     and_then (each texts_listed pairs) (λ listed.
@@ -43,10 +44,12 @@ asked_in pairs =
     each revs_named named))
 
 -- the revisions that the members of an object list
+-- CouchDB: POST /{db}/_revs_diff
 abbrev pub named_in : Members → Checked (Map names (List Rev))
 named_in members = and_then (asked_in (pairs_in members)) (λ asked. Ok (from_list asked))
 
 -- the revisions of a body
+-- CouchDB: POST /{db}/_revs_diff
 abbrev pub difference_of : List ℕ → Checked (Map names (List Rev))
 difference_of body =
     and_then (json_of body) (λ value.

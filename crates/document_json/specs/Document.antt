@@ -15,6 +15,7 @@ use Rattle.document_json.specs.declared.document.Parts.{Parts}
 use Rattle.document_json.specs.declared.fault.Reason.TheVariants as reason
 
 -- the special members that a document may have
+-- CouchDB: GET /{db}/{docid}, the members that begin with "_"
 abbrev pub listed_members : List (List ℕ)
 listed_members =
     codes "_id" ∷ codes "_rev" ∷ codes "_deleted" ∷ codes "_revisions" ∷ codes "_local_seq" ∷ codes "_revs_info"
@@ -25,6 +26,7 @@ without_all [] members = members
 without_all (name ∷ names) members = without_all names (without name members)
 
 -- the special members that count, whether one is left that is not listed, and the body
+-- CouchDB: GET /{db}/{docid}, the members that begin with "_"
 abbrev pub parts_of : Members → Parts
 parts_of members = record {
   id = get_member (codes "_id") members;
@@ -92,6 +94,7 @@ abbrev pub flag_in : Option Data → Bool
 flag_in value = unwrap_or (option_and_then as_bool value) false
 
 -- the document of a body, with no special member that is unknown
+-- CouchDB: PUT /{db}/{docid}
 abbrev pub document_of : List ℕ → Checked Parts
 document_of body =
     and_then (json_of body) (λ value.
@@ -99,6 +102,7 @@ document_of body =
     known_document_in found))
 
 -- the revision that a parameter and the document name, where the document has this id
+-- CouchDB: PUT /{db}/{docid}, "rev"
 abbrev pub revision_of : Id → Option Rev → Parts → Checked (Option Rev)
 revision_of id rev parts =
     and_then (check (names_no_other id (text_of parts.id)) reason.Id) (λ _.
@@ -106,6 +110,7 @@ revision_of id rev parts =
     named_twice rev own))
 
 -- the edit of the document that the path and the parameters name
+-- CouchDB: PUT /{db}/{docid}
 abbrev pub edit_of : Id → Option Rev → List ℕ → Checked Edit
 edit_of id rev body =
     and_then (document_of body) (λ parts.

@@ -6,5 +6,6 @@ use Rattle.document_json.specs.Steps.{Checked, refused}
 use Rattle.document_json.specs.declared.fault.Reason.TheVariants as reason
 
 -- an id has 1 to 512 bytes, and does not begin with `_`
+-- CouchDB: "CouchDB Replication Protocol", "Definitions"
 abbrev pub id_named : List ℕ → Checked Id
 id_named text = if (length text == 0) || nat_lt 512 (length text) || is_special text then refused reason.Id else Ok text

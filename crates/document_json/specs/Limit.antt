@@ -12,5 +12,6 @@ abbrev pub limit_in : Data → Option ℕ
 limit_in value = option_and_then (from_one largest_limit) (option_and_then as_u64 (as_number value))
 
 -- the limit that a body writes
+-- CouchDB: PUT /{db}/_revs_limit
 abbrev pub limit_of : List ℕ → Checked ℕ
 limit_of body = and_then (json_of body) (λ value. or_refused (limit_in value) reason.Shape)

@@ -26,6 +26,7 @@ texts_found (Ok value) = texts_in value
 texts_found (Err why) = None
 
 -- the list of texts that a JSON text is, if it is one
+-- CouchDB: GET /{db}/{docid}, "open_revs"
 abbrev pub text_list_of : List ℕ → Option (List Data)
 text_list_of bytes = texts_found (json_of bytes)
 

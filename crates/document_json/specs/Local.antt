@@ -27,6 +27,7 @@ abbrev pub counter_of : List ℕ → Option ℕ
 counter_of digits = if begins_with_zero digits then None else option_and_then (from_one last_counter) (number digits)
 
 -- the number of the revision of this text, which is `0-` and the number
+-- CouchDB: PUT /{db}/_local/{docid}, "rev"
 abbrev pub counter_named : List ℕ → Option ℕ
 counter_named text = if bytes_eq (before_first is_dash text) (codes "0") then counter_of (after_first is_dash text) else None
 
@@ -44,6 +45,7 @@ counter_twice (Some first) (Some second) = and_then (check (first == second) rea
 -- ---- bodies
 
 -- `_local/ID`, as bodies and answers write it
+-- CouchDB: PUT /{db}/_local/{docid}
 abbrev pub local_id : Id → List ℕ
 local_id id = codes "_local/" ++ id
 
@@ -64,6 +66,7 @@ local_parts_found None = Ok None
 local_parts_found (Some members) = and_then (nesting_parts (local_parts_of members)) (λ parts. Ok (Some parts))
 
 -- the document of a body, with no special member but `_id` and `_rev`
+-- CouchDB: PUT /{db}/_local/{docid}
 abbrev pub local_document_of : List ℕ → Checked Parts
 local_document_of body =
     and_then (json_of body) (λ value.
@@ -71,6 +74,7 @@ local_document_of body =
     known_document_in found))
 
 -- the revision that a parameter and the document name, where the document has this id
+-- CouchDB: PUT /{db}/_local/{docid}, "rev"
 abbrev pub counter_over : Id → Option ℕ → Parts → Checked (Option ℕ)
 counter_over id counter parts =
     and_then (check (names_no_other (local_id id) (text_of parts.id)) reason.Id) (λ _.
@@ -78,6 +82,7 @@ counter_over id counter parts =
     counter_twice counter own))
 
 -- the write of a body over a revision, where one is named
+-- CouchDB: PUT /{db}/_local/{docid}
 abbrev pub local_edit_of : Id → Option (List ℕ) → List ℕ → Checked Command
 local_edit_of id rev body =
     and_then (counter_in rev) (λ counter.

@@ -22,13 +22,16 @@ path_down start no_items = None
 path_down start (item newest older) = revs_down start (item newest older)
 
 -- the generation of the newest
+-- CouchDB: GET /{db}/{docid}, "_revisions"
 abbrev pub start_in : Data → Option ℕ
 start_in value = option_and_then (from_one last_generation) (option_and_then as_u64 (option_and_then as_number (get (codes "start") value)))
 
 -- the hashes, from the newest
+-- CouchDB: GET /{db}/{docid}, "_revisions"
 abbrev pub hashes_in : Data → Option Items
 hashes_in value = option_and_then as_array (get (codes "ids") value)
 
 -- the revisions, from the newest
+-- CouchDB: GET /{db}/{docid}, "_revisions"
 abbrev pub path_in : Data → Option (List Rev)
 path_in value = option_and_then (λ start. option_and_then (path_down start) (hashes_in value)) (start_in value)

@@ -23,6 +23,7 @@ spelled text = record {
 abbrev pub hashed : ℕ → List ℕ → Rev
 hashed generation text = record { generation = generation; hash = result_unwrap_or (decode_of text) [] }
 
+-- CouchDB: "CouchDB Replication Protocol", "Definitions"
 abbrev pub is_rev : Rev → Bool
 is_rev r = nat_lt 0 r.generation && nat_le r.generation last_generation && (length r.hash == 16) && list_all (λ byte. nat_lt byte 256) r.hash
 
@@ -30,10 +31,12 @@ abbrev pub rev_if : Bool → Rev → Option Rev
 rev_if test r = if test then Some r else None
 
 -- the revision of this text, if there is one
+-- CouchDB: "CouchDB Replication Protocol", "Definitions"
 unfoldable pub rev_named : List ℕ → Option Rev
 rev_named text = rev_if (is_rev (spelled text) && bytes_eq (rev_text (spelled text)) text) (spelled text)
 
 -- the revision of this generation whose hash has this text, if there is one
+-- CouchDB: "CouchDB Replication Protocol", "Definitions"
 unfoldable pub rev_with : ℕ → List ℕ → Option Rev
 rev_with generation text = rev_if (is_rev (hashed generation text) && bytes_eq (encode_lower (hashed generation text).hash) text) (hashed generation text)
 

@@ -8,10 +8,12 @@ use Rattle.document_json.specs.Steps.{Checked, and_then, or_refused, check}
 use Rattle.document_json.specs.declared.fault.Reason.TheVariants as reason
 
 -- the value of a text
+-- RFC 8259, 2 "JSON Grammar", 8.1 "Character Encoding"
 abbrev pub value_of : List ℕ → Option Data
 value_of bytes = if is_utf8 bytes then read bytes else None
 
 -- a value of whole numbers that does not nest too deep
+-- RFC 8259, 9 "Parsers"
 abbrev pub in_profile : Data → Checked Data
 in_profile value =
     and_then (check (is_whole value) reason.Number) (λ _.

@@ -1,7 +1,6 @@
 //! The documents of a bulk, as the body of a request lists them.
 //!
 //! Each check is made of all of them before the next.
-
 ghost use Rattle.std.specs.Prelude.{◌≡◌, ◌≤◌, ◌||◌, true, false, None, Ok, IfOk, IfSome, is_some, length, option_map};
 ghost use Rattle.model.specs.Command.{max_edits};
 ghost use Rattle.commands.specs.Merge.{merge_of};

@@ -1,5 +1,4 @@
 //! Revisions of local documents, as requests write them.
-
 ghost use Rattle.std.specs.Prelude.{◌≡◌, IfOk, IfSome, option_map};
 ghost use Rattle.model.specs.Command.{IsCounter};
 ghost use Rattle.document_json.specs.Local.{counter_in, counter_named, counter_of, counter_twice};

@@ -1,7 +1,6 @@
 //! The revisions of which a body asks what is missing.
 //!
 //! Each check is made of all of them before the next.
-
 ghost use Rattle.std.specs.Prelude.{◌≡◌, true};
 ghost use Rattle.model.specs.Profile.{members_ordered};
 ghost use Rattle.document_json.specs.Difference.{asked_in, difference_of, member_texts, named_in, pairs_in, revs_named, texts_listed, texts_named};

@@ -1,5 +1,4 @@
 //! A document as the body of a request writes it.
-
 ghost use Rattle.std.specs.Prelude.{◌≡◌, Ok, option_map};
 ghost use Rattle.document_json.specs.Document.{document_in, document_of, edit_of, flag_in, has_shape, is_flag, is_text, known_document_in, named_twice, names_no_other, nesting_parts, parts_in, parts_of, revision_of, text_of, without_ignored};
 ghost use Rattle.document_json.specs.Revisions.{rev_of};

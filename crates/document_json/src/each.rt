@@ -1,5 +1,4 @@
 //! A check of each of some values.
-
 ghost use Rattle.std.specs.Prelude.{◌≡◌, Result, IfOk, length};
 ghost use Rattle.document_json.specs.Each.{DecidesEach, each as each_of};
 ghost use Rattle.document_json.specs.Steps.{Checked, Decides};

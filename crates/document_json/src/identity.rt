@@ -1,5 +1,4 @@
 //! The ids of documents, as requests name them.
-
 ghost use Rattle.document_json.specs.Identity.{id_named};
 ghost use Rattle.document_json.specs.Steps.{Decides};
 

@@ -1,5 +1,4 @@
 //! The limit of revisions, as a body writes it.
-
 ghost use Rattle.std.specs.Prelude.{◌≡◌, IfOk, IfSome};
 ghost use Rattle.model.specs.Command.{IsLimit};
 ghost use Rattle.document_json.specs.Limit.{limit_in, limit_of};

@@ -1,5 +1,4 @@
 //! Lists of texts, and of the revisions of texts.
-
 ghost use Rattle.std.specs.Prelude.{◌≡◌, IfOk, is_some, option_map};
 ghost use Rattle.serde_json.specs.Find.{as_str};
 ghost use Rattle.document_json.specs.Each.{DecidesEach, each as each_of};

@@ -1,5 +1,4 @@
 //! Local documents, as bodies write them.
-
 ghost use Rattle.std.specs.Prelude.{◌≡◌, IfOk, IfSome, option_map, string_bytes};
 ghost use Rattle.model.specs.Command.{IsCounter};
 ghost use Rattle.serde_json.specs.Find.{as_object};

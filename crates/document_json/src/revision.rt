@@ -1,5 +1,4 @@
 //! Revisions, as requests write them.
-
 ghost use Rattle.std.specs.Prelude.{◌≡◌, IfSome};
 ghost use Rattle.model.specs.Revision.{IsRev};
 ghost use Rattle.document_json.specs.Revisions.{rev_named, rev_with};

@@ -7,10 +7,12 @@ use Rattle.http_framing.specs.declared.FramingFault.{FramingFault}
 use Rattle.http_framing.specs.declared.FramingFault.TheVariants.{TransferEncoding, ContentLength, LargeBody}
 
 -- the most bytes of a body
+-- RFC 9110, 15.5.14 "413 Content Too Large"
 abbrev pub body_limit : ℕ
 body_limit = 1048576
 
 -- the length that one value of `Content-Length` gives
+-- RFC 9110, 8.6 "Content-Length"
 unfoldable pub length_said : List ℕ → Result ℕ FramingFault
 length_said value =
     if is_digits value
@@ -18,17 +20,20 @@ length_said value =
     else Err ContentLength
 
 -- the length that all values of `Content-Length` give: 0 where there is none, and none where there are two
+-- RFC 9112, 6.3 "Message Body Length"
 abbrev pub content_length : List (List ℕ) → Result ℕ FramingFault
 content_length [] = Ok 0
 content_length (value ∷ []) = length_said value
 content_length (value ∷ another ∷ more) = Err ContentLength
 
 -- the length, unless a transfer coding is given
+-- RFC 9112, 6.1 "Transfer-Encoding"
 abbrev pub unless_coded : List (List ℕ) → Result ℕ FramingFault → Result ℕ FramingFault
 unless_coded [] len = len
 unless_coded (coding ∷ more) len = Err TransferEncoding
 
 -- the length of the body after these headers
+-- RFC 9112, 6.3 "Message Body Length"
 unfoldable pub body_length : List Header → Result ℕ FramingFault
 body_length headers =
     unless_coded (values_named (codes "transfer-encoding") headers)

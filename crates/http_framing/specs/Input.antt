@@ -17,6 +17,7 @@ pub data Item : Type 0 where
   Refused : FramingFault → Item
 
 -- the connection closes after the response to it
+-- RFC 9112, 9.6 "Tear-down"
 abbrev pub closes_connection : Item → Bool
 closes_connection (Asked request) = request.closes
 closes_connection (Refused fault) = true
@@ -27,6 +28,7 @@ Begins bytes (Asked request) after = BeginsWithRequest bytes request after
 Begins bytes (Refused fault) after = IsRefused bytes fault × (after ≡ [])
 
 -- the bytes are these items, one after another, and then a rest; nothing is read after an item that closes
+-- RFC 9112, 9.3.2 "Pipelining"
 abbrev pub Splits : List ℕ → List Item → List ℕ → Type 0
 Splits bytes [] rest = bytes ≡ rest
 Splits bytes (item ∷ items) rest =
@@ -37,16 +39,19 @@ abbrev pub AreOpen : List Item → Type 0
 AreOpen items = All (λ item. IsFalse (closes_connection item)) items
 
 -- the bytes are a head and less than its body
+-- RFC 9112, 8 "Handling Incomplete Messages"
 abbrev pub EndsInBody : List ℕ → Type 0
 EndsInBody bytes =
     (head : RequestHead) × (after : List ℕ) × (len : ℕ)
     × BeginsWithHead bytes head after × (body_length (headers_of head) ≡ Ok len) × (length after < len)
 
 -- the bytes are less than a head, which may still come and has not too many headers yet
+-- RFC 9112, 8 "Handling Incomplete Messages"
 abbrev pub EndsInHead : List ℕ → Type 0
 EndsInHead bytes =
     (length bytes < head_limit) × HasNoRequest bytes × MayBecomeRequest bytes × ¬ (HasManyHeaders bytes)
 
 -- the bytes are less than a request, which may still come
+-- RFC 9112, 8 "Handling Incomplete Messages"
 abbrev pub IsUnfinished : List ℕ → Type 0
 IsUnfinished bytes = EndsInHead bytes ⊎ EndsInBody bytes

@@ -11,6 +11,7 @@ abbrev pub line_limit : ℕ
 line_limit = header_limit + 2
 
 -- how many lines end in the bytes
+-- RFC 9112, 2.2 "Message Parsing"
 abbrev pub line_ends : List ℕ → ℕ
 line_ends [] = 0
 line_ends (b ∷ bytes) = (if b == line_feed then 1 else 0) + line_ends bytes
@@ -20,6 +21,7 @@ abbrev pub IsEnded : List ℕ → Type 0
 IsEnded bytes = (front : List ℕ) × (bytes ≡ front ++ line_feed ∷ [])
 
 -- the first lines of the bytes behind the empty lines: as many as the limit says, or all where there are fewer
+-- RFC 9112, 2.2 "Message Parsing"
 pub record AreFirstLines (bytes first : List ℕ) (many : Bool) : Type 0 where
   pub blank : List ℕ
   pub lines : List ℕ

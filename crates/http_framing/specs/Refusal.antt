@@ -22,18 +22,21 @@ abbrev pub HasManyHeaders : List ℕ → Type 0
 HasManyHeaders bytes = RequestExceeds header_limit (head_window bytes)
 
 -- the window is full of a head that has not ended, or has more headers than are taken
+-- RFC 6585, 5 "431 Request Header Fields Too Large"
 abbrev pub HasLargeHead : List ℕ → Type 0
 HasLargeHead bytes =
     (FillWindow bytes × HasNoRequest (head_window bytes) × MayBecomeRequest (head_window bytes))
     ⊎ HasManyHeaders bytes
 
 -- the bytes begin with a head whose body has no length that is taken
+-- RFC 9112, 6.3 "Message Body Length"
 abbrev pub HasBadBody : List ℕ → FramingFault → Type 0
 HasBadBody bytes fault =
     (head : RequestHead) × (after : List ℕ)
     × BeginsWithHead bytes head after × (body_length (headers_of head) ≡ Err fault)
 
 -- no head begins the bytes, whatever follows; a target is not looked at before it has ended
+-- RFC 9112, 2.1 "Message Format"
 abbrev pub HasNoHead : List ℕ → Type 0
 HasNoHead bytes =
     NeverHasRequest (head_window bytes) × ¬ (EndsInTarget (head_window bytes)) × ¬ (HasManyHeaders bytes)
@@ -47,6 +50,7 @@ IsRefused bytes ContentLength = HasBadBody bytes ContentLength
 IsRefused bytes LargeBody = HasBadBody bytes LargeBody
 
 -- the bytes begin with a request line as far as the space after this target
+-- RFC 9112, 3 "Request Line"
 abbrev pub HasTarget : List ℕ → List ℕ → Type 0
 HasTarget bytes target =
     (blank : List LineEnd) × (method : List ℕ) × (rest : List ℕ)

@@ -1,5 +1,4 @@
 //! The first request of the bytes that have come.
-
 ghost use Rattle.std.specs.Prelude.{◌≡◌, ◌≤◌, length};
 ghost use Rattle.httparse.specs.Grammar.{EndsInTarget, HasNoRequest, MayBecomeRequest, NeverHasRequest};
 ghost use Rattle.httparse.specs.Spans.{IsRequestOf as IsHeadOf, IsRequestWithin as IsHeadWithin};

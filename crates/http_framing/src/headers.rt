@@ -1,5 +1,4 @@
 //! What the headers of a head say of the body and of the connection.
-
 ghost use Rattle.std.specs.Prelude.{◌≡◌, ℕ, List, [], ◌∷◌, ◌++◌, length, map, All};
 ghost use Rattle.std.specs.List.{list_any};
 ghost use Rattle.httparse.specs.Spans.{header_bytes, IsHeaderWithin};

@@ -1,5 +1,4 @@
 //! What holds of every input, however it is read.
-
 ghost use Rattle.std.specs.Prelude.{◌≡◌, ℕ, ◌+◌, ◌<◌, ◌≤◌, List, [], ◌∷◌, ◌++◌, length, IsUtf8};
 ghost use Rattle.http_framing.specs.Request.{Request, BeginsWithRequest};
 ghost use Rattle.http_framing.specs.Input.{request_limit, Item, Begins, Splits, AreOpen, IsUnfinished};

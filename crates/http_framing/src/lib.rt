@@ -1,9 +1,9 @@
-#![tactic(auto)]
 //! Where the requests of a connection begin and end.
 //!
 //! A request is a head of HTTP/1.0 or 1.1, as `httparse` reads it, and a body of `Content-Length`
 //! bytes. [`front::read_front`] finds the first one in the bytes that have come, without a copy. A
 //! head has to end in the first [`HEAD_LIMIT`] bytes, so it does not matter how much more was read.
+#![tactic(auto)]
 
 pub mod front;
 mod headers;

@@ -1,5 +1,4 @@
 //! The first lines of a head, of which a head with too many headers has more.
-
 ghost use Rattle.std.specs.Prelude.{◌≡◌, ◌≤◌, ◌<◌, ◌⊎◌, length, take, drop, true, MatchOption};
 ghost use Rattle.httparse.specs.Grammar.{AllPass};
 ghost use Rattle.httparse.specs.Pieces.{is_newline, Stops};

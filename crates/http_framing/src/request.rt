@@ -1,5 +1,4 @@
 //! A request, borrowed from the bytes that it came in.
-
 ghost use Rattle.std.specs.Prelude.{◌≡◌};
 
 use std::marker::Model;

@@ -1,5 +1,4 @@
 //! Whether bytes end inside the target of a request line.
-
 ghost use Rattle.std.specs.Prelude.{◌≡◌, ◌≤◌, ◌⊎◌, ◌↔◌, IsTrue, length, take, drop};
 ghost use Rattle.std.specs.List.{list_all};
 ghost use Rattle.httparse.specs.Grammar.{AllPass, EndsInTarget, is_uri_byte};

@@ -29,6 +29,7 @@ use Rattle.http_request.specs.declared.asked.Form.TheVariants as form
 use Rattle.http_request.specs.Rejections.{Decided, decided}
 use Rattle.http_request.specs.declared.rejection.Rejection.TheVariants as rejection
 
+-- RFC 9110, 15.5.5 "404 Not Found"
 abbrev pub route_found : Option Route → Decided Route
 route_found None = Err rejection.Missing
 route_found (Some route) = Ok route
@@ -41,6 +42,7 @@ route_in path = route_found (route_of path)
 abbrev pub method_of : Route → List ℕ → Option Method
 method_of route name = find (λ method. bytes_eq (name_of method) name) (methods_of route)
 
+-- RFC 9110, 15.5.6 "405 Method Not Allowed"
 abbrev pub method_found : Route → Option Method → Decided Method
 method_found route None = Err (rejection.MethodNotAllowed route)
 method_found route (Some method) = Ok method
@@ -49,11 +51,13 @@ abbrev pub method_in : Route → List ℕ → Decided Method
 method_in route name = method_found route (method_of route name)
 
 -- the revisions of `open_revs` where it is given, else one
+-- CouchDB: GET /{db}/{docid}, "open_revs"
 abbrev pub opened_or_got : Id → Options → Parameters → Option (List ℕ) → Checked Asked
 opened_or_got id options parameters (Some text) = open_revs_of id options text parameters
 opened_or_got id options parameters None = and_then (rev_parameter parameters) (λ rev. Ok (asked.Query (Get id rev options)))
 
 -- GET of a document
+-- CouchDB: GET /{db}/{docid}
 abbrev pub get_document : List ℕ → List ℕ → Checked Asked
 get_document path query =
     and_then (path_id path) (λ id.
@@ -61,6 +65,7 @@ get_document path query =
     opened_or_got id options (parameters_of query) (parameter (codes "open_revs") (parameters_of query))))
 
 -- PUT of a document
+-- CouchDB: PUT /{db}/{docid}
 abbrev pub put_document : List ℕ → List ℕ → List ℕ → Checked Asked
 put_document path query body =
     and_then (path_id path) (λ id.
@@ -70,6 +75,7 @@ put_document path query body =
     Ok (asked.Command form.Put (Edits (edit ∷ [])))))))
 
 -- DELETE of a document, which leaves an empty body
+-- CouchDB: DELETE /{db}/{docid}
 abbrev pub delete_document : List ℕ → List ℕ → Checked Asked
 delete_document path query =
     and_then (path_id path) (λ id.
@@ -77,14 +83,17 @@ delete_document path query =
     Ok (asked.Command form.Delete (Edits (record { id = id; named = rev; deleted = true; body = no_members } ∷ [])))))
 
 -- PUT of the limit of revisions
+-- CouchDB: PUT /{db}/_revs_limit
 abbrev pub put_revs_limit : List ℕ → Checked Asked
 put_revs_limit body = and_then (limit_of body) (λ limit. Ok (asked.Command form.Whole (SetLimit limit)))
 
 -- POST of a bulk of documents
+-- CouchDB: POST /{db}/_bulk_docs
 abbrev pub post_bulk : List ℕ → Checked Asked
 post_bulk body = and_then (bulk_of body) (λ command. Ok (asked.Command form.Whole command))
 
 -- POST of revisions of which some may be missing
+-- CouchDB: POST /{db}/_revs_diff
 abbrev pub post_revs_diff : List ℕ → Checked Asked
 post_revs_diff body = and_then (difference_of body) (λ named. Ok (asked.Query (RevsDiff named)))
 

@@ -11,14 +11,17 @@ use Rattle.http_request.specs.declared.asked.Asked.TheVariants as asked
 use Rattle.http_request.specs.declared.asked.Form.TheVariants as form
 
 -- the revision that the request names
+-- CouchDB: PUT /{db}/_local/{docid}, "rev"
 abbrev pub rev_text : List ℕ → Option (List ℕ)
 rev_text query = parameter (codes "rev") (parameters_of query)
 
 -- GET of a local document
+-- CouchDB: GET /{db}/_local/{docid}
 abbrev pub get_local : List ℕ → Checked Asked
 get_local path = and_then (path_id path) (λ id. Ok (asked.Query (GetLocal id)))
 
 -- PUT of a local document
+-- CouchDB: PUT /{db}/_local/{docid}
 abbrev pub put_local : List ℕ → List ℕ → List ℕ → Checked Asked
 put_local path query body =
     and_then (path_id path) (λ id.
@@ -26,6 +29,7 @@ put_local path query body =
     Ok (asked.Command form.Put command)))
 
 -- DELETE of a local document
+-- CouchDB: DELETE /{db}/_local/{docid}
 abbrev pub delete_local : List ℕ → List ℕ → Checked Asked
 delete_local path query =
     and_then (path_id path) (λ id.

@@ -13,10 +13,12 @@ use Rattle.http_request.specs.declared.asked.Asked.{Asked}
 use Rattle.http_request.specs.declared.asked.Asked.TheVariants as asked
 
 -- all leaves; what `rev` names is not asked for
+-- CouchDB: GET /{db}/{docid}, "open_revs"
 abbrev pub open_leaves : Id → Options → Parameters → Checked Asked
 open_leaves id options parameters = and_then (rev_parameter parameters) (λ _. Ok (asked.Query (OpenRevs id None options)))
 
 -- the revisions of a list of texts
+-- CouchDB: GET /{db}/{docid}, "open_revs"
 abbrev pub open_listed : Id → Options → List ℕ → Parameters → Checked Asked
 open_listed id options text parameters =
     and_then (or_refused (text_list_of text) reason.Parameter) (λ values.
@@ -25,6 +27,7 @@ open_listed id options text parameters =
     Ok (asked.Query (OpenRevs id (Some revs) options)))))
 
 -- all leaves, or the revisions listed
+-- CouchDB: GET /{db}/{docid}, "open_revs"
 abbrev pub open_revs_of : Id → Options → List ℕ → Parameters → Checked Asked
 open_revs_of id options text parameters =
     if bytes_eq text (codes "all") then open_leaves id options parameters else open_listed id options text parameters

@@ -29,6 +29,7 @@ abbrev pub number_parameter : List ℕ → Parameters → Checked (Option ℕ)
 number_parameter name parameters = number_of (parameter name parameters)
 
 -- the revision that the request names
+-- CouchDB: GET /{db}/{docid}, "rev"
 abbrev pub rev_parameter : Parameters → Checked (Option Rev)
 rev_parameter parameters = rev_of (parameter (codes "rev") parameters)
 
@@ -41,15 +42,18 @@ abbrev pub is_there : List ℕ → Parameters → Bool
 is_there name parameters = is_some (parameter name parameters)
 
 -- a write of one document is no replication
+-- CouchDB: PUT /{db}/{docid}, "new_edits"
 abbrev pub no_replication : Parameters → Checked ⊤
 no_replication parameters = check (not (is_given (codes "new_edits") (codes "false") parameters)) reason.Parameter
 
 -- documents in the rows, or rows in another order
+-- CouchDB: GET /{db}/_changes, "include_docs", "descending"
 abbrev pub asks_for_documents : Parameters → Bool
 asks_for_documents parameters =
     is_given (codes "include_docs") (codes "true") parameters || is_given (codes "descending") (codes "true") parameters
 
 -- what beside its body is asked of a document
+-- CouchDB: GET /{db}/{docid}, "latest", "revs", "revs_info", "conflicts", "deleted_conflicts"
 abbrev pub options_of : Parameters → Checked Options
 options_of parameters =
     and_then (flag_parameter (codes "latest") parameters) (λ latest.

@@ -1,5 +1,4 @@
 //! What is asked of all documents: their changes, and their list.
-
 ghost use Rattle.std.specs.Prelude.{◌≡◌, codes};
 ghost use Rattle.http_request.specs.Feeds.{all_docs_of, asks_for_keys, asks_for_other_changes, asks_for_range, changes_of, changes_since, is_normal, style_in, style_named};
 ghost use Rattle.document_json.specs.Steps.{Decides};

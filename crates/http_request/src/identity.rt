@@ -1,5 +1,4 @@
 //! The ids that paths name.
-
 ghost use Rattle.document_json.specs.Steps.{Decides};
 ghost use Rattle.http_request.specs.Identity.{path_id};
 

@@ -1,5 +1,4 @@
 //! What holds of all requests.
-
 ghost use Rattle.std.specs.Prelude.{◌≡◌, Ok};
 ghost use Rattle.http_framing.specs.Request.{Request};
 ghost use Rattle.model.specs.Command.{Command};

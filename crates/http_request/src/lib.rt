@@ -1,8 +1,9 @@
-#![tactic(auto)]
 //! What a request asks of the database, or why it is rejected.
 //!
 //! The checks of a request are made in one order: route, method, path, parameters, and then the
 //! body. `decide`, in `specs/Decide.antt`, has them from top to bottom for each route.
+#![tactic(auto)]
+#![tactic(auto)]
 
 mod asked;
 mod feed;

@@ -1,5 +1,4 @@
 //! Local documents, as requests name them.
-
 ghost use Rattle.document_json.specs.Steps.{Decides};
 ghost use Rattle.http_request.specs.Local.{delete_local, get_local, put_local};
 

@@ -1,5 +1,4 @@
 //! Which revisions of a document are asked for by `open_revs`.
-
 ghost use Rattle.std.specs.Prelude.{◌≡◌};
 ghost use Rattle.document_json.specs.Steps.{Decides};
 ghost use Rattle.http_request.specs.Opened.{open_leaves, open_listed, open_revs_of};

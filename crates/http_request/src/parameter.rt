@@ -1,5 +1,4 @@
 //! The parameters of a query string, as routes read them.
-
 ghost use Rattle.std.specs.Prelude.{◌≡◌};
 ghost use Rattle.http_request.specs.Parameters.{asks_for_documents, flag_parameter, is_given, is_there, no_replication, number_parameter, options_of, rev_parameter};
 

@@ -1,5 +1,4 @@
 //! What a request asks: its route, its method, and then what the route says.
-
 ghost use Rattle.std.specs.Prelude.{◌≡◌, [], ◌∷◌, Ok, IfOk};
 ghost use Rattle.model.specs.Command.{Edits};
 ghost use Rattle.http_request.specs.Decide.{asked_of, decide, delete_document, get_document, method_in, method_of, post_bulk, post_revs_diff, put_document, put_revs_limit, route_in};

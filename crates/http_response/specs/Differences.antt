@@ -9,11 +9,13 @@ use Rattle.http_response.specs.Document.{revs_data}
 use Rattle.http_response.specs.Object.{Named, members_from}
 
 -- the leaves that may be ancestors, unless there are none
+-- CouchDB: POST /{db}/_revs_diff, "possible_ancestors"
 abbrev pub ancestors_last : List Rev → Members
 ancestors_last [] = no_members
 ancestors_last (rev ∷ revs) = member (codes "possible_ancestors") (revs_data (rev ∷ revs)) no_members
 
 -- `{"missing":[..],"possible_ancestors":[..]}`, the second only where there are some
+-- CouchDB: POST /{db}/_revs_diff, "missing", "possible_ancestors"
 abbrev pub difference_data : Difference → Data
 difference_data d = object (member (codes "missing") (revs_data d.missing) (ancestors_last d.possible_ancestors))
 
@@ -21,5 +23,6 @@ abbrev pub named_difference : Id × Difference → Named
 named_difference d = (d.0, difference_data d.1)
 
 -- the documents that lack revisions, in the byte order of their ids
+-- CouchDB: POST /{db}/_revs_diff
 abbrev pub differences_data : Map names Difference → Data
 differences_data differences = object (members_from (map named_difference (entries differences)))

@@ -18,19 +18,23 @@ revs_data revs = array (items_of (map rev_data revs))
 -- ---- what is told of a write
 
 -- `{"id":i,"ok":true,"rev":r}`
+-- CouchDB: PUT /{db}/{docid}, "id", "ok", "rev"
 abbrev pub write_data : Id → List ℕ → Data
 write_data id rev =
     object (member (codes "id") (string id) (member (codes "ok") (boolean true) (member (codes "rev") (string rev) no_members)))
 
+-- CouchDB: PUT /{db}/{docid}, "id", "ok", "rev"
 abbrev pub written_data : Id → Rev → Data
 written_data id rev = write_data id (rev_text rev)
 
 -- ---- what is told of a local document
 
 -- `0-k`
+-- CouchDB: PUT /{db}/_local/{docid}, "rev"
 abbrev pub counter_text : ℕ → List ℕ
 counter_text counter = codes "0-" ++ decimal counter
 
+-- CouchDB: PUT /{db}/_local/{docid}, "id", "ok", "rev"
 abbrev pub local_written_data : Id → ℕ → Data
 local_written_data id counter = write_data (local_id id) (counter_text counter)
 
@@ -44,19 +48,23 @@ start_of [] = 0
 start_of (newest ∷ older) = newest.generation
 
 -- `{"ids":[..],"start":n}`, newest first
+-- CouchDB: GET /{db}/{docid}, "_revisions"
 abbrev pub revisions_data : List Rev → Data
 revisions_data revs =
     object (member (codes "ids") (array (items_of (map hash_data revs))) (member (codes "start") (number (unsigned (start_of revs))) no_members))
 
+-- CouchDB: GET /{db}/{docid}, "_revs_info"
 abbrev pub status_name : Status → List ℕ
 status_name Available = codes "available"
 status_name IsDeleted = codes "deleted"
 status_name NoBody = codes "missing"
 
 -- `{"rev":r,"status":t}`
+-- CouchDB: GET /{db}/{docid}, "_revs_info"
 abbrev pub info_data : Rev × Status → Data
 info_data info = object (member (codes "rev") (rev_data info.0) (member (codes "status") (string (status_name info.1)) no_members))
 
+-- CouchDB: GET /{db}/{docid}, "_revs_info"
 abbrev pub infos_data : List (Rev × Status) → Data
 infos_data infos = array (items_of (map info_data infos))
 
@@ -79,34 +87,41 @@ with_infos None members = members
 with_infos (Some infos) members = put (codes "_revs_info") (infos_data infos) members
 
 -- a body's members, with what names the revision
+-- CouchDB: GET /{db}/{docid}, "_id", "_rev", "_deleted"
 abbrev pub named_members : Id → Rev → Bool → Members → Members
 named_members id rev deleted body = with_flag (codes "_deleted") deleted (put (codes "_rev") (rev_data rev) (put (codes "_id") (string id) body))
 
 -- what was asked beside the body
+-- CouchDB: GET /{db}/{docid}, "_revisions", "_revs_info", "_conflicts", "_deleted_conflicts"
 abbrev pub told_members : Document → Members → Members
 told_members d members =
     with_revs (codes "_deleted_conflicts") d.deleted_conflicts (with_revs (codes "_conflicts") d.conflicts
     (with_infos d.revs_info (with_revisions d.revisions members)))
 
+-- CouchDB: GET /{db}/{docid}
 abbrev pub document_data : Document → Data
 document_data d = object (told_members d (named_members d.id d.rev d.deleted d.body))
 
 -- `{"ok":document}`, or `{"missing":r}`
+-- CouchDB: GET /{db}/{docid}, "open_revs"
 abbrev pub opened_data : Result Document Rev → Data
 opened_data (Ok document) = object (member (codes "ok") (document_data document) no_members)
 opened_data (Err rev) = object (member (codes "missing") (rev_data rev) no_members)
 
+-- CouchDB: GET /{db}/{docid}, "open_revs"
 abbrev pub all_opened_data : List (Result Document Rev) → Data
 all_opened_data opened = array (items_of (map opened_data opened))
 
 -- ---- a local document
 
+-- CouchDB: GET /{db}/_local/{docid}
 abbrev pub local_data : Id → ℕ × Body → Data
 local_data id local = object (put (codes "_rev") (string (counter_text local.0)) (put (codes "_id") (string (local_id id)) local.1))
 
 -- ---- the database
 
 -- `{"db_name":"db","doc_count":n,"doc_del_count":n,"purge_seq":n,"update_seq":n}`
+-- CouchDB: GET /{db}, "db_name", "doc_count", "doc_del_count", "purge_seq", "update_seq"
 abbrev pub counts_data : Counts → Data
 counts_data c =
     object (member (codes "db_name") (string (codes "db")) (member (codes "doc_count") (number (unsigned c.doc_count))

@@ -5,6 +5,7 @@ use Rattle.serde_json.specs.Written.{comma_if, compact_text}
 use Rattle.http_response.specs.declared.list.ListText.{ListText}
 
 -- the texts of items, each behind a comma where something stands before it
+-- RFC 8259, 5 "Arrays"
 abbrev pub items_so_far : Bool → List Data → List ℕ
 items_so_far later [] = []
 items_so_far later (d ∷ ds) = comma_if later ++ (compact_text d ++ items_so_far true ds)

@@ -13,10 +13,12 @@ members_from [] = no_members
 members_from (m ∷ ms) = member m.0 m.1 (members_from ms)
 
 -- a name, a colon and a value
+-- RFC 8259, 4 "Objects"
 abbrev pub member_text : Named → List ℕ
 member_text m = compact_text (string m.0) ++ 58 ∷ compact_text m.1
 
 -- the texts of members, each behind a comma where something stands before it
+-- RFC 8259, 4 "Objects"
 abbrev pub members_so_far : Bool → List Named → List ℕ
 members_so_far later [] = []
 members_so_far later (m ∷ ms) = comma_if later ++ (member_text m ++ members_so_far true ms)

@@ -14,6 +14,7 @@ use Rattle.http_response.specs.declared.response.Allow.{Allow}
 use Rattle.http_response.specs.declared.response.Allow.TheVariants as allow
 
 -- the name of an error, and its reason
+-- CouchDB: "JSON Structure Reference", "CouchDB Error Status"
 abbrev pub problem_text : List ℕ → List ℕ → List ℕ
 problem_text error why = codes "{\"error\":\"" ++ (error ++ (codes "\",\"reason\":\"" ++ (why ++ codes "\"}")))
 
@@ -29,11 +30,13 @@ reason_name reason.Member = codes "member"
 
 -- ---- a request that is refused
 
+-- CouchDB: "API Basics", "HTTP Status Codes"
 abbrev pub refusal_status : Rejection → Status
 refusal_status refusal.Missing = status.NotFound
 refusal_status (refusal.MethodNotAllowed route) = status.MethodNotAllowed
 refusal_status (refusal.BadRequest reason) = status.BadRequest
 
+-- RFC 9110, 10.2.1 "Allow"
 abbrev pub refusal_allow : Rejection → Allow
 refusal_allow refusal.Missing = allow.Unsaid
 refusal_allow (refusal.MethodNotAllowed route) = allow.Methods route
@@ -46,6 +49,7 @@ refusal_body (refusal.BadRequest reason) = problem_text (codes "bad_request") (r
 
 -- ---- bytes that are refused, after which the connection closes
 
+-- RFC 9110, 15.5 "Client Error 4xx"; RFC 6585, 5 "431 Request Header Fields Too Large"
 abbrev pub closing_status : FramingFault → Status
 closing_status fault.Head = status.BadRequest
 closing_status fault.LargeHead = status.RequestHeaderFieldsTooLarge
@@ -62,6 +66,7 @@ closing_body fault.LargeBody = problem_text (codes "too_large") (codes "body")
 
 -- ---- a write that is refused
 
+-- CouchDB: "API Basics", "HTTP Status Codes"
 abbrev pub write_status : model.Refusal → Status
 write_status model.Conflict = status.Conflict
 write_status model.BadHistory = status.Conflict
@@ -92,5 +97,6 @@ abbrev pub absent_reason : query.Absent → List ℕ
 absent_reason query.IsMissing = codes "missing"
 absent_reason query.WasDeleted = codes "deleted"
 
+-- CouchDB: GET /{db}/{docid}, 404 Not Found
 abbrev pub absent_problem : query.Absent → List ℕ
 absent_problem absent = problem_text (codes "not_found") (absent_reason absent)

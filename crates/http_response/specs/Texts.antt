@@ -47,6 +47,7 @@ closing_length fault.ContentLength = codes "41"
 closing_length fault.LargeBody = codes "37"
 
 -- `GET /`
+-- CouchDB: GET /
 unfoldable pub welcome_text : ℕ → Connection → List ℕ
 welcome_text place connection = response_text status.Ok place allow.Unsaid connection (codes "{\"couchdb\":\"Welcome\"}")
 
@@ -62,6 +63,7 @@ unfoldable pub answer_text : ℕ → Connection → Query → Answer → Option 
 answer_text place connection query answer = option_map (told_text place connection) (answer_told query answer)
 
 -- a command for which the history has no place
+-- RFC 9110, 15.6.4 "503 Service Unavailable"
 unfoldable pub full_text : ℕ → Connection → List ℕ
 full_text place connection =
     response_text status.ServiceUnavailable place allow.Unsaid connection (problem_text (codes "unavailable") (codes "full"))
@@ -76,6 +78,7 @@ abbrev pub no_memory_body : Lost → List ℕ
 no_memory_body lost = problem_text (codes "no_memory") (lost_name lost)
 
 -- memory was refused, and the connection closes
+-- RFC 4918, 11.5 "507 Insufficient Storage"
 unfoldable pub no_memory_text : ℕ → Lost → List ℕ
 no_memory_text place lost = response_text status.InsufficientStorage place allow.Unsaid connection.Close (no_memory_body lost)
 

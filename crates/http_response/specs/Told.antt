@@ -22,6 +22,7 @@ abbrev pub Told : Type 0
 Told = Status × List ℕ
 
 -- that it is done
+-- CouchDB: PUT /{db}/_revs_limit
 abbrev pub done : Told
 done = (status.Ok, codes "{\"ok\":true}")
 
@@ -39,17 +40,20 @@ told_one status id (Ok rev) = (status, compact_text (written_data id rev))
 told_one status id (Err refusal) = told_refused refusal
 
 -- the one write that was asked for
+-- CouchDB: PUT /{db}/{docid} and DELETE /{db}/{docid}
 abbrev pub told_single : Status → List Edit → List (Result Rev Refusal) → Option Told
 told_single status (edit ∷ []) (outcome ∷ []) = Some (told_one status edit.id outcome)
 told_single status edits outcomes = None
 
 -- edits, in a form
+-- CouchDB: POST /{db}/_bulk_docs
 abbrev pub told_edits : Form → List Edit → List (Result Rev Refusal) → Option Told
 told_edits form.Put edits outcomes = told_single status.Created edits outcomes
 told_edits form.Delete edits outcomes = told_single status.Ok edits outcomes
 told_edits form.Whole edits outcomes = Some (told_list status.Created (edits_data edits outcomes))
 
 -- merges: the refusals alone
+-- CouchDB: POST /{db}/_bulk_docs
 abbrev pub told_merges : List Merge → List (Result Rev Refusal) → Told
 told_merges merges outcomes = told_list status.Created (merges_data merges outcomes)
 
@@ -59,6 +63,7 @@ told_local_one status id (Ok counter) = (status, compact_text (local_written_dat
 told_local_one status id (Err refusal) = told_refused refusal
 
 -- a write of a local document, in a form that is not of a bulk
+-- CouchDB: PUT /{db}/_local/{docid}, DELETE /{db}/_local/{docid}
 abbrev pub told_local : Form → Id → Result ℕ Refusal → Option Told
 told_local form.Put id outcome = Some (told_local_one status.Created id outcome)
 told_local form.Delete id outcome = Some (told_local_one status.Ok id outcome)
@@ -74,6 +79,7 @@ reply_told form command reply = None
 
 -- ---- answers
 
+-- CouchDB: GET /{db}/{docid}
 abbrev pub found_told : Result Document Absent → Told
 found_told (Ok document) = (status.Ok, compact_text (document_data document))
 found_told (Err absent) = (status.NotFound, absent_problem absent)
@@ -82,6 +88,7 @@ found_told (Err absent) = (status.NotFound, absent_problem absent)
 abbrev pub told_data : Data → Told
 told_data d = (status.Ok, compact_text d)
 
+-- CouchDB: GET /{db}/_local/{docid}
 abbrev pub local_told : Id → Option (ℕ × Body) → Told
 local_told id (Some local) = told_data (local_data id local)
 local_told id None = (status.NotFound, absent_problem IsMissing)

@@ -13,6 +13,7 @@ pub data Pattern : Type 0 where
   WithId : List ℕ → Pattern
 
 -- the routes with their paths; where a path fits several, the first counts
+-- CouchDB: "API Reference": "Server", "Databases", "Documents", "Local (non-replicating) Documents"
 abbrev pub routes : List (Pattern × Route)
 routes =
     (Plain (codes "/db/_all_docs"), route.AllDocs)
@@ -27,6 +28,7 @@ routes =
     ∷ (Plain (codes "/"), route.Root) ∷ []
 
 -- the methods of a route, in the order in which a response lists them
+-- CouchDB: "API Reference": "Server", "Databases", "Documents", "Local (non-replicating) Documents"
 abbrev pub methods_of : Route → List Method
 methods_of route.Root = method.Get ∷ []
 methods_of route.Database = method.Get ∷ []
@@ -40,6 +42,7 @@ methods_of route.RevsLimit = method.Get ∷ method.Put ∷ []
 methods_of route.Document = method.Get ∷ method.Put ∷ method.Delete ∷ []
 
 -- the name of a method
+-- RFC 9110, 9.3 "Method Definitions"
 abbrev pub name_of : Method → List ℕ
 name_of method.Get = codes "GET"
 name_of method.Put = codes "PUT"
@@ -51,6 +54,7 @@ abbrev pub methods : List Method
 methods = method.Get ∷ method.Put ∷ method.Post ∷ method.Delete ∷ []
 
 -- the method of this name
+-- RFC 9110, 9.1 "Overview"
 abbrev pub method_named : List ℕ → Option Method
 method_named name = find (λ m. bytes_eq (name_of m) name) methods
 
@@ -59,6 +63,7 @@ abbrev pub slash : ℕ
 slash = 47
 
 -- one segment that is not empty: there are bytes, and no slash among them
+-- RFC 3986, 3.3 "Path"
 abbrev pub is_segment : List ℕ → Bool
 is_segment text = nat_lt 0 (length text) && not (list_any (λ byte. byte == slash) text)
 

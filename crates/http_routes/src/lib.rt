@@ -1,9 +1,9 @@
-#![tactic(auto)]
 //! Which route a path has, and which methods a route takes.
 //!
 //! A route is one path, or all paths that end in the segment of an id. To add one takes its variant
 //! of [`Route`], its row of the table, here and in `specs/Routes.antt`, and its methods; the proofs
 //! are over any table.
+#![tactic(auto)]
 
 ghost use Rattle.std.specs.Prelude.{◌≡◌, ℕ, List, None, true, false, IfOk};
 ghost use Rattle.std.specs.List.{list_any};

@@ -1,13 +1,15 @@
-#![tactic(auto)]
 //! What a request target says: a path, whose segments are percent-encoded, and a query string,
 //! whose parameters are those of a form.
-
-pub mod query;
-pub mod segment;
-pub mod value;
+#![tactic(auto)]
 
 ghost use Rattle.std.specs.Prelude.{◌≡◌};
 ghost use Rattle.http_target.specs.Target.{path_of, query_of, last_segment};
+
+pub mod query;
+pub mod segment;
+#[cfg(test)]
+mod tests;
+pub mod value;
 
 /// The path and the query string of a target, which the first `?` parts; without one the query
 /// string is empty.
@@ -30,6 +32,3 @@ pub fn last_segment(path: &str) -> &str
         None => path,
     }
 }
-
-#[cfg(test)]
-mod tests;

@@ -1,5 +1,4 @@
 //! The parameters of a query string.
-
 ghost use Rattle.std.specs.Prelude.{◌≡◌, IfOk, map, option_map};
 ghost use Rattle.http_target.specs.Pairs.{pair_texts, value_in};
 ghost use Rattle.http_target.specs.Query.{parameter, parameters_of};

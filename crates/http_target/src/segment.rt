@@ -1,5 +1,4 @@
 //! The segments of a path.
-
 ghost use Rattle.std.specs.Prelude.{◌≡◌, ◌≢◌, Some, None, Err, IfOk, IsOkAnd, All};
 ghost use Rattle.std.specs.Cow.{cow_str_bytes};
 ghost use Rattle.percent_encoding.specs.Cow.{IsBorrowedStr};

@@ -1,3 +1,5 @@
+//! Targets and segments, read with ample memory.
+
 use crate::query::Parameters;
 use crate::segment::{SegmentFault, decode_segment};
 use crate::{last_segment, split_target};

@@ -1,5 +1,4 @@
 //! The values of parameters.
-
 ghost use Rattle.std.specs.Prelude.{◌≡◌};
 ghost use Rattle.http_target.specs.Value.{flag};
 

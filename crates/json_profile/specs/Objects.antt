@@ -20,6 +20,7 @@ without name no_members = no_members
 without name (member k d ms) = if is_eq (slice_cmp nat_cmp name k) then ms else member k d (without name ms)
 
 -- some name begins with `_`
+-- CouchDB: GET /{db}/{docid}, the members that begin with "_"
 abbrev pub has_special : Members → Bool
 has_special no_members = false
 has_special (member k d ms) = is_special k || has_special ms

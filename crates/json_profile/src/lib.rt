@@ -14,4 +14,4 @@ mod value;
 pub use body::Body;
 pub use fault::JsonFault;
 pub use object::{Member, Object};
-pub use value::{Json, read};
+pub use value::{Json, MAX_NESTING, read};

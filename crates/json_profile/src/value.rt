@@ -18,7 +18,11 @@ use serde_json::{Category, Value};
 use std::alloc::{AllocError, Global};
 use std::marker::Model;
 
-/// A JSON value whose numbers are whole numbers of `i64`, and which nests at most 72 deep.
+/// The most arrays and objects round one another in a value.
+pub const MAX_NESTING: u8 = 72;
+
+/// A JSON value whose numbers are whole numbers of `i64`, and which nests at most
+/// [`MAX_NESTING`] deep.
 #[derive(Drop)]
 pub struct Json {
     value: Value,

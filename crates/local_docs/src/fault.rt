@@ -1,4 +1,5 @@
 //! How the write of a local document is refused.
+
 use std::alloc::AllocError;
 use thiserror::Error;
 

@@ -4,7 +4,6 @@ ghost use Rattle.std.specs.Arc.{arc_value};
 ghost use Rattle.std.specs.FinMap.Entries.{is_sorted};
 ghost use Rattle.model.specs.Body as model_body;
 ghost use Rattle.model.specs.Command as model;
-ghost use Rattle.model.specs.Command.{names};
 ghost use Rattle.model.specs.Local.{local_written, store_local};
 ghost use Rattle.model.specs.Map.{get, empty, put as put_in, without as without_in};
 ghost use Rattle.local_docs.specs.Written.{written_or_fault};
@@ -19,14 +18,14 @@ use std::alloc::{AllocError, Global};
 use std::marker::Model;
 use std::sync::Arc;
 
-/// The local documents by their identities.
+/// The local documents by their ids.
 ///
 /// No call changes a value: a write gives a new one, which shares with the older one all but the
 /// nodes on the way to its document, and the older one holds what it held.
 #[derive(Drop)]
 pub struct Locals {
     documents: CowMap<DocId, LocalDoc>,
-    ghost rising: { T (is_sorted names.cmp documents.entries) },
+    ghost rising: { T (is_sorted model.names.cmp documents.entries) },
 }
 
 impl Model for Locals {

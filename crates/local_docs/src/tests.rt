@@ -1,4 +1,5 @@
-// Local documents, written with ample memory.
+//! Local documents, written with ample memory.
+
 use crate::{LocalFault, Locals};
 use document_id::DocId;
 use json_profile::Body;

@@ -5,11 +5,11 @@
 //! and 2 for other words.
 #![tactic(auto)]
 
+mod map;
+
 use cow_index::CowMap;
 use std::process::ExitCode;
 use std::{env, io};
-
-mod map;
 
 /// The status of a run that was refused memory.
 const REFUSED: u8 = 1;

@@ -1,4 +1,5 @@
 //! Runs on a shared map of whole numbers.
+
 use cow_index::CowMap;
 use std::alloc::{AllocError, Global};
 use std::ops::Range;

@@ -13,13 +13,16 @@ use Rattle.model.specs.Changes.{every_id, has_deleted_winner, changes_page}
 abbrev pub is_live : Record → Bool
 is_live r = not (has_deleted_winner r.tree)
 
+-- CouchDB: GET /{db}/_all_docs
 abbrev pub live_document : Id × Record → Option (Id × Rev)
 live_document e = if is_live e.1 then option_map (λ l. (e.0, l.rev)) (winner e.1.tree) else None
 
 -- the documents whose winner is not deleted, by the bytes of their ids
+-- CouchDB: GET /{db}/_all_docs
 abbrev pub live_documents : Database → List (Id × Rev)
 live_documents d = filter_map live_document (entries d.docs)
 
+-- CouchDB: GET /{db}
 abbrev pub counts : Database → Counts
 counts d = record {
   doc_count = length (filter (λ e. is_live e.1) (entries d.docs));

@@ -7,6 +7,7 @@ use Rattle.serde_json.specs.Written.{compact_text}
 use Rattle.model.specs.JsonCode.{members_code, coded_members}
 use Rattle.model.specs.Profile.{members_whole, members_have_utf8, members_ordered, without_specials, max_body_nesting}
 
+-- CouchDB: "Technical Overview", "Document Storage"
 abbrev pub Body : Type 0
 Body = Members
 
@@ -15,6 +16,7 @@ coded_body = coded_members
 
 -- what a document can have as its body: numbers of the profile, texts and names in UTF-8, members in order, no name that
 -- begins with `_`. So its text reads back as the body, and no two bodies have one text.
+-- CouchDB: "Technical Overview", "Document Storage"
 pub record IsBody (body : Body) : Type 0 where
   pub whole : members_whole body ≡ true
   pub utf8 : members_have_utf8 body ≡ true

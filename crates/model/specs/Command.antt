@@ -12,10 +12,12 @@ use Rattle.model.specs.Revision.{Rev, IsRev}
 use Rattle.model.specs.TreeChange.{IsPath}
 
 -- the bytes of a document's identity
+-- CouchDB: "CouchDB Replication Protocol", "Definitions"
 abbrev pub Id : Type 0
 Id = List ℕ
 
 -- a text of 1 to 512 bytes
+-- CouchDB: "CouchDB Replication Protocol", "Definitions"
 pub record IsId (id : Id) : Type 0 where
   pub text : IsUtf8 id
   pub not_empty : 0 < length id
@@ -28,6 +30,7 @@ abbrev pub numbers : Order
 numbers = record { key = ℕ; cmp = nat_cmp; total = nat_cmp_total; exact = nat_cmp-IsAntisymmetric }
 
 -- an edit of a document, over the revision that it names
+-- CouchDB: POST /{db}/_bulk_docs, "docs"
 pub record Edit : Type 0 where
   pub id : Id
   pub named : Option Rev
@@ -35,6 +38,7 @@ pub record Edit : Type 0 where
   pub body : Body
 
 -- a revision from another replica, with what is known of its ancestors, newest first
+-- CouchDB: POST /{db}/_bulk_docs, "new_edits"
 pub record Merge : Type 0 where
   pub id : Id
   pub newest : Rev
@@ -42,6 +46,7 @@ pub record Merge : Type 0 where
   pub deleted : Bool
   pub body : Body
 
+-- CouchDB: POST /{db}/_bulk_docs, PUT /{db}/_local/{docid}, POST /{db}/_purge, PUT /{db}/_revs_limit, POST /{db}/_compact
 pub data Command : Type 0 where
   Edits : List Edit → Command
   Merges : List Merge → Command
@@ -52,6 +57,7 @@ pub data Command : Type 0 where
   SetLimit : ℕ → Command
   Compact : Command
 
+-- CouchDB: POST /{db}/_bulk_docs; POST /{db}/_purge, "purge_seq", "purged"
 pub data Reply : Type 0 where
   -- of each edit its revision
   Wrote : List (Result Rev Refusal) → Reply

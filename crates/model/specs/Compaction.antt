@@ -56,6 +56,7 @@ abbrev pub is_updated : Database → ℕ → Id → Bool
 is_updated d mark id = unwrap_or (option_map (λ r. nat_lt mark r.seq) (get d.docs id)) false
 
 -- for each document, what the copy has is the record's strip, or the record was updated or purged after the marks
+-- CouchDB: "Technical Overview", "Compaction"
 abbrev pub Agrees : (Id → Option Record) → Marks → Database → Type 0
 Agrees copy m d = (is_overrun d.purges m.purge ≡ true) ⊎ ((id : Id) → (copy id ≡ strip_at d id) ⊎ ((is_updated d m.update id ≡ true) ⊎ (is_logged d m.purge id ≡ true)))
 

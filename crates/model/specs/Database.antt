@@ -14,10 +14,12 @@ use Rattle.model.specs.Edit.{Written, edited, merged, revision_written}
 use Rattle.model.specs.Local.{Local, local_written, store_local}
 
 -- a document: its tree, and the number of its last update
+-- CouchDB: "Technical Overview", "ACID Properties"
 pub record Record : Type 0 where
   pub tree : Tree
   pub seq : ℕ
 
+-- CouchDB: "Technical Overview", "Document Storage"
 pub record Database : Type 0 where
   pub docs : Map names Record
   pub locals : Map names Local
@@ -28,6 +30,7 @@ pub record Database : Type 0 where
   -- of each session, how many commands it has made
   pub calls : Map numbers ℕ
 
+-- CouchDB: GET /{db}/_revs_limit
 abbrev pub empty_database : Database
 empty_database = record { docs = empty; locals = empty; update_seq = 0; purges = empty_log; revs_limit = 1000; calls = empty }
 
@@ -48,6 +51,7 @@ same_tree s t = pointwise same_entry (entries s) (entries t)
 -- ---- edits and merges
 
 -- the document with that tree, at the next update number
+-- CouchDB: "Technical Overview", "ACID Properties"
 abbrev pub with_tree : Database → Id → Tree → Database
 with_tree d id t = record d { docs = put d.docs id (record { tree = t; seq = d.update_seq + 1 }); update_seq = d.update_seq + 1 }
 
@@ -55,6 +59,7 @@ abbrev pub without_document : Database → Id → Database
 without_document d id = record d { docs = without d.docs id }
 
 -- a tree other than the one that stands takes the next update number
+-- CouchDB: GET /{db}, "update_seq"
 unfoldable pub store : Database → Id → Tree → Database
 store d id t = if unwrap_or (option_map (same_tree t) (tree_at d id)) false then d else with_tree d id t
 
@@ -76,63 +81,77 @@ abbrev pub after_merge : Database → Merge → Database
 after_merge d m = store_written d m.id (merge_in d m)
 
 -- one after another, in the order listed
+-- CouchDB: POST /{db}/_bulk_docs, "Bulk Documents Transaction Semantics"
 abbrev pub edit_replies : Database → List Edit → List (Result Rev Refusal)
 edit_replies d [] = []
 edit_replies d (e ∷ es) = revision_written (edit_in d e) ∷ edit_replies (after_edit d e) es
 
+-- CouchDB: POST /{db}/_bulk_docs, "Bulk Documents Transaction Semantics"
 abbrev pub after_edits : Database → List Edit → Database
 after_edits d [] = d
 after_edits d (e ∷ es) = after_edits (after_edit d e) es
 
+-- CouchDB: POST /{db}/_bulk_docs, "new_edits"
 abbrev pub merge_replies : Database → List Merge → List (Result Rev Refusal)
 merge_replies d [] = []
 merge_replies d (m ∷ ms) = revision_written (merge_in d m) ∷ merge_replies (after_merge d m) ms
 
+-- CouchDB: POST /{db}/_bulk_docs, "new_edits"
 abbrev pub after_merges : Database → List Merge → Database
 after_merges d [] = d
 after_merges d (m ∷ ms) = after_merges (after_merge d m) ms
 
 -- ---- local documents
 
+-- CouchDB: PUT /{db}/_local/{docid}, DELETE /{db}/_local/{docid}
 abbrev pub put_local_reply : Database → Id → Option ℕ → Option Body → Result ℕ Refusal
 put_local_reply d id named body = local_written (get d.locals id) named body
 
+-- CouchDB: PUT /{db}/_local/{docid}, DELETE /{db}/_local/{docid}
 abbrev pub after_put_local : Database → Id → Option ℕ → Option Body → Database
 after_put_local d id named body = record d { locals = store_local d.locals id body (put_local_reply d id named body) }
 
 -- ---- purges
 
+-- CouchDB: POST /{db}/_purge, "purged"
 abbrev pub removed_of : Database → Id → List Rev → List Rev
 removed_of d id named = unwrap_or (option_map (removed_leaves named) (tree_at d id)) []
 
 -- a document that keeps a leaf takes the next update number, and another one goes
+-- CouchDB: POST /{db}/_purge
 abbrev pub leave : Database → Id → Option Tree → Database
 leave d id (Some t) = with_tree d id t
 leave d id None = without_document d id
 
 -- each document that loses a leaf takes the next purge number
+-- CouchDB: POST /{db}/_purge
 abbrev pub purge_removed : Database → Id → List Rev → List Rev → Database
 purge_removed d id named [] = d
 purge_removed d id named (r ∷ rs) = leave (record d { purges = logged d.purges id (r ∷ rs) }) id (option_and_then (cut named) (tree_at d id))
 
+-- CouchDB: POST /{db}/_purge
 abbrev pub after_purge : Database → Id × List Rev → Database
 after_purge d e = purge_removed d e.0 e.1 (removed_of d e.0 e.1)
 
 -- in the byte order of the ids
+-- CouchDB: POST /{db}/_purge
 abbrev pub after_purges : Database → List (Id × List Rev) → Database
 after_purges d [] = d
 after_purges d (e ∷ es) = after_purges (after_purge d e) es
 
 -- a document is named once, so what stood before the purge decides
+-- CouchDB: POST /{db}/_purge, "purged"
 abbrev pub purge_reply : Database → Map names (List Rev) → Map names (List Rev)
 purge_reply d named = refine (λ id revs. Some (removed_of d id revs)) named
 
 -- ---- commands
 
+-- CouchDB: POST /{db}/_compact
 abbrev pub stripped : Record → Record
 stripped r = record r { tree = strip r.tree }
 
 -- each record stripped, and nothing else
+-- CouchDB: POST /{db}/_compact
 abbrev pub compacted : Database → Database
 compacted d = record d { docs = refine (λ id r. Some (stripped r)) d.docs }
 
@@ -159,12 +178,14 @@ calls_of d session = unwrap_or (get d.calls session) 0
 abbrev pub counted : Database → ℕ → Database
 counted d session = record d { calls = put d.calls session (calls_of d session + 1) }
 
+-- CouchDB: "Technical Overview", "ACID Properties"
 unfoldable pub act : Database → Seat → Command → Database
 act d seat command = counted (changed_by d command) seat.session
 
 -- ---- what a database keeps
 
 -- update numbers of records: from 1 to the database's, and no two alike
+-- CouchDB: "Technical Overview", "ACID Properties"
 pub record IsNumbered (d : Database) : Type 0 where
   pub within : (id : Id) (r : Record) → get d.docs id ≡ Some r → (0 < r.seq) × (r.seq ≤ d.update_seq)
   pub distinct : (a b : Id) (r s : Record) → get d.docs a ≡ Some r → get d.docs b ≡ Some s → r.seq ≡ s.seq → a ≡ b

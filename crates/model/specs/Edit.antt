@@ -15,11 +15,13 @@ pub record Written : Type 0 where
 -- ---- the parent of what an edit makes
 
 -- no revision named: a deleted winner takes an edit that is no deletion
+-- CouchDB: PUT /{db}/{docid}, "rev"
 abbrev pub over_winner : Option Leaf → Bool → Result (Option Rev) Refusal
 over_winner None deleted = Err Conflict
 over_winner (Some w) deleted = if not w.deleted then Err Conflict else (if deleted then Err Deleted else Ok (Some w.rev))
 
 -- of the tree, if there is one, and the revision named, for a deletion or not
+-- CouchDB: PUT /{db}/{docid} and DELETE /{db}/{docid}, 409 Conflict
 abbrev pub parent_for : Option Tree → Option Rev → Bool → Result (Option Rev) Refusal
 parent_for None named true = Err Missing
 parent_for None None false = Ok None
@@ -29,11 +31,13 @@ parent_for (Some t) None deleted = over_winner (winner t) deleted
 
 -- ---- the tree that is left
 
+-- CouchDB: PUT /{db}/_revs_limit
 abbrev pub stemmed : ℕ → Option Tree → Result Tree Refusal
 stemmed limit None = Err BadHistory
 stemmed limit (Some t) = Ok (stem limit t)
 
 -- with the path grafted, and then stemmed
+-- CouchDB: PUT /{db}/_revs_limit
 unfoldable pub with_path : ℕ → Option Tree → List Rev → Body → Bool → Result Tree Refusal
 with_path limit t path body deleted = stemmed limit (graft path body deleted (unwrap_or t empty))
 
@@ -53,10 +57,12 @@ child_written limit t e (Ok parent) =
     else written r (with_path limit t (r ∷ parent_path parent) e.body e.deleted)
 
 -- an edit makes a child of the parent found
+-- CouchDB: PUT /{db}/{docid}, "rev"
 unfoldable pub edited : ℕ → Option Tree → Edit → Result Written Refusal
 edited limit t e = child_written limit t e (parent_for t e.named e.deleted)
 
 -- a merge grafts the path that it brings, with no check for conflicts
+-- CouchDB: POST /{db}/_bulk_docs, "new_edits"
 unfoldable pub merged : ℕ → Option Tree → Merge → Result Written Refusal
 merged limit t m = written m.newest (with_path limit t (m.newest ∷ m.older) m.body m.deleted)
 

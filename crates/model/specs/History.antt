@@ -14,6 +14,7 @@ pub record IsNext (d : Database) (e : Entry) : Type 0 where
   pub seat : e.seat.call ≡ calls_of d e.seat.session + 1
   pub reply : e.reply ≡ reply_to d e.command
 
+-- CouchDB: "Technical Overview", "ACID Properties"
 abbrev pub IsLegal : Database → List Entry → Type 0
 IsLegal base [] = ⊤
 IsLegal base (e ∷ es) = IsNext base e × IsLegal (act base e.seat e.command) es

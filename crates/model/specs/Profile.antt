@@ -9,6 +9,7 @@ use Rattle.serde_json.specs.Read.{read}
 
 -- a whole number of `i64`, in the one form that its text is read as: `unsigned` from 0 on, `negative` below, where
 -- `negsuc n` is -(n + 1)
+-- RFC 8259, 6 "Numbers"
 abbrev pub is_whole_number : Num → Bool
 is_whole_number (unsigned n) = nat_lt n (2 ^ 63)
 is_whole_number (negative (pos n)) = false
@@ -16,6 +17,7 @@ is_whole_number (negative (negsuc n)) = nat_lt n (2 ^ 63)
 is_whole_number (float x) = false
 
 -- every number in the value is such a number
+-- RFC 8259, 6 "Numbers"
 abbrev mutual
   pub is_whole : Data → Bool
   is_whole null = true
@@ -34,6 +36,7 @@ abbrev mutual
   members_whole (member k d ms) = is_whole d && members_whole ms
 
 -- every text in the value is UTF-8, and every name
+-- RFC 8259, 8.1 "Character Encoding"
 abbrev mutual
   pub has_utf8 : Data → Bool
   has_utf8 null = true
@@ -57,6 +60,7 @@ is_before k no_members = true
 is_before k (member l d ms) = is_lt (slice_cmp nat_cmp k l)
 
 -- in every object the names rise by their bytes
+-- RFC 8259, 4 "Objects"
 abbrev mutual
   pub is_ordered : Data → Bool
   is_ordered null = true
@@ -75,22 +79,27 @@ abbrev mutual
   members_ordered (member k d ms) = is_before k ms && is_ordered d && members_ordered ms
 
 -- the value of some bytes, by `serde_json`: of a repeated member the last
+-- RFC 8259, 4 "Objects", 9 "Parsers"
 abbrev pub IsTextOf : Data → List ℕ → Type 0
 IsTextOf d bytes = IsUtf8 bytes × (read bytes ≡ Some d)
 
 -- a member's name begins with `_`
+-- CouchDB: GET /{db}/{docid}, the members that begin with "_"
 abbrev pub is_special : List ℕ → Bool
 is_special [] = false
 is_special (c ∷ rest) = c == 95
 
 -- the members whose names do not begin with `_`
+-- CouchDB: GET /{db}/{docid}, the members that begin with "_"
 abbrev pub without_specials : Members → Members
 without_specials no_members = no_members
 without_specials (member k d ms) = if is_special k then without_specials ms else member k d (without_specials ms)
 
 -- the deepest nesting of a value, and of a body
+-- RFC 8259, 9 "Parsers"
 abbrev pub max_nesting : ℕ
 max_nesting = 72
 
+-- RFC 8259, 9 "Parsers"
 abbrev pub max_body_nesting : ℕ
 max_body_nesting = 64

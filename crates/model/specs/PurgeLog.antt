@@ -6,21 +6,25 @@ use Rattle.model.specs.Revision.{Rev, IsRev}
 use Rattle.model.specs.Command.{Id, IsId, IsLimit}
 
 -- a document that lost leaves, under its purge number
+-- CouchDB: POST /{db}/_purge, "purge_seq", "purged"
 pub record PurgeInfo : Type 0 where
   pub seq : ℕ
   pub id : Id
   pub leaves : List Rev
 
 -- the number of the last purge, the newest purges in rising order, and the most that are kept
+-- CouchDB: GET /{db}/_purged_infos_limit
 pub record PurgeLog : Type 0 where
   pub purge_seq : ℕ
   pub infos : List PurgeInfo
   pub limit : ℕ
 
+-- CouchDB: GET /{db}/_purged_infos_limit
 abbrev pub empty_log : PurgeLog
 empty_log = record { purge_seq = 0; infos = []; limit = 1000 }
 
 -- one more purge, at the next number; past the limit the oldest goes
+-- CouchDB: POST /{db}/_purge, "purge_seq", "purged"
 abbrev pub logged : PurgeLog → Id → List Rev → PurgeLog
 logged l id leaves = record l { purge_seq = l.purge_seq + 1; infos = last_few l.limit (l.infos ++ record { seq = l.purge_seq + 1; id = id; leaves = leaves } ∷ []) }
 

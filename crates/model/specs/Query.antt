@@ -12,6 +12,7 @@ use Rattle.model.specs.Revision.{Rev}
 use Rattle.model.specs.Command.{Id, names}
 
 -- what beside its body is asked of a document; `latest` asks for the newest in the place of a revision
+-- CouchDB: GET /{db}/{docid}, "latest", "revs", "revs_info", "conflicts", "deleted_conflicts"
 pub record Options : Type 0 where
   pub latest : Bool
   pub revs : Bool
@@ -19,6 +20,7 @@ pub record Options : Type 0 where
   pub conflicts : Bool
   pub deleted_conflicts : Bool
 
+-- CouchDB: GET /{db}/{docid}, POST /{db}/_revs_diff, GET /{db}/_changes, GET /{db}/_all_docs, GET /{db}, GET /{db}/_local/{docid}, GET /{db}/_revs_limit
 pub data Query : Type 0 where
   -- the winner, or the revision named
   Get : Id → Option Rev → Options → Query
@@ -34,6 +36,7 @@ pub data Query : Type 0 where
   RevsLimit : Query
 
 -- a revision with its body; what was not asked for is None, and of conflicts the empty list
+-- CouchDB: GET /{db}/{docid}, "_revisions", "_revs_info", "_conflicts", "_deleted_conflicts"
 pub record Document : Type 0 where
   pub id : Id
   pub rev : Rev
@@ -45,11 +48,13 @@ pub record Document : Type 0 where
   pub deleted_conflicts : List Rev
 
 -- of the revisions asked for those that are not known, and the leaves that may be their ancestors
+-- CouchDB: POST /{db}/_revs_diff, "missing", "possible_ancestors"
 pub record Difference : Type 0 where
   pub missing : List Rev
   pub possible_ancestors : List Rev
 
 -- a document at its last update
+-- CouchDB: GET /{db}/_changes, "results"
 pub record Row : Type 0 where
   pub seq : ℕ
   pub id : Id
@@ -57,11 +62,13 @@ pub record Row : Type 0 where
   pub deleted : Bool
 
 -- the number to go on from, how many rows are left, and the rows
+-- CouchDB: GET /{db}/_changes, "last_seq", "pending", "results"
 pub record ChangesPage : Type 0 where
   pub last_seq : ℕ
   pub pending : ℕ
   pub rows : List Row
 
+-- CouchDB: GET /{db}, "doc_count", "doc_del_count", "purge_seq", "update_seq"
 pub record Counts : Type 0 where
   pub doc_count : ℕ
   pub doc_del_count : ℕ

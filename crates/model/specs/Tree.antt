@@ -15,6 +15,7 @@ use Rattle.model.specs.Body.{Body, IsBody, coded_body}
 use Rattle.model.specs.Revision.{Rev, IsRev, rev_cmp, revs, same_rev, coded_rev, rev_total, rev_exact}
 
 -- what a tree has of a revision
+-- CouchDB: "Replication and conflict model", "Revision tree"
 pub record Revision : Type 0 where
   pub parent : Option Rev
   pub deleted : Bool
@@ -23,6 +24,7 @@ pub record Revision : Type 0 where
 abbrev pub coded_revision : Coded Revision
 coded_revision = code_by (Option Rev × (Bool × Option Body)) (coded× (coded_option coded_rev) (coded× coded_bool (coded_option coded_body))) (λ v. (v.parent, (v.deleted, v.body))) (λ p. record { parent = p.0; deleted = p.1.0; body = p.1.1 }) (λ _. refl)
 
+-- CouchDB: "Replication and conflict model", "Revision tree"
 abbrev pub Tree : Type 0
 Tree = Map revs Revision
 
@@ -53,6 +55,7 @@ among rs r = list_any (same_rev r) rs
 unfoldable pub has_child : Tree → Rev → Bool
 has_child t r = list_any (λ e. is_at e.1.parent r) (entries t)
 
+-- CouchDB: "Replication and conflict model", "Revision tree"
 abbrev pub is_leaf : Tree → Rev → Bool
 is_leaf t r = knows t r && not (has_child t r)
 
@@ -67,6 +70,7 @@ pub record IsLeafOf (t : Tree) (l : Leaf) : Type 0 where
   pub leaf : is_leaf t l.rev ≡ true
   pub flag : is_deleted t l.rev ≡ l.deleted
 
+-- CouchDB: "Replication and conflict model", "Working with conflicting documents"
 abbrev pub leaf_cmp : Leaf → Leaf → Ordering
 leaf_cmp = then_cmp (on (λ l. l.deleted) bool_cmp) (flip_args (on (λ l. l.rev) rev_cmp))
 
@@ -89,13 +93,16 @@ abbrev pub as_leaf : Rev × Revision → Leaf × Unit {0}
 as_leaf e = (record { deleted = e.1.deleted; rev = e.0 }, tt)
 
 -- the known revisions that are parent of none
+-- CouchDB: "Replication and conflict model", "Revision tree"
 unfoldable pub leaves : Tree → List Leaf
 leaves t = map (λ e. e.0) (entries (from_list {O = ranks} (map as_leaf (filter (λ e. is_leaf t e.0) (entries t)))))
 
+-- CouchDB: "Replication and conflict model", "Working with conflicting documents"
 abbrev pub winner : Tree → Option Leaf
 winner t = first_of (leaves t)
 
 -- the greatest leaf, told with no list: deleted only where each leaf is, and with no greater revision at a leaf of its flag
+-- CouchDB: "Replication and conflict model", "Working with conflicting documents"
 pub record IsGreatestLeaf (t : Tree) (w : Leaf) : Type 0 where
   pub leaf : IsLeafOf t w
   pub live_first : w.deleted ≡ true → (l : Leaf) → IsLeafOf t l → l.deleted ≡ true
@@ -112,6 +119,7 @@ ancestor t zero o = o
 ancestor t (suc n) o = ancestor t n (option_and_then (parent_of t) o)
 
 -- r is fewer than `limit` steps above some leaf
+-- CouchDB: PUT /{db}/_revs_limit
 pub record IsNear (limit : ℕ) (t : Tree) (r : Rev) : Type 0 where
   pub leaf : Rev
   pub at_leaf : is_leaf t leaf ≡ true
@@ -131,18 +139,21 @@ ancestors t None = []
 ancestors t (Some r) = upward t r.generation (Some r)
 
 -- the known path of r, newest first
+-- CouchDB: GET /{db}/{docid}, "revs"
 abbrev pub path_of : Tree → Rev → List Rev
 path_of t r = if knows t r then ancestors t (Some r) else []
 
 -- ---- trees that a document can have
 
 -- each parent is known and one generation older, and each leaf has a body
+-- CouchDB: "Replication and conflict model", "Revision tree"
 pub record IsForest (t : Tree) : Type 0 where
   pub parents : (r p : Rev) → parent_of t r ≡ Some p → (knows t p ≡ true) × (r.generation ≡ p.generation + 1)
   pub generations : (r : Rev) → knows t r ≡ true → 0 < r.generation
   pub bodies : (r : Rev) → is_leaf t r ≡ true → is_some (body_of t r) ≡ true
 
 -- and some revision is known
+-- CouchDB: "Replication and conflict model", "Revision tree"
 pub record IsTree (t : Tree) : Type 0 where
   pub forest : IsForest t
   pub some_known : (r : Rev) × (knows t r ≡ true)

@@ -12,10 +12,12 @@ unfoldable pub restrict : (Rev → Bool) → Tree → Tree
 restrict keep t = refine (λ r v. if keep r then Some (record v { parent = option_and_then (λ p. if keep p then Some p else None) v.parent }) else None) t
 
 -- the revisions fewer than `limit` steps above some leaf
+-- CouchDB: PUT /{db}/_revs_limit
 unfoldable pub stem : ℕ → Tree → Tree
 stem limit t = restrict (λ r. list_any (λ l. among (take limit (path_of t l.rev)) r) (leaves t)) t
 
 -- the bodies of the leaves alone
+-- CouchDB: POST /{db}/_compact
 unfoldable pub strip : Tree → Tree
 strip t = refine (λ r v. Some (if is_leaf t r then v else record v { body = None })) t
 
@@ -27,10 +29,12 @@ held_by t [] = None
 held_by t (l ∷ ls) = Some (restrict (λ r. list_any (λ k. among (path_of t k.rev) r) (l ∷ ls)) t)
 
 -- what is left where the named leaves go
+-- CouchDB: POST /{db}/_purge
 unfoldable pub cut : List Rev → Tree → Option Tree
 cut named t = held_by t (filter (λ l. not (among named l.rev)) (leaves t))
 
 -- the leaves that go, in the order named; a named revision that is no leaf is ignored
+-- CouchDB: POST /{db}/_purge, "purged"
 abbrev pub removed_leaves : List Rev → Tree → List Rev
 removed_leaves named t = each_once same_rev (filter (is_leaf t) named)
 
@@ -54,6 +58,7 @@ pub record IsRestriction (Keeps : Rev → Type 0) (t u : Tree) : Type 0 where
 -- ---- grafts
 
 -- newest first, each one generation older than the one before
+-- CouchDB: GET /{db}/{docid}, "_revisions"
 abbrev pub IsPath : List Rev → Type 0
 IsPath [] = ⊥
 IsPath (r ∷ []) = 0 < r.generation
@@ -85,10 +90,12 @@ abbrev pub given : Body → Bool → Revision → Revision
 given body deleted v = if is_some v.body then v else record v { body = Some body; deleted = deleted }
 
 -- with a body and a flag for the newest, where it has no body
+-- CouchDB: POST /{db}/_bulk_docs, "new_edits"
 unfoldable pub grafted : List Rev → Body → Bool → Tree → Tree
 grafted path body deleted t = refine (λ r v. Some (if is_at (first_of path) r then given body deleted v else v)) (linked path t)
 
 -- nothing where a known parent contradicts the path
+-- CouchDB: POST /{db}/_bulk_docs, "new_edits"
 unfoldable pub graft : List Rev → Body → Bool → Tree → Option Tree
 graft path body deleted t = if agrees t path then Some (grafted path body deleted t) else None
 

@@ -56,11 +56,13 @@ pub data Completed : Type 0 where
   Asked : ℕ → Query → ℕ → Answer → Completed
 
 -- the place that a session saw last, and whether it has no open call
+-- CouchDB: "Technical Overview", "ACID Properties"
 pub record View : Type 0 where
   pub place : ℕ
   pub free : Bool
 
 -- an open compaction: whose it is, how many records it has yet to copy, and up to where it has taken all over
+-- CouchDB: "Technical Overview", "Compaction"
 pub record OpenCopy : Type 0 where
   pub session : ℕ
   pub left : ℕ
@@ -132,12 +134,14 @@ module _ (base : Database) where
   busy w s = record w { views = viewing w.views s (place_in w.views s) false }
 
   -- one Compact entry, unless too much is left to take over or a purge was lost
+  -- CouchDB: "Technical Overview", "Compaction"
   abbrev pub swap : ℕ → World → OpenCopy → World
   swap slack w k =
       if is_overrun (database_of w).purges k.marks.purge then abort w k
       else if nat_lt slack (length (touched (database_of w) k.marks)) then w
       else record (commit w (record { seat = next_seat w k.session; command = Compact })) { copy = None; views = viewing w.views k.session (length w.history + 1) true }
 
+  -- CouchDB: "Technical Overview", "Compaction"
   abbrev pub catch_up : World → OpenCopy → ℕ → World
   catch_up w k n =
       if is_overrun (database_of w).purges k.marks.purge then abort w k

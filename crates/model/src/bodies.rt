@@ -1,5 +1,4 @@
 //! Laws of bodies.
-
 ghost use Rattle.std.specs.Prelude.{◌≡◌};
 ghost use Rattle.serde_json.specs.Data.{object};
 ghost use Rattle.model.specs.Body.{Body, IsBody, body_text};

@@ -1,5 +1,4 @@
 //! Laws of the sequential database and of compaction's copies.
-
 ghost use Rattle.std.specs.Prelude.{◌≡◌, ◌≢◌, ◌↔◌, ℕ, ◌+◌, ◌-◌, ◌<◌, ◌≤◌, Bool, true, false, List, [], ◌∷◌, ◌++◌, length, map, filter, take, drop, nat_lt, All, Contains, Option, Some, None, option_map, option_and_then, unwrap_or, Ok, Err, if◌then◌else◌};
 ghost use Rattle.model.specs.Lists.{last_few};
 ghost use Rattle.model.specs.Map.{Map, IsRising, empty, get, put, same_key};

@@ -1,5 +1,4 @@
 //! Laws of histories, of interleavings and of feeds.
-
 ghost use Rattle.std.specs.Prelude.{◌≡◌, ◌≢◌, ◌↔◌, ◌⊎◌, ℕ, ◌+◌, ◌<◌, ◌≤◌, Bool, List, [], ◌∷◌, ◌++◌, length, map, take, slice_get, filter_map, AllPairs, Contains, Option};
 ghost use Rattle.std.specs.List.{range_with_len};
 ghost use Rattle.model.specs.Map.{Map};

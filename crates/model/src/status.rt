@@ -1,6 +1,8 @@
 //! What is kept of revisions.
 
-/// What is kept of a revision, as `revs_info` tells it.
+/// What is kept of a revision.
+///
+/// CouchDB: `GET /{db}/{docid}`, "revs_info".
 #[derive(Clone, Copy, Debug, PartialEq, Eq)]
 pub enum Status {
     /// Its body.

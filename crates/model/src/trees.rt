@@ -1,5 +1,4 @@
 //! Laws of revision trees.
-
 ghost use Rattle.std.specs.Prelude.{◌≡◌, ◌≢◌, ◌↔◌, ◌⊎◌, ℕ, ◌+◌, ◌<◌, ◌≤◌, Bool, true, false, not, ◌&&◌, List, [], ◌∷◌, ◌++◌, filter, All, AllPairs, Contains, slice_get, Option, Some, None, if◌then◌else◌};
 ghost use Rattle.model.specs.Map.{IsRising, empty};
 ghost use Rattle.model.specs.Body.{Body, IsBody, same_body};

@@ -26,5 +26,6 @@ pub record IsKept (n : ℕ) (es : List (ℕ × PurgedEntry)) (limit : ℕ) : Typ
   pub not_zero : 0 < limit
 
 -- without the oldest, where there are more than the limit
+-- CouchDB: GET /{db}/_purged_infos_limit
 abbrev pub newest_of : ℕ → ℕ → List (ℕ × PurgedEntry) → List (ℕ × PurgedEntry)
 newest_of n limit es = if nat_lt limit (length es) then without nat_cmp (n - limit) es else es

@@ -54,7 +54,7 @@ impl PurgeLog {
         }
     }
 
-    /// The same log. It grows nothing.
+    /// The same log. It takes no memory.
     pub fn share(&self) -> Result<PurgeLog, AllocError>
         ensures same { IfOk result (λ l. l ≡ self.now) }
     {

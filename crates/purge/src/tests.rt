@@ -1,3 +1,5 @@
+//! Cuts of a document, and the log of purges, with ample memory.
+
 use crate::{PurgeLog, cut_document};
 use document_id::DocId;
 use json_profile::Body;

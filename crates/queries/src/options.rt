@@ -1,4 +1,5 @@
 //! What is asked of a document beside its body.
+
 use std::marker::Model;
 
 /// What beside its body is asked of a document.

@@ -1,4 +1,5 @@
 //! The changes feed and the counts of a database.
+
 use document_id::DocId;
 use revision_id::RevId;
 use std::marker::Model;

@@ -1,5 +1,7 @@
+//! Identities of revisions, made and read with ample memory.
+
 use crate::{RevFault, RevId};
-use json_profile::{Body, read};
+use json_profile::{Body, MAX_NESTING, read};
 use md5::{Digest, Md5};
 use std::test::Fail;
 
@@ -12,7 +14,7 @@ const THIRD: &str = "3-1f86e4a276555b9f7bb0770774ad36bb";
 const DELETED: &str = "2-afb96502f106d3ac58e31b6f3d8bc9a9";
 
 fn body(rt: &HostRuntime, text: &str) -> Result<Body, Fail> {
-    let json = read(rt.alloc(), text.as_bytes(), 72)?;
+    let json = read(rt.alloc(), text.as_bytes(), MAX_NESTING)?;
     Ok(json.object_without_specials(rt.alloc())?)
 }
 

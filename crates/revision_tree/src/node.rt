@@ -34,7 +34,7 @@ impl Node {
         }
     }
 
-    /// The same again, with the same body. It grows nothing, but is refused at the largest count of a body's owners.
+    /// The same again, with the same body. It takes no memory, but is refused at the largest count of a body's owners.
     pub fn share(&self) -> Result<Node, AllocError>
         ensures { IfOk result (λ node. entry_of node ≡ entry_of self.now) }
     {

@@ -4,11 +4,11 @@
 //! way, and prints what it finds. The status is 1 where memory was refused, and 2 for other words.
 #![tactic(auto)]
 
-use std::process::ExitCode;
-use std::{env, io};
-
 mod reads;
 mod store;
+
+use std::process::ExitCode;
+use std::{env, io};
 
 /// The status of a run that was refused memory.
 const REFUSED: u8 = 1;

@@ -1,4 +1,5 @@
 //! Every read of a version, none of which takes memory.
+
 use snapshots::Version;
 use std::io;
 

@@ -1,5 +1,6 @@
 //! A version of many documents.
-use commands::{Command, Edit, Seat};
+
+use commands::{Command, Edit, MAX_PLACES, Seat};
 use document_id::DocId;
 use json_profile::Body;
 use snapshots::Version;
@@ -17,7 +18,7 @@ pub(crate) fn written(alloc: Global, documents: u64) -> Option<Version> {
 
 /// The version after the first edit of one document more.
 fn with_document(alloc: Global, version: &Version, number: u64) -> Option<Version> {
-    if version.place() >= u64::from(u32::MAX) {
+    if version.place() >= u64::from(MAX_PLACES) {
         return None;
     }
     let seat = Seat::new(0, version.next_call(0))?;

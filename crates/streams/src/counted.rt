@@ -1,5 +1,4 @@
 //! Readers and writers of `std` whose failures are counted.
-
 ghost use Rattle.std.specs.Prelude.{◌≡◌, ◌-◌, ◌<◌, ◌^◌};
 ghost use Rattle.streams.specs.Counts.{CountRose};
 

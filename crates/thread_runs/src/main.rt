@@ -9,14 +9,14 @@
 //! wrote, and 2 for other words.
 #![tactic(auto)]
 
+mod plan;
+mod run;
+mod work;
+
 use crate::run::{Outcome, run};
 use crate::work::Told;
 use std::process::ExitCode;
 use std::{env, io};
-
-mod plan;
-mod run;
-mod work;
 
 /// The status of a run that was refused memory.
 const REFUSED: u8 = 1;

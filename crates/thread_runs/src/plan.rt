@@ -1,5 +1,6 @@
 //! What a run is to do.
-use commands::{Config, Limits};
+
+use commands::{Config, Limits, MAX_PLACES};
 
 /// What the sessions do.
 #[derive(Debug, Clone, Copy, PartialEq, Eq)]
@@ -54,7 +55,7 @@ fn of_numbers(sessions: u16, gather: u16, work: Work) -> Option<Plan> {
         slice: 1,
         slack: 0,
         tries: 1,
-        max_places: u32::MAX,
+        max_places: MAX_PLACES,
     })?;
     Some(Plan { config, work })
 }

@@ -1,4 +1,5 @@
 //! What one session does.
+
 use commands::{Command, Edit};
 use document_id::DocId;
 use json_profile::Body;

@@ -1,5 +1,5 @@
-#![tactic(auto)]
 //! Tests of sessions on threads.
+#![tactic(auto)]
 
 #[cfg(test)]
 mod tests;

@@ -1,4 +1,5 @@
-// Sessions over one opened database.
+//! Sessions over one opened database.
+
 mod held;
 mod pair;
 mod soak;

@@ -1,4 +1,5 @@
 //! Why a path is not grafted.
+
 use std::alloc::AllocError;
 use thiserror::Error;
 
@@ -9,7 +10,7 @@ pub enum MergeFault {
     #[error("the path contradicts a known parent")]
     Contradiction,
     /// Memory was refused.
-    #[error("memory was refused")]
+    #[error("out of memory")]
     Memory,
 }
 

@@ -7,6 +7,9 @@ use revision_id::RevId;
 use revision_tree::RevTree;
 use std::alloc::{AllocError, Global};
 
+/// A limit of steps that keeps all: no path is longer than its newest generation says.
+const NO_LIMIT: u32 = u32::MAX;
+
 /// The revisions fewer than `limit` steps above some leaf.
 pub fn stem(alloc: Global, tree: &RevTree, limit: u32) -> Result<RevTree, AllocError>
     requires { 0 < limit }
@@ -24,7 +27,7 @@ pub fn cut_leaves(
 ) -> Result<Option<RevTree>, AllocError>
     ensures { IfOk result (λ left. left ≡ cut named.now tree.now) }
 {
-    let nodes = restricted(alloc, tree, named, u32::MAX)?;
+    let nodes = restricted(alloc, tree, named, NO_LIMIT)?;
     if nodes.is_empty() {
         return Ok(None);
     }

@@ -1,3 +1,5 @@
+//! Trees of a document after each kind of change, with ample memory.
+
 use crate::{MergeFault, cut_leaves, graft, is_same, removed_leaves, stem, strip, with_path};
 use json_profile::Body;
 use revision_id::RevId;

@@ -8,6 +8,9 @@ use crossbeam_queue::Pass;
 use std::marker::{Model, PhantomData};
 use std::sync::Wait;
 
+/// The most jobs that a session pushes.
+const MAX_PUSHED: u64 = 1 << 62;
+
 /// A session's pass of the queue `J`. Contracts see its number, how many jobs it pushed, and how many of them
 /// it knows to be taken.
 #[derive(Drop)]
@@ -52,7 +55,7 @@ impl<J: Queued> Ticket<J> {
         requires turn { self.old.gone ≡ self.old.pushed }
         ensures pushed { MatchResult result (λ _. self.new ≡ record self.old { pushed = self.old.pushed + 1 }) (λ same. (same ≡ job) × (self.new ≡ self.old) × ((J.capacity < J.sessions) ⊎ (2 ^ 62 ≤ self.old.pushed))) }
     {
-        if self.pushed >= 1 << 62 {
+        if self.pushed >= MAX_PUSHED {
             return Err(job);
         }
         push(rt, &line.jobs, &mut self.pass, self.pushed, job)?;

@@ -10,7 +10,7 @@ pub enum PutFault {
     #[error("the history is full")]
     Full,
     /// Memory was refused.
-    #[error("memory was refused")]
+    #[error("out of memory")]
     Memory,
 }
 

@@ -1,3 +1,5 @@
+//! The texts of answers to queries.
+
 use commands::NamedRevisions;
 use document_id::DocId;
 use http_response::{Connection, answer};

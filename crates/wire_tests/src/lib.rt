@@ -1,5 +1,5 @@
-#![tactic(auto)]
 //! Tests of requests and of the texts of responses.
+#![tactic(auto)]
 
 #[cfg(test)]
 mod answers;

@@ -1,3 +1,5 @@
+//! What requests ask, and why they are rejected.
+
 use commands::CommandKind;
 use document_json::Reason;
 use http_framing::request::Request;

@@ -1,3 +1,5 @@
+//! The texts of replies to commands, and of refusals.
+
 use commands::{Command, Edit, Merge, Reply, ReplyKind};
 use document_id::DocId;
 use document_json::Reason;

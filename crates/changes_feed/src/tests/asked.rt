@@ -1,4 +1,5 @@
 //! Queries, and what they are answered.
+
 use super::names::{revision, revisions};
 use super::texts::{
     push_answer, push_counts, push_differences, push_documents, push_found, push_limit, push_local,

@@ -1,8 +1,9 @@
 //! Small databases, by what is done to the empty one.
+
 use super::names::{revision, revisions};
-use commands::{AskedRevisions, Command, Edit, Merge, NamedRevisions, Seat};
+use commands::{AskedRevisions, Command, Edit, MAX_PLACES, Merge, NamedRevisions, Seat};
 use document_id::DocId;
-use json_profile::{Body, read};
+use json_profile::{Body, MAX_NESTING, read};
 use revision_id::RevId;
 use snapshots::Version;
 use std::alloc::Global;
@@ -52,7 +53,7 @@ fn act(version: &Version, command: &Command) -> Result<Version, Fail> {
     let Some(seat) = Seat::new(0, version.next_call(0)) else {
         return Err("a seat".into());
     };
-    if version.place() >= 4_294_967_295 {
+    if version.place() >= u64::from(MAX_PLACES) {
         return Err("room".into());
     }
     Ok(version.act(seat, command)?)
@@ -129,7 +130,7 @@ fn empty_body(alloc: Global) -> Result<Arc<Body>, Fail> {
 }
 
 fn body(alloc: Global, text: &str) -> Result<Arc<Body>, Fail> {
-    let json = read(alloc, text.as_bytes(), 72)?;
+    let json = read(alloc, text.as_bytes(), MAX_NESTING)?;
     let body = json.object_without_specials(alloc)?;
     Ok(Arc::new(alloc, body)?)
 }

@@ -1,4 +1,5 @@
 //! Followers of the feed.
+
 use super::DELETED_FIRST;
 use super::database::{Change, after, changed};
 use super::texts::push_rows;

@@ -1,4 +1,5 @@
 //! Local documents, which are no part of the feed.
+
 use super::asked::Asked;
 use super::compare;
 use super::database::{Change, after};

@@ -1,4 +1,5 @@
 //! Short names for the revisions of the tests.
+
 use revision_id::RevId;
 use std::alloc::Global;
 use std::test::Fail;

@@ -1,4 +1,5 @@
 //! Answers as texts.
+
 use super::names::name_of;
 use document_id::DocId;
 use json_profile::Body;

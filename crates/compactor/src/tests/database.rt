@@ -1,7 +1,8 @@
 //! Commands of session 0.
+
 use commands::{AskedRevisions, Command, Edit, NamedRevisions};
 use document_id::DocId;
-use json_profile::{Body, read};
+use json_profile::{Body, MAX_NESTING, read};
 use revision_id::RevId;
 use std::alloc::Global;
 use std::sync::Arc;
@@ -54,7 +55,7 @@ fn named(name: Option<&str>) -> Result<Option<RevId>, Fail> {
 }
 
 fn body(alloc: Global, text: &str) -> Result<Arc<Body>, Fail> {
-    let json = read(alloc, text.as_bytes(), 72)?;
+    let json = read(alloc, text.as_bytes(), MAX_NESTING)?;
     let body = json.object_without_specials(alloc)?;
     Ok(Arc::new(alloc, body)?)
 }

@@ -1,4 +1,5 @@
 //! What stands in a version, and what a step told, as texts.
+
 use super::database::name_of;
 use crate::CopyFault;
 use document_id::DocId;

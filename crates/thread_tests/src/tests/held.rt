@@ -1,4 +1,4 @@
-// Writes that come while session 0 is held.
+//! Writes that come while session 0 is held.
 ghost use Rattle.std.specs.Prelude.{◌≡◌};
 
 use crate::tests::{LIMITS, put};

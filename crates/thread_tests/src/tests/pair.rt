@@ -1,4 +1,4 @@
-// Two sessions in one thread.
+//! Two sessions in one thread.
 ghost use Rattle.std.specs.Prelude.{◌≡◌};
 
 use crate::tests::{FIRST, LIMITS, put, revision};

@@ -1,4 +1,4 @@
-// Many threads that write and look for a while.
+//! Many threads that write and look for a while.
 ghost use Rattle.std.specs.Prelude.{◌≡◌};
 
 use crate::tests::{LIMITS, edit, revision};
