@@ -3,7 +3,6 @@
 //! The checks of a request are made in one order: route, method, path, parameters, and then the
 //! body. `decide`, in `specs/Decide.antt`, has them from top to bottom for each route.
 #![tactic(auto)]
-#![tactic(auto)]
 
 mod asked;
 mod feed;
