@@ -56,7 +56,8 @@ impl Copied for Edit {
     }
 }
 
-/// Reads the limits that all edits keep.
+/// Reads the limits that all edits keep: for the contract alone, since a list
+/// says nothing of what the types of its items keep.
 pub(crate) fn read_all_limits(edits: &[Edit])
     ensures are_edits { All IsEdit edits.now }
 {

@@ -118,7 +118,8 @@ fn is_path(path: &[RevId]) -> bool
     newer.generation() > 0
 }
 
-/// Reads the limits that all merges keep.
+/// Reads the limits that all merges keep: for the contract alone, since a list
+/// says nothing of what the types of its items keep.
 pub(crate) fn read_all_merges(merges: &[Merge])
     ensures are_merges { All IsMerge merges.now }
 {

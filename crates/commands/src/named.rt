@@ -92,7 +92,8 @@ impl Copied for NamedRevisions {
     }
 }
 
-/// Reads the ranges that all ids and revisions keep.
+/// Reads the ranges that all ids and revisions keep: for the contract alone, since a list
+/// says nothing of what the types of its items keep.
 pub(crate) fn read_all_named(documents: &[AskedRevisions])
     ensures in_range { All NamesRevs documents.now }
 {
@@ -101,7 +102,8 @@ pub(crate) fn read_all_named(documents: &[AskedRevisions])
     }
 }
 
-/// Reads the ranges that all revisions keep.
+/// Reads the ranges that all revisions keep: for the contract alone, since a list
+/// says nothing of what the types of its items keep.
 fn read_all_revs(revisions: &[RevId])
     ensures in_range { All IsRev revisions.now }
 {
