@@ -9,7 +9,7 @@ use crate::revision::name_revision;
 use crate::text::read_json;
 use commands::Edit;
 use document_id::DocId;
-use json_profile::{Body, Json, Object};
+use json_profile::{Body, Json, JsonFault, Object};
 use revision_id::RevId;
 use std::alloc::Global;
 use std::sync::Arc;
@@ -37,8 +37,8 @@ fn drop_ignored(object: &mut Object)
 }
 
 /// Takes an object apart, and refuses one whose body nests too deep.
-fn take_parts(mut object: Object) -> Result<Parts, Reason>
-    ensures { result ≡ nesting_parts (parts_of object) }
+fn take_parts(alloc: Global, mut object: Object) -> Result<Parts, Fault>
+    ensures { Decides result (nesting_parts (parts_of object)) }
 {
     let id = object.take("_id");
     let rev = object.take("_rev");
@@ -46,7 +46,7 @@ fn take_parts(mut object: Object) -> Result<Parts, Reason>
     let revisions = object.take("_revisions");
     drop_ignored(&mut object);
     let has_other = object.has_special();
-    match object.into_body() {
+    match object.into_body(alloc) {
         Ok(body) => Ok(Parts {
             id,
             rev,
@@ -55,18 +55,20 @@ fn take_parts(mut object: Object) -> Result<Parts, Reason>
             has_other,
             body,
         }),
-        Err(_) => Err(Reason::Depth),
+        Err(JsonFault::Depth) => Err(Fault::Refused(Reason::Depth)),
+        Err(JsonFault::Memory) => Err(Fault::Memory),
+        Err(_) => unreachable!(),
     }
 }
 
 /// The parts of a document, if the value is an object.
-pub(crate) fn read_parts(value: Json) -> Result<Option<Parts>, Reason>
-    ensures { result ≡ parts_in value }
+pub(crate) fn read_parts(alloc: Global, value: Json) -> Result<Option<Parts>, Fault>
+    ensures { Decides result (parts_in value) }
 {
     let Some(object) = value.into_object() else {
         return Ok(None);
     };
-    Ok(Some(take_parts(object)?))
+    Ok(Some(take_parts(alloc, object)?))
 }
 
 /// Whether what is there is a text.
@@ -225,7 +227,7 @@ fn read_document(alloc: Global, body: &[u8]) -> Result<Parts, Fault>
     ensures { Decides result (document_of body.now) }
 {
     let value = read_json(alloc, body)?;
-    Ok(as_known_document(read_parts(value)?)?)
+    Ok(as_known_document(read_parts(alloc, value)?)?)
 }
 
 /// The edit of the document that the path and the parameters name, as a body writes it.
