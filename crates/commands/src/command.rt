@@ -104,7 +104,7 @@ impl Command {
         }
         let _text = id.as_str();
         if let Some(body) = &body {
-            let _text = body.text();
+            let _body = body.text();
         }
         Some(Command {
             kind: CommandKind::PutLocal { id, named, body },

@@ -41,7 +41,7 @@ impl Edit {
         if let Some(rev) = self.named {
             let _generation = rev.generation();
         }
-        let _text = self.body.text();
+        let _body = self.body.text();
     }
 }
 

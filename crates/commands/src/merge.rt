@@ -51,7 +51,7 @@ impl Merge {
             return None;
         }
         let _text = id.as_str();
-        let _text = body.text();
+        let _body = body.text();
         Some(Merge {
             id,
             path,

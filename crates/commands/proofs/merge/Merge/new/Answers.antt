@@ -16,6 +16,6 @@ invariant_of-result c =
         id = c.as_str-text.ensures.is_id;
         path = subst IsPath (sym parts) path;
         revs = subst (All IsRev) (sym parts) revs;
-        body = subst IsBody c.deref-2.ensures c.value-object.ensures.body;
+        body = subst IsBody c.deref-2.ensures c.text-body.ensures.body;
       },
     )
