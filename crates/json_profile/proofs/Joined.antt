@@ -1,12 +1,15 @@
 -- The text of an object, by the texts of parts of its members, and where a special member goes.
-use Rattle.std.proofs.Common.{string_bytes, ◌≡◌, ℕ, suc, subst, ◌<◌, ◌≤◌, List, [], ◌∷◌, ◌++◌, length, take, drop, ◌+◌, ◌-◌, Bool, true, false, ◌||◌, ◌&&◌, cond, nat_lt, nat_cmp, Less, Equal, Greater, Ordering, true≢false, refl, sym, ap, ◌∙◌, arith, append_assoc}
+use Rattle.std.proofs.Common.{string_bytes, ◌≡◌, ℕ, suc, subst, ◌<◌, ◌≤◌, ◌==◌, List, [], ◌∷◌, ◌++◌, length, take, drop, ◌+◌, ◌-◌, Bool, true, false, ◌||◌, ◌&&◌, cond, nat_lt, nat_cmp, Less, Equal, Greater, Ordering, true≢false, refl, sym, ap, ◌∙◌, arith, append_assoc}
 use Rattle.std.specs.Prelude.{◌≢◌, not}
 use Rattle.std.proofs.lemmas.Bool.{and_parts, and_from, or_parts, ltb-false, ltb-true, lt-ltb, eqb-true, eq-eqb}
 use Rattle.std.proofs.lemmas.Cmp.{nat_list_cmp_total, nat_cmp_total}
 use Rattle.std.specs.Cmp.Lexicographic.{slice_cmp}
 use Rattle.std.specs.Ordering.{is_lt, ordering_reverse, ordering_then, match_ordering}
-use Rattle.std.proofs.Math.Seq.{take-append_seam, drop-append_seam}
+use Rattle.std.proofs.Math.Dec.{eqb-suc-zero}
+use Rattle.std.proofs.Math.Seq.{take-append_seam, drop-append_seam, get_or-append_seam}
 use Rattle.std.proofs.lemmas.List.{length-append}
+use Rattle.std.proofs.lemmas.Str.{IsCharBoundary-before_ascii}
+use Rattle.std.specs.Str.{IsCharBoundary}
 use Rattle.std.specs.List.{filter}
 use Rattle.json.specs.Print.{quoted}
 use Rattle.serde_json.specs.Events.{members_len as members_count}
@@ -15,7 +18,7 @@ use Rattle.serde_json.proofs.Views.{Entry}
 use Rattle.serde_json.specs.Data.{Data, object, Members, no_members, member, put}
 use Rattle.serde_json.specs.Written.{comma_if, compact_text, members_text, has_float}
 use Rattle.model.specs.Profile.{is_whole, members_whole, is_special, is_before, members_ordered, without_specials}
-use Rattle.json_profile.specs.Joined.{join, has_member, bare_text, is_front, front_of, back_of, all_front, all_back, fronts, split_of}
+use Rattle.json_profile.specs.Joined.{between, join, has_member, bare_text, is_front, front_of, back_of, all_front, all_back, fronts, split_of}
 use Rattle.json_profile.specs.Objects.{has_special}
 use Rattle.model.proofs.ProfileLaws.{first_of, rest_of}
 use Rattle.json_profile.specs.Profiled.{ArePlain}
@@ -254,58 +257,116 @@ plain-text ms = ap (λ os. compact_text (object os)) (sym (parts ms)) ∙ text-p
 
 -- ---- the text is cut at the split
 
+-- a character of one byte stands first
+abbrev Begins : List ℕ → Type 0
+Begins [] = ⊥
+Begins (c ∷ rest) = c < 128
+
+begins-bare : (later : Bool) (ms : Members) (rest : List ℕ) → Begins rest → Begins (bare_text later ms ++ rest)
+begins-bare later no_members rest begins = begins
+begins-bare true (member k d ms) rest begins = omega arith
+begins-bare false (member k d ms) rest begins = omega arith
+
+at_seam : (xs ys : List ℕ) → Begins ys → IsCharBoundary (xs ++ ys) (length xs)
+at_seam xs [] begins = absurd begins
+at_seam xs (c ∷ ys) begins =
+    let long : length (xs ++ c ∷ ys) ≡ length xs + length (c ∷ ys) = length-append xs (c ∷ ys) in
+    IsCharBoundary-before_ascii (xs ++ c ∷ ys) (length xs) (omega (arith, long)) (rw (get_or-append_seam xs c ys 0) begins)
+
 pub record Cuts (text : List ℕ) (split : ℕ) (F B : List ℕ) : Type 0 where
   pub front : take (split - 1) (drop 1 text) ≡ F
   pub back : take ((length text - 1) - split) (drop split text) ≡ B
-  pub some : 1 ≤ split
   pub order : split ≤ length text - 1
-  pub end : split ≤ length text
+  pub first : IsCharBoundary text 1
+  pub middle : IsCharBoundary text split
+  pub last : IsCharBoundary text (length text - 1)
 
 seam : (F B : List ℕ) (n : ℕ) → n ≡ length B → take n (drop (length F) (F ++ (B ++ 125 ∷ []))) ≡ B
 seam F B n is = ap (λ s. take n s) (drop-append_seam F (B ++ 125 ∷ [])) ∙ ap (λ m. take m (B ++ 125 ∷ [])) is ∙ take-append_seam B (125 ∷ [])
 
-cuts : (F B : List ℕ) → Cuts (123 ∷ (F ++ (B ++ 125 ∷ []))) (suc (length F)) F B
-cuts F B =
+cuts : (F B : List ℕ) → Begins (F ++ (B ++ 125 ∷ [])) → Begins (B ++ 125 ∷ []) → Cuts (123 ∷ (F ++ (B ++ 125 ∷ []))) (suc (length F)) F B
+cuts F B whole rest =
     let long : length (F ++ (B ++ 125 ∷ [])) ≡ length F + (length B + 1) = length-append F (B ++ 125 ∷ []) ∙ ap (λ n. length F + n) (length-append B (125 ∷ [])) in
+    let both : length (F ++ B) ≡ length F + length B = length-append F B in
     let one : suc (length F) - 1 ≡ length F = omega arith in
-    let rest : (suc (length (F ++ (B ++ 125 ∷ []))) - 1) - suc (length F) ≡ length B = omega (arith, long) in
+    let after : (suc (length (F ++ (B ++ 125 ∷ []))) - 1) - suc (length F) ≡ length B = omega (arith, long) in
+    let closing : length (123 ∷ (F ++ B)) ≡ suc (length (F ++ (B ++ 125 ∷ []))) - 1 = omega (arith, long, both) in
     record {
       front = ap (λ n. take n (F ++ (B ++ 125 ∷ []))) one ∙ take-append_seam F (B ++ 125 ∷ []);
-      back = seam F B _ rest;
-      some = omega arith;
+      back = seam F B _ after;
       order = omega (arith, long);
-      end = omega (arith, long);
+      first = at_seam (123 ∷ []) (F ++ (B ++ 125 ∷ [])) whole;
+      middle = at_seam (123 ∷ F) (B ++ 125 ∷ []) rest;
+      last = subst (λ s. IsCharBoundary (123 ∷ s) (suc (length (F ++ (B ++ 125 ∷ []))) - 1)) (append_assoc F B (125 ∷ [])) (subst (IsCharBoundary (123 ∷ ((F ++ B) ++ 125 ∷ []))) closing (at_seam (123 ∷ (F ++ B)) (125 ∷ []) (omega arith)));
     }
 
 pub cut : (text : List ℕ) (split : ℕ) (ms ns : Members) → IsSplit split text ms → ms ≡ ns → (length text ≡ 0 → ⊥) → Cuts text split (bare_text false (front_of ns)) (bare_text (has_member (front_of ns)) (back_of ns))
 cut text split no_members ns is same some = absurd (some (ap length is.whole.kept))
 cut text split (member k d ms) ns is same some =
     let P : Members → Type 0 = λ os. Cuts text split (bare_text false (front_of os)) (bare_text (has_member (front_of os)) (back_of os)) in
+    let front = front_of (member k d ms) in
+    let back = back_of (member k d ms) in
+    let rest : Begins (bare_text (has_member front) back ++ 125 ∷ []) = begins-bare (has_member front) back (125 ∷ []) (omega arith) in
     let whole = is.whole.kept ∙ plain-text (member k d ms) in
-    subst P same (rw (whole, is.at) (cuts (bare_text false (front_of (member k d ms))) (bare_text (has_member (front_of (member k d ms))) (back_of (member k d ms)))))
+    subst P same (rw (whole, is.at) (cuts (bare_text false front) (bare_text (has_member front) back) (begins-bare false front _ rest) rest))
 
--- ---- for the writer of an answer
+-- ---- an object's text without its brackets
+
+pub record Inside (text inside : List ℕ) : Type 0 where
+  pub value : take ((length text - 1) - 1) (drop 1 text) ≡ inside
+  pub order : 1 ≤ length text - 1
+  pub first : IsCharBoundary text 1
+  pub last : IsCharBoundary text (length text - 1)
+
+pub inside : (ms : Members) → Inside (compact_text (object ms)) (bare_text false ms)
+inside ms =
+    let text = bare_text false ms in
+    let rest : Begins (text ++ 125 ∷ []) = begins-bare false ms (125 ∷ []) (omega arith) in
+    let all = cuts text [] rest (omega arith) in
+    let long : length (text ++ 125 ∷ []) ≡ length text + 1 = length-append text (125 ∷ []) in
+    let ends : (suc (length (text ++ 125 ∷ [])) - 1) - 1 ≡ suc (length text) - 1 = omega (arith, long) in
+    rw (ap (λ s. 123 ∷ s) (members_text-bare false ms)) (record {
+      value = ap (λ n. take n (text ++ 125 ∷ [])) ends ∙ all.front;
+      order = omega (arith, long);
+      first = all.first;
+      last = all.last;
+    })
+
+-- ---- special members between the others
 
 -- a special member that is put into a body and others goes to the others
-pub put-between : (n : List ℕ) (v : Data) (ms special : Members) → ArePlain ms → is_special n ≡ true
-    → put n v (join (front_of ms) (join special (back_of ms))) ≡ join (front_of ms) (join (put n v special) (back_of ms))
+pub put-between : (n : List ℕ) (v : Data) (ms special : Members) → ArePlain ms → is_special n ≡ true → put n v (between ms special) ≡ between ms (put n v special)
 put-between n v ms special plain is = put-joined n v (front_of ms) special (back_of ms) is (all_front-front_of ms) (all_back-of ms plain.ordered (no_special ms plain.plain))
 
-pub put-first : (n : List ℕ) (v : Data) (ms : Members) → ArePlain ms → is_special n ≡ true → put n v ms ≡ join (front_of ms) (join (member n v no_members) (back_of ms))
-put-first n v ms plain is = ap (put n v) (sym (parts ms)) ∙ put-between n v ms no_members plain is
+-- a body has none
+pub between-none : (ms : Members) → between ms no_members ≡ ms
+between-none ms = parts ms
+
+-- ---- the commas between the parts
+
+pub has_member-length : (later : Bool) (ms : Members) → not (length (bare_text later ms) == 0) ≡ has_member ms
+has_member-length later no_members = refl
+has_member-length true (member k d ms) = ap not (eqb-suc-zero _)
+has_member-length false (member k d ms) = ap not (eqb-suc-zero _)
 
 -- the comma that is missing where none stands in front
-pub later-text : (later : Bool) (back : Members) → bare_text true back ≡ comma_if (not later && has_member back) ++ bare_text later back
+later-text : (later : Bool) (ms : Members) → bare_text true ms ≡ comma_if (not later && has_member ms) ++ bare_text later ms
 later-text true no_members = refl
 later-text false no_members = refl
 later-text true (member k d ms) = refl
 later-text false (member k d ms) = refl
 
--- the answer's text: what the body lends, with the special members' text between
-pub answer-text : (ms special : Members) → has_member special ≡ true
-    → compact_text (object (join (front_of ms) (join special (back_of ms))))
-    ≡ 123 ∷ (bare_text false (front_of ms) ++ (bare_text (has_member (front_of ms)) special
+behind : (later : Bool) (ms : Members) → has_member ms ≡ true → bare_text later ms ≡ comma_if later ++ bare_text false ms
+behind later no_members some = absurd (true≢false (sym some))
+behind true (member k d ms) some = refl
+behind false (member k d ms) some = refl
+
+-- the text of a body with special members, by what the body lends and their own text
+pub between-text : (ms special : Members) → has_member special ≡ true
+    → compact_text (object (between ms special))
+    ≡ 123 ∷ (bare_text false (front_of ms) ++ ((comma_if (has_member (front_of ms)) ++ bare_text false special)
     ++ ((comma_if (not (has_member (front_of ms)) && has_member (back_of ms)) ++ bare_text (has_member (front_of ms)) (back_of ms)) ++ 125 ∷ [])))
-answer-text ms special some =
+between-text ms special some =
     text-joined (front_of ms) special (back_of ms) some
-    ∙ ap (λ s. 123 ∷ (bare_text false (front_of ms) ++ (bare_text (has_member (front_of ms)) special ++ (s ++ 125 ∷ [])))) (later-text (has_member (front_of ms)) (back_of ms))
+    ∙ ap (λ s. 123 ∷ (bare_text false (front_of ms) ++ (s ++ (bare_text true (back_of ms) ++ 125 ∷ [])))) (behind (has_member (front_of ms)) special some)
+    ∙ ap (λ s. 123 ∷ (bare_text false (front_of ms) ++ ((comma_if (has_member (front_of ms)) ++ bare_text false special) ++ (s ++ 125 ∷ [])))) (later-text (has_member (front_of ms)) (back_of ms))

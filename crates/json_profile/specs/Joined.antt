@@ -46,6 +46,10 @@ abbrev pub fronts : Members → Members
 fronts no_members = no_members
 fronts (member k d ms) = if is_front k then member k d (fronts ms) else fronts ms
 
+-- the special members between those that stand before them and the others
+abbrev pub between : Members → Members → Members
+between body special = join (front_of body) (join special (back_of body))
+
 -- where special members go in the text
 abbrev pub split_of : Members → ℕ
 split_of ms = suc (length (bare_text false (front_of ms)))

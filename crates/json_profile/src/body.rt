@@ -1,8 +1,10 @@
 //! The body of a document.
-ghost use Rattle.std.specs.Prelude.{◌≡◌, ◌↔◌, ◌≤◌, ◌<◌, ◌≢◌, ◌-◌, Some, true, false, IfOk, length, take, drop};
+ghost use Rattle.std.specs.Prelude.{◌≡◌, ◌↔◌, ◌≤◌, ◌<◌, ◌≢◌, ◌-◌, Some, true, false, IfOk, string_bytes, take, drop};
+ghost use Rattle.std.specs.Str.{IsCharBoundary};
 ghost use Rattle.serde_json.specs.Data.{Members, no_members, object, depth as nesting};
 ghost use Rattle.serde_json.specs.View.{view as data_of, members_view};
-ghost use Rattle.serde_json.specs.Read.{read};
+ghost use Rattle.serde_json.specs.Read.{max_depth, read};
+ghost use Rattle.serde_json.specs.Written.{compact_text, has_float};
 ghost use Rattle.model.specs.Body.{IsBody, body_text};
 ghost use Rattle.model.specs.Profile.{max_body_nesting};
 ghost use Rattle.json_profile.specs.Joined.{bare_text, front_of, back_of, has_member, split_of};
@@ -66,32 +68,12 @@ impl Body {
             return Err(JsonFault::Depth);
         }
         let object = Value::Object(members);
-        let text = object.to_string(alloc)?;
-        let split = front_end(alloc, object)?;
+        let text = fitted_text(alloc, &object)?;
+        let split = place_of_specials(alloc, object)?;
         Ok(Body { text, split })
     }
 
-    /// The text of the members whose names stand before `_`.
-    pub fn front(&self) -> &[u8]
-        ensures { result.now ≡ bare_text false (front_of self.now) }
-    {
-        if self.text.is_empty() {
-            return b"";
-        }
-        part(self.text.as_bytes(), 1, self.split)
-    }
-
-    /// The text of the other members, which begins with a comma where some stand in front.
-    pub fn back(&self) -> &[u8]
-        ensures { result.now ≡ bare_text (has_member (front_of self.now)) (back_of self.now) }
-    {
-        if self.text.is_empty() {
-            return b"";
-        }
-        part(self.text.as_bytes(), self.split, self.text.len() - 1)
-    }
-
-    /// The compact text. Takes no memory.
+    /// The compact text.
     pub fn text(&self) -> &str
         ensures text { result.now ≡ body_text self.now }
         ensures reads_back { read result.now ≡ Some (object self.now) }
@@ -109,20 +91,56 @@ impl Body {
     {
         self.text.as_str() == other.text.as_str()
     }
+
+    /// The part of the text with the members whose names stand before `_`, with no bracket.
+    pub fn front(&self) -> &str
+        ensures { result.now ≡ bare_text false (front_of self.now) }
+    {
+        let text = self.text.as_str();
+        if text.is_empty() {
+            return "";
+        }
+        part(text, 1, self.split)
+    }
+
+    /// The part of the text with the other members, with no bracket. It begins with a comma where
+    /// some stand in front.
+    pub fn back(&self) -> &str
+        ensures { result.now ≡ bare_text (has_member (front_of self.now)) (back_of self.now) }
+    {
+        let text = self.text.as_str();
+        if text.is_empty() {
+            return "";
+        }
+        part(text, self.split, text.len() - 1)
+    }
+}
+
+/// The compact text, which keeps no spare memory.
+fn fitted_text(alloc: Global, value: &Value) -> Result<String, AllocError>
+    ensures text { IfOk result (λ text. has_float (data_of value.now) ≡ false
+        → string_bytes text ≡ compact_text (data_of value.now)) }
+    ensures reads_back { IfOk result (λ text. nesting (data_of value.now) ≤ max_depth
+        → read (string_bytes text) ≡ Some (data_of value.now)) }
+{
+    let mut text = value.to_string(alloc)?;
+    text.shrink_to_fit();
+    Ok(text)
 }
 
 /// Where special members go in the text of an object.
-fn front_end(alloc: Global, value: Value) -> Result<usize, AllocError>
+fn place_of_specials(alloc: Global, value: Value) -> Result<usize, AllocError>
     requires { ArePlain (members_in (data_of value)) }
     ensures { IfOk result (λ at. at ≡ split_of (members_in (data_of value))) }
 {
     match value {
-        Value::Object(members) => members_end(alloc, members),
+        Value::Object(members) => end_of_front(alloc, members),
         _ => Ok(1),
     }
 }
 
-fn members_end(alloc: Global, members: Map<String, Value>) -> Result<usize, AllocError>
+/// Where the text of the members ends whose names stand before `_`.
+fn end_of_front(alloc: Global, members: Map<String, Value>) -> Result<usize, AllocError>
     requires { ArePlain (members_view members.entries) }
     ensures { IfOk result (λ at. at ≡ split_of (members_view members.entries)) }
 {
@@ -132,10 +150,11 @@ fn members_end(alloc: Global, members: Map<String, Value>) -> Result<usize, Allo
     Ok(text.as_bytes().len() - 1)
 }
 
-fn part(bytes: &[u8], from: usize, to: usize) -> &[u8]
+fn part(text: &str, from: usize, to: usize) -> &str
     requires order { from ≤ to }
-    requires end { to ≤ length bytes.now }
-    ensures { result.now ≡ take (to - from) (drop from bytes.now) }
+    requires start { IsCharBoundary text.now from }
+    requires end { IsCharBoundary text.now to }
+    ensures { result.now ≡ take (to - from) (drop from text.now) }
 {
-    &bytes[from..to]
+    &text[from..to]
 }

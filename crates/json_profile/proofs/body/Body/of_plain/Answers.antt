@@ -26,5 +26,5 @@ invariant_of-result c =
     let at = c.in_ok-split.ensures ∙ ap (λ d. split_of (members_in d)) is ∙ ap split_of (sym (read_as _ ms reads)) in
     record { whole = kept_of _ ms some text reads (body_of ms c.requires nests); at = at }
 
-pub front_end-requires : goal.front_end-requires
-front_end-requires c = rw (view-Object c.args.members) c.requires
+pub place_of_specials-requires : goal.place_of_specials-requires
+place_of_specials-requires c = rw (view-Object c.args.members) c.requires

@@ -6,7 +6,7 @@ use Rattle.serde_json.specs.declared.value.Value.{Object}
 use Rattle.serde_json.proofs.Views.{view-Object}
 use Rattle.json_profile.specs.Joined.{fronts}
 use Rattle.json_profile.proofs.Joined.{fronts-no_float, length-fronts}
-use Rattle.json_profile.proofs.body.members_end.Goals as goal
+use Rattle.json_profile.proofs.body.end_of_front.Goals as goal
 
 pub overflow_sub-result : goal.overflow_sub-result
 overflow_sub-result c =
