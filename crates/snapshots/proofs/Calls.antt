@@ -12,7 +12,7 @@ use Rattle.model.specs.Database.{Database, calls_of, changed_by, counted}
 use Rattle.model.specs.History.{Chronicle, now}
 use Rattle.model.proofs.RestLaws.{rest_of_edits, rest_of_merges, rest_of_purges}
 use Rattle.model.proofs.CallLaws.{calls-replay}
-use Rattle.snapshots.specs.Content.{content_of}
+use Rattle.snapshots.specs.Database.{database_with}
 use Rattle.snapshots.specs.Listing.{Listing}
 use Rattle.snapshots.proofs.MapLists.{from_list-put}
 
@@ -35,9 +35,9 @@ calls_of-few h uncalled s =
     omega (arith, none, calls-replay h.base h.entries s, length-filter (λ (e : Entry). same_key numbers s e.seat.session) h.entries, count_by-le-length (λ (e : Entry). same_key numbers s e.seat.session) h.entries)
 
 -- one more call of a session in the list that is kept
-pub content-counted : (documents : Listing) (locals : Map names Local) (purges : PurgeLog) (limit : ℕ) (calls later : List (ℕ × ℕ)) (d : Database) (s n : ℕ) → content_of documents locals purges limit calls ≡ d → later ≡ listed.put nat_cmp s n calls → n ≡ calls_of d s + 1 → content_of documents locals purges limit later ≡ counted d s
-content-counted documents locals purges limit calls later d s n is put_call next =
-    ap (λ es. content_of documents locals purges limit es) put_call
-    ∙ ap (λ (m : Map numbers ℕ). record (content_of documents locals purges limit calls) { calls = m }) (from_list-put numbers s n calls)
-    ∙ ap (λ k. record (content_of documents locals purges limit calls) { calls = put {O = numbers} (from_list calls) s k }) (next ∙ ap (λ (e : Database). calls_of e s + 1) (sym is))
+pub database-counted : (documents : Listing) (locals : Map names Local) (purges : PurgeLog) (limit : ℕ) (calls later : List (ℕ × ℕ)) (d : Database) (s n : ℕ) → database_with documents locals purges limit calls ≡ d → later ≡ listed.put nat_cmp s n calls → n ≡ calls_of d s + 1 → database_with documents locals purges limit later ≡ counted d s
+database-counted documents locals purges limit calls later d s n is put_call next =
+    ap (λ es. database_with documents locals purges limit es) put_call
+    ∙ ap (λ (m : Map numbers ℕ). record (database_with documents locals purges limit calls) { calls = m }) (from_list-put numbers s n calls)
+    ∙ ap (λ k. record (database_with documents locals purges limit calls) { calls = put {O = numbers} (from_list calls) s k }) (next ∙ ap (λ (e : Database). calls_of e s + 1) (sym is))
     ∙ ap (λ (e : Database). counted e s) is

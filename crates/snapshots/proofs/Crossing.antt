@@ -7,7 +7,7 @@ use Rattle.local_docs.proofs.Crossing as locals
 use Rattle.purge.proofs.Crossing as purges
 use Rattle.revision_tree.proofs.Crossing as trees
 use Rattle.snapshots.specs.contracts.base.Base as Base
-use Rattle.snapshots.specs.contracts.content.Content as Content
+use Rattle.snapshots.specs.contracts.database.Database as Database
 use Rattle.snapshots.specs.contracts.record.Record as Record
 use Rattle.snapshots.specs.contracts.records.Records as Records
 use Rattle.snapshots.specs.contracts.version.Version as Version
@@ -27,23 +27,23 @@ records-send = search parts depth 60
 records-sync : IsSync Records.the_row
 records-sync = search parts depth 60
 
-content-send : IsSend Content.the_row
-content-send = search (records-send, locals.crosses, purges.crosses, maps.crosses, std.crosses, sendable) depth 60
+database-send : IsSend Database.the_row
+database-send = search (records-send, locals.crosses, purges.crosses, maps.crosses, std.crosses, sendable) depth 60
 
-content-sync : IsSync Content.the_row
-content-sync = search (records-sync, locals.crosses, purges.crosses, maps.crosses, std.crosses, sendable) depth 60
+database-sync : IsSync Database.the_row
+database-sync = search (records-sync, locals.crosses, purges.crosses, maps.crosses, std.crosses, sendable) depth 60
 
 base-send : IsSend Base.the_row
-base-send = search (content-send, content-sync, std.crosses, sendable) depth 60
+base-send = search (database-send, database-sync, std.crosses, sendable) depth 60
 
 base-sync : IsSync Base.the_row
-base-sync = search (content-send, content-sync, std.crosses, sendable) depth 60
+base-sync = search (database-send, database-sync, std.crosses, sendable) depth 60
 
 pub version-send : IsSend Version.the_row
-version-send = search (base-send, content-send, commands.crosses, maps.crosses, std.crosses, sendable) depth 60
+version-send = search (base-send, database-send, commands.crosses, maps.crosses, std.crosses, sendable) depth 60
 
 pub version-sync : IsSync Version.the_row
-version-sync = search (base-sync, content-sync, commands.crosses, maps.crosses, std.crosses, sendable) depth 60
+version-sync = search (base-sync, database-sync, commands.crosses, maps.crosses, std.crosses, sendable) depth 60
 
 -- for a search: what crosses, with Rust's own types
 pub ruleset crosses = (version-send, version-sync, std.crosses, sendable)

@@ -109,8 +109,8 @@ module _ (h : Chronicle) (seat : Seat) (c : Command) (is : IsHistory h) (is_seat
     pub view-pushed : (base : Database) → base ≡ h.base → chronicle_of base placed ≡ longer
     view-pushed base of_base i = record { base = of_base i; entries = same i }
 
-    pub IsVersion-pushed : (base content : Database) → base ≡ h.base → content ≡ act (now h) seat c → IsVersion base content placed
-    IsVersion-pushed base content of_base acted =
+    pub IsVersion-pushed : (base database : Database) → base ≡ h.base → database ≡ act (now h) seat c → IsVersion base database placed
+    IsVersion-pushed base database of_base acted =
         let view = view-pushed base of_base in
         record {
           places = is_placed ∙ ap (placed_from 1) (sym same);

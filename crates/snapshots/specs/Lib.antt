@@ -1,5 +1,5 @@
 pub mod Codes
 pub mod Listing
-pub mod Content
+pub mod Database
 pub mod Version
 pub mod Taken

@@ -31,7 +31,7 @@ pub record IsHistory (c : Chronicle) : Type 0 where
   pub numbers : (now c).update_seq ≤ c.base.update_seq + max_edits * length c.entries
   pub purges : (now c).purges.purge_seq ≤ c.base.purges.purge_seq + max_edits * length c.entries
 
-pub record IsVersion (base content : Database) (placed : List (ℕ × Entry)) : Type 0 where
+pub record IsVersion (base database : Database) (placed : List (ℕ × Entry)) : Type 0 where
   pub places : placed ≡ placed_from 1 (entries_of placed)
   pub history : IsHistory (chronicle_of base placed)
-  pub replayed : content ≡ now (chronicle_of base placed)
+  pub replayed : database ≡ now (chronicle_of base placed)

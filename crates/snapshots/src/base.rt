@@ -2,7 +2,7 @@
 ghost use Rattle.std.specs.Prelude.{◌≡◌, IfOk};
 ghost use Rattle.model.specs.Database.{empty_database};
 
-use crate::content::Content;
+use crate::database::Database;
 use cow_index::Shared;
 use std::alloc::AllocError;
 use std::marker::Model;
@@ -11,14 +11,14 @@ use std::marker::Model;
 #[derive(Drop)]
 pub(crate) struct Base {
     /// Nothing is kept of the empty database.
-    kept: Option<Shared<Content>>,
+    kept: Option<Shared<Database>>,
 }
 
 impl Model for Base {
     ghost use Rattle.std.specs.Coded.{codes};
     ghost use Rattle.model.specs.JsonCode.{coded_members};
     ghost use Rattle.model.specs.Database.{Database};
-    ghost use Rattle.snapshots.specs.Content.{base_of};
+    ghost use Rattle.snapshots.specs.Database.{base_of};
 
     ghost Value = { Database };
 
@@ -39,7 +39,7 @@ impl Base {
         ensures { IfOk result (λ b. b ≡ self.now) }
     {
         let kept = match &self.kept {
-            Some(content) => Some(content.share()?),
+            Some(database) => Some(database.share()?),
             None => None,
         };
         Ok(Base { kept })

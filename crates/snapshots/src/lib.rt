@@ -2,7 +2,7 @@
 #![tactic(auto)]
 
 mod base;
-mod content;
+mod database;
 mod record;
 mod records;
 #[cfg(test)]
@@ -10,6 +10,7 @@ mod tests;
 mod version;
 mod written;
 
+pub use database::Database;
 pub use record::Record;
 pub use records::Records;
 pub use version::Version;

@@ -248,17 +248,18 @@ fn first_answer(writes: &[Result<RevId, Refusal>]) -> Option<Answer> {
 
 fn standing(alloc: Global, version: &Version) -> Result<Stands, Fail> {
     let id = DocId::new(alloc, "a")?;
-    let counts = version.counts();
-    let record = version.record(&id);
+    let database = version.database();
+    let counts = database.counts();
+    let record = database.documents().get(&id);
     Ok(Stands {
         place: version.place(),
-        update_seq: version.update_seq(),
+        update_seq: database.documents().update_seq(),
         doc_count: counts.doc_count,
         doc_del_count: counts.doc_del_count,
-        revs_limit: version.revs_limit(),
+        revs_limit: database.revs_limit(),
         revisions: record.map_or(0, |record| record.tree().nodes().len()),
         seq: record.map_or(0, |record| record.seq()),
-        counter: version.local(&id).map_or(0, |local| local.counter),
+        counter: database.locals().get(&id).map_or(0, |local| local.counter),
     })
 }
 

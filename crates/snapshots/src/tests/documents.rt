@@ -139,7 +139,7 @@ fn merged_deletions_are_counted(rt: HostRuntime) -> Result<(), Fail> {
 fn winner(alloc: Global, changes: &[Change]) -> Result<Option<RevId>, Fail> {
     let version = changed(alloc, changes)?;
     let id = DocId::new(alloc, "a")?;
-    let record = version.record(&id);
+    let record = version.database().documents().get(&id);
     Ok(record.map(|record| record.tree().winner().rev))
 }
 

@@ -98,7 +98,7 @@ fn sessions_have_their_own_calls(rt: HostRuntime) -> Result<(), Fail> {
 
 /// The first document with a number above `since`.
 fn first_change(version: &Version, since: u64) -> Option<(u64, &str)> {
-    let (seq, (id, _)) = version.changed_since(since).next()?;
+    let (seq, (id, _)) = version.database().changed_since(since).next()?;
     Some((*seq, id.as_str()))
 }
 
@@ -124,18 +124,19 @@ fn changes_are_in_order_of_their_numbers(rt: HostRuntime) -> Result<(), Fail> {
 #[test]
 fn changes_are_counted(rt: HostRuntime) -> Result<(), Fail> {
     let version = three_edits(rt.alloc())?;
-    assert_eq!(rt; version.count_changed_since(0), 2);
-    assert_eq!(rt; version.count_changed_since(2), 1);
-    assert_eq!(rt; version.count_changed_since(3), 0);
-    assert_eq!(rt; version.count_changed_since(u64::MAX), 0);
-    assert_eq!(rt; version.counts().update_seq, 3);
+    assert_eq!(rt; version.database().count_changed_since(0), 2);
+    assert_eq!(rt; version.database().count_changed_since(2), 1);
+    assert_eq!(rt; version.database().count_changed_since(3), 0);
+    assert_eq!(rt; version.database().count_changed_since(u64::MAX), 0);
+    assert_eq!(rt; version.database().counts().update_seq, 3);
     Ok(())
 }
 
 /// The id of the first document and how many there are.
-fn first_of(version: &Version) -> Option<(&str, usize)> {
-    let (id, _) = version.documents().next()?;
-    Some((id.as_str(), version.documents().count()))
+fn first_of(version: &Version) -> Option<(&str, u64)> {
+    let documents = version.database().documents();
+    let (id, _) = documents.iter().next()?;
+    Some((id.as_str(), documents.len()))
 }
 
 #[test]
@@ -149,7 +150,13 @@ fn documents_are_in_order_of_their_ids(rt: HostRuntime) -> Result<(), Fail> {
 fn is_live_after(alloc: Global, changes: &[Change], id: &str) -> Result<bool, Fail> {
     let id = DocId::new(alloc, id)?;
     let version = changed(alloc, changes)?;
-    Ok(version.record(&id).is_some_and(Record::is_live))
+    Ok(
+        version
+            .database()
+            .documents()
+            .get(&id)
+            .is_some_and(Record::is_live),
+    )
 }
 
 #[test]
@@ -192,6 +199,6 @@ fn writes_are_done_in_order(rt: HostRuntime) -> Result<(), Fail> {
     let version = edited_twice(rt.alloc())?;
     assert_eq!(rt; answer_at(&version, 1), revision(FIRST));
     assert_eq!(rt; second_answer(&version), refused(Refusal::Conflict));
-    assert_eq!(rt; version.update_seq(), 1);
+    assert_eq!(rt; version.database().documents().update_seq(), 1);
     Ok(())
 }

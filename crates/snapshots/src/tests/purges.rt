@@ -119,7 +119,7 @@ fn push_record(text: &mut String, id: &DocId, record: &Record) -> Result<(), All
 }
 
 fn push_documents(text: &mut String, version: &Version) -> Result<(), AllocError> {
-    for (id, stored) in version.documents() {
+    for (id, stored) in version.database().documents().iter() {
         push_record(text, id, stored.get())?;
     }
     Ok(())
@@ -131,8 +131,8 @@ fn push_all(text: &mut String, version: &Version) -> Result<(), AllocError> {
     write!(
         text,
         " update {} purge {} ",
-        version.update_seq(),
-        version.purge_seq()
+        version.database().documents().update_seq(),
+        version.database().purges().purge_seq()
     )?;
     push_documents(text, version)
 }
@@ -218,7 +218,7 @@ fn compactions_keep_the_leaves_bodies(rt: HostRuntime) -> Result<(), Fail> {
 fn touched(version: &Version, marks: (u64, u64)) -> (Option<u64>, u64) {
     (
         version.touched_since(marks.0, marks.1),
-        version.count_purges_above(marks.1),
+        version.database().purges().count_above(marks.1),
     )
 }
 

@@ -9,32 +9,32 @@ use Rattle.snapshots.proofs.version.Version.act.Goals as goal
 
 pub act-requires : goal.act-requires
 act-requires c =
-    let content : c.in_ok-content.content ≡ now c.args.self.now = c.in_ok-content.ensures ∙ c.self.invariant.replayed ∙ ap now c.self.view_is in
+    let database : c.in_ok-database.database ≡ now c.args.self.now = c.in_ok-database.ensures ∙ c.self.invariant.replayed ∙ ap now c.self.view_is in
     let history : IsHistory c.args.self.now = subst IsHistory c.self.view_is c.self.invariant.history in
     record {
-      next = c.requires.next ∙ ap (λ (d : Database). calls_of d c.args.seat.session + 1) (sym content);
-      room = omega (arith, ap (λ (d : Database). d.update_seq) content, history.base.updates, history.numbers, c.requires.room);
-      log_room = omega (arith, ap (λ (d : Database). d.purges.purge_seq) content, history.base.purges, history.purges, c.requires.room);
+      next = c.requires.next ∙ ap (λ (d : Database). calls_of d c.args.seat.session + 1) (sym database);
+      room = omega (arith, ap (λ (d : Database). d.update_seq) database, history.base.updates, history.numbers, c.requires.room);
+      log_room = omega (arith, ap (λ (d : Database). d.purges.purge_seq) database, history.base.purges, history.purges, c.requires.room);
     }
 
 pub invariant_of-result : goal.invariant_of-result
 invariant_of-result c =
     let h : Chronicle = c.args.self.now in
-    let content : c.in_ok-content.content ≡ now h = c.in_ok-content.ensures ∙ c.self.invariant.replayed ∙ ap now c.self.view_is in
+    let database : c.in_ok-database.database ≡ now h = c.in_ok-database.ensures ∙ c.self.invariant.replayed ∙ ap now c.self.view_is in
     let history : IsHistory h = subst IsHistory c.self.view_is c.self.invariant.history in
-    let entry = entry_of-is (now h) c.args.seat c.args.command.now c.in_ok-command.command c.in_ok-reply.reply c.in_ok-command.ensures.same (c.in_ok-reply.ensures.reply ∙ ap (λ (d : Database). reply_to d c.args.command.now) content) in
+    let entry = entry_of-is (now h) c.args.seat c.args.command.now c.in_ok-command.command c.in_ok-reply.reply c.in_ok-command.ensures.same (c.in_ok-reply.ensures.reply ∙ ap (λ (d : Database). reply_to d c.args.command.now) database) in
     IsVersion-pushed h c.args.seat c.args.command.now history c.in_ok-reply.ensures.limits.0 c.in_ok-reply.ensures.limits.1 c.requires.next c.requires.room
     c.in_ok-history.history.entries (c.in_ok-history.ensures ∙ ap (λ (e : Entry). placed_from 1 (h.entries ++ e ∷ [])) entry)
     c.in_ok-share.field-0 c.act.new.self
     (c.in_ok-share.ensures ∙ ap (λ (k : Chronicle). k.base) c.self.view_is)
-    (c.in_ok-reply.ensures.after ∙ ap (λ (d : Database). act d c.args.seat c.args.command.now) content)
+    (c.in_ok-reply.ensures.after ∙ ap (λ (d : Database). act d c.args.seat c.args.command.now) database)
 
 pub returns : goal.returns
 returns c =
     let h : Chronicle = c.args.self.now in
-    let content : c.in_ok-content.content ≡ now h = c.in_ok-content.ensures ∙ c.self.invariant.replayed ∙ ap now c.self.view_is in
+    let database : c.in_ok-database.database ≡ now h = c.in_ok-database.ensures ∙ c.self.invariant.replayed ∙ ap now c.self.view_is in
     let history : IsHistory h = subst IsHistory c.self.view_is c.self.invariant.history in
-    let entry = entry_of-is (now h) c.args.seat c.args.command.now c.in_ok-command.command c.in_ok-reply.reply c.in_ok-command.ensures.same (c.in_ok-reply.ensures.reply ∙ ap (λ (d : Database). reply_to d c.args.command.now) content) in
+    let entry = entry_of-is (now h) c.args.seat c.args.command.now c.in_ok-command.command c.in_ok-reply.reply c.in_ok-command.ensures.same (c.in_ok-reply.ensures.reply ∙ ap (λ (d : Database). reply_to d c.args.command.now) database) in
     record {
       pushed = view-pushed h c.args.seat c.args.command.now history c.in_ok-reply.ensures.limits.0 c.in_ok-reply.ensures.limits.1 c.requires.next c.requires.room
           c.in_ok-history.history.entries (c.in_ok-history.ensures ∙ ap (λ (e : Entry). placed_from 1 (h.entries ++ e ∷ [])) entry)

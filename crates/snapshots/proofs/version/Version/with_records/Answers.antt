@@ -10,14 +10,14 @@ use Rattle.snapshots.proofs.version.Version.with_records.Goals as goal
 pub invariant_of-result : goal.invariant_of-result
 invariant_of-result c =
     let h : Chronicle = c.args.self.now in
-    let content : c.in_ok-content.content ≡ now h = c.in_ok-content.ensures ∙ c.self.invariant.replayed ∙ ap now c.self.view_is in
+    let database : c.in_ok-database.database ≡ now h = c.in_ok-database.ensures ∙ c.self.invariant.replayed ∙ ap now c.self.view_is in
     let history : IsHistory h = subst IsHistory c.self.view_is c.self.invariant.history in
     let entry = compact_entry-is (now h) c.args.seat c.compact.result c.new.result c.compact.ensures c.new.ensures.reply in
     IsVersion-pushed h c.args.seat Compact history c.in_ok-compact_with.ensures.limits tt c.requires.next c.requires.room
     c.in_ok-history.history.entries (c.in_ok-history.ensures ∙ ap (λ (e : Entry). placed_from 1 (h.entries ++ e ∷ [])) entry)
     c.in_ok-share.field-0 c.compact_with.new.self
     (c.in_ok-share.ensures ∙ ap (λ (k : Chronicle). k.base) c.self.view_is)
-    (c.in_ok-compact_with.ensures.after ∙ ap (λ (d : Database). act d c.args.seat Compact) content)
+    (c.in_ok-compact_with.ensures.after ∙ ap (λ (d : Database). act d c.args.seat Compact) database)
 
 pub returns : goal.returns
 returns c =

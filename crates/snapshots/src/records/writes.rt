@@ -1,0 +1,150 @@
+//! What puts documents into records and takes them out, each into a new value.
+ghost use Rattle.std.specs.Prelude.{◌≡◌, ◌<◌, ◌≤◌, ◌+◌, Some, IfOk, option_copied};
+ghost use Rattle.std.specs.Ordering.{nat_cmp};
+ghost use Rattle.std.specs.Cmp.Lexicographic.{slice_cmp};
+ghost use Rattle.std.specs.FinMap.Entries.{put as put_entry};
+ghost use Rattle.model.specs.Map.{put as put_in, refine, without};
+ghost use Rattle.model.specs.Database.{stripped};
+ghost use Rattle.snapshots.specs.Listing.{IsFree, placed, updated, live_in, without_number};
+
+use crate::record::Record;
+use crate::records::{Numbers, Records, found};
+use cow_index::{CowMap, Shared};
+use document_id::DocId;
+use revision_tree::RevTree;
+use std::alloc::{AllocError, Global};
+
+impl Records {
+    /// The same documents, under a larger number.
+    pub fn up_to(self, update_seq: u64) -> Records
+        requires { self.update_seq ≤ update_seq }
+        ensures { result ≡ record self { update_seq = update_seq } }
+    {
+        Records {
+            by_id: self.by_id,
+            by_number: self.by_number,
+            live: self.live,
+            update_seq,
+        }
+    }
+
+    /// With this record of the document, in place of the one that it had. No other document has
+    /// its number.
+    pub fn put(&self, alloc: Global, id: &DocId, stored: Record) -> Result<Records, AllocError>
+        requires number { (0 < stored.seq) × (stored.seq ≤ self.now.update_seq) }
+        requires free { IsFree self.now.docs id.now stored.seq }
+        ensures { IfOk result (λ d. d ≡ record self.now { docs = put_in self.now.docs id.now stored }) }
+    {
+        let update_seq = self.update_seq();
+        self.placed(alloc, id, stored, update_seq)
+    }
+
+    /// With this tree of the document, at the next update number.
+    pub(crate) fn update(
+        &self,
+        alloc: Global,
+        id: &DocId,
+        tree: RevTree,
+    ) -> Result<Records, AllocError>
+        requires { self.now.update_seq < u64.MAX }
+        ensures { IfOk result (λ d. d ≡ updated self.now id.now tree) }
+    {
+        let _index = &self.by_id;
+        let seq = self.update_seq + 1;
+        let updated = self.placed(alloc, id, Record::new(tree, seq), seq)?;
+        Ok(updated)
+    }
+
+    fn placed(
+        &self,
+        alloc: Global,
+        id: &DocId,
+        stored: Record,
+        update_seq: u64,
+    ) -> Result<Records, AllocError>
+        requires more { self.now.update_seq ≤ update_seq }
+        requires number { (0 < stored.seq) × (stored.seq ≤ update_seq) }
+        requires free { IsFree self.now.docs id.now stored.seq }
+        ensures { IfOk result (λ d. d ≡ placed self.now id.now stored update_seq) }
+    {
+        let seq = stored.seq();
+        let old = found(&self.by_id, id);
+        let live = self.live - live_count(old) + live_count(Some(&stored));
+        let stored = Shared::new(alloc, stored)?;
+        Ok(Records {
+            by_number: renumbered(&self.by_number, old, id, seq, &stored)?,
+            by_id: with_record(&self.by_id, id, stored)?,
+            live,
+            update_seq,
+        })
+    }
+
+    /// Each record stripped.
+    pub(crate) fn stripped(&self, alloc: Global) -> Result<Records, AllocError>
+        ensures { IfOk result (λ d. d ≡ record self.now { docs = refine (λ id r. Some (stripped r)) self.now.docs }) }
+    {
+        let _index = &self.by_id;
+        let mut copied = Records::new(alloc).up_to(self.update_seq());
+        for (id, stored) in self.iter() {
+            copied = copied.put(alloc, id, stored.get().stripped(alloc)?)?;
+        }
+        Ok(copied)
+    }
+
+    /// Without the document, if it is there.
+    pub fn remove(&self, id: &DocId) -> Result<Records, AllocError>
+        ensures { IfOk result (λ d. d ≡ record self.now { docs = without self.now.docs id.now }) }
+    {
+        let old = found(&self.by_id, id);
+        Ok(Records {
+            by_id: self.by_id.remove(id)?,
+            by_number: without_old(&self.by_number, old)?,
+            live: self.live - live_count(old),
+            update_seq: self.update_seq,
+        })
+    }
+}
+
+fn with_record(
+    by_id: &CowMap<DocId, Shared<Record>>,
+    id: &DocId,
+    stored: Shared<Record>,
+) -> Result<CowMap<DocId, Shared<Record>>, AllocError>
+    ensures { IfOk result (λ m. m.entries ≡ put_entry (slice_cmp nat_cmp) id.now stored by_id.now.entries) }
+{
+    by_id.insert(id.share()?, stored)
+}
+
+/// 1 for a live document, and else 0.
+fn live_count(stored: Option<&Record>) -> u64
+    ensures { result ≡ live_in (option_copied stored.entry) }
+{
+    match stored {
+        Some(stored) if stored.is_live() => 1,
+        _ => 0,
+    }
+}
+
+/// The index with the record at `seq`, and nothing at the number of the one before.
+fn renumbered(
+    numbers: &Numbers,
+    old: Option<&Record>,
+    id: &DocId,
+    seq: u64,
+    stored: &Shared<Record>,
+) -> Result<Numbers, AllocError>
+    ensures { IfOk result (λ m. m.entries ≡ put_entry nat_cmp seq (id.now, stored.now)
+        (without_number (option_copied old.entry) numbers.now.entries)) }
+{
+    let numbered = (id.share()?, stored.share()?);
+    without_old(numbers, old)?.insert(seq, numbered)
+}
+
+fn without_old(numbers: &Numbers, old: Option<&Record>) -> Result<Numbers, AllocError>
+    ensures { IfOk result (λ m. m.entries ≡ without_number (option_copied old.entry) numbers.now.entries) }
+{
+    match old {
+        Some(old) => numbers.remove(&old.seq()),
+        None => numbers.share(),
+    }
+}
