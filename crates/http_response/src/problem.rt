@@ -1,22 +1,21 @@
 //! Why a write or a query was refused, as a body tells it.
 
-ghost use Rattle.std.specs.Prelude.{◌≡◌, IfOk, string_bytes};
+ghost use Rattle.std.specs.Prelude.{◌≡◌};
 ghost use Rattle.commands.specs.Absent.{absent_of};
 ghost use Rattle.commands.specs.Refusal.{refusal_of};
-ghost use Rattle.http_response.specs.Problem.{absent_problem, problem_text, write_error, write_problem, write_reason, write_status};
+ghost use Rattle.http_response.specs.Problem.{absent_problem, write_error, write_problem, write_reason, write_status};
 
-use crate::response::Status;
+use crate::status::StatusCode;
 use commands::{AbsentKind, RefusalKind};
-use std::alloc::{AllocError, Global};
 
 /// The status of a refused write.
-pub(crate) fn status_of(refusal: RefusalKind) -> Status
+pub(crate) fn status_of(refusal: RefusalKind) -> StatusCode
     ensures { result ≡ write_status (refusal_of refusal) }
 {
     match refusal {
-        RefusalKind::Missing | RefusalKind::Deleted => Status::NotFound,
+        RefusalKind::Missing | RefusalKind::Deleted => StatusCode::NotFound,
         RefusalKind::Conflict | RefusalKind::BadHistory | RefusalKind::GenerationLimit => {
-            Status::Conflict
+            StatusCode::Conflict
         }
     }
 }
@@ -47,16 +46,20 @@ pub(crate) fn reason_of(refusal: RefusalKind) -> &'static str
 }
 
 /// The body that tells of a refused write.
-pub(crate) fn refusal_text(alloc: Global, refusal: RefusalKind) -> Result<String, AllocError>
-    ensures { IfOk result (λ text. string_bytes text ≡ write_problem (refusal_of refusal)) }
+pub(crate) fn body_of_refusal(refusal: RefusalKind) -> &'static str
+    ensures { result.now ≡ write_problem (refusal_of refusal) }
 {
-    problem(alloc, error_of(refusal), reason_of(refusal))
-}
-
-fn problem(alloc: Global, error: &str, reason: &str) -> Result<String, AllocError>
-    ensures { IfOk result (λ text. string_bytes text ≡ problem_text error.now reason.now) }
-{
-    format!(in alloc; "{{\"error\":\"{error}\",\"reason\":\"{reason}\"}}")
+    match refusal {
+        RefusalKind::Conflict => r#"{"error":"conflict","reason":"Document update conflict."}"#,
+        RefusalKind::BadHistory => {
+            r#"{"error":"bad_history","reason":"A known revision has another parent."}"#
+        }
+        RefusalKind::Missing => r#"{"error":"not_found","reason":"missing"}"#,
+        RefusalKind::Deleted => r#"{"error":"not_found","reason":"deleted"}"#,
+        RefusalKind::GenerationLimit => {
+            r#"{"error":"generation","reason":"The generation limit is reached."}"#
+        }
+    }
 }
 
 /// The body that tells that a document is not found.
