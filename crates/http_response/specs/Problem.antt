@@ -8,10 +8,10 @@ use Rattle.document_json.specs.declared.fault.Reason.{Reason}
 use Rattle.document_json.specs.declared.fault.Reason.TheVariants as reason
 use Rattle.model.specs.Command as model
 use Rattle.model.specs.Query as query
-use Rattle.http_response.specs.declared.response.Status.{Status}
-use Rattle.http_response.specs.declared.response.Status.TheVariants as status
-use Rattle.http_response.specs.declared.response.Allow.{Allow}
-use Rattle.http_response.specs.declared.response.Allow.TheVariants as allow
+use Rattle.http_response.specs.declared.status.StatusCode.{StatusCode}
+use Rattle.http_response.specs.declared.status.StatusCode.TheVariants as status
+use Rattle.http_response.specs.declared.head.Allow.{Allow}
+use Rattle.http_response.specs.declared.head.Allow.TheVariants as allow
 
 -- the name of an error, and its reason
 -- CouchDB: "JSON Structure Reference", "CouchDB Error Status"
@@ -31,7 +31,7 @@ reason_name reason.Member = codes "member"
 -- ---- a request that is refused
 
 -- CouchDB: "API Basics", "HTTP Status Codes"
-abbrev pub refusal_status : Rejection → Status
+abbrev pub refusal_status : Rejection → StatusCode
 refusal_status refusal.Missing = status.NotFound
 refusal_status (refusal.MethodNotAllowed route) = status.MethodNotAllowed
 refusal_status (refusal.BadRequest reason) = status.BadRequest
@@ -50,7 +50,7 @@ refusal_body (refusal.BadRequest reason) = problem_text (codes "bad_request") (r
 -- ---- bytes that are refused, after which the connection closes
 
 -- RFC 9110, 15.5 "Client Error 4xx"; RFC 6585, 5 "431 Request Header Fields Too Large"
-abbrev pub closing_status : FramingFault → Status
+abbrev pub closing_status : FramingFault → StatusCode
 closing_status fault.Head = status.BadRequest
 closing_status fault.LargeHead = status.RequestHeaderFieldsTooLarge
 closing_status fault.TransferEncoding = status.LengthRequired
@@ -67,7 +67,7 @@ closing_body fault.LargeBody = problem_text (codes "too_large") (codes "body")
 -- ---- a write that is refused
 
 -- CouchDB: "API Basics", "HTTP Status Codes"
-abbrev pub write_status : model.Refusal → Status
+abbrev pub write_status : model.Refusal → StatusCode
 write_status model.Conflict = status.Conflict
 write_status model.BadHistory = status.Conflict
 write_status model.Missing = status.NotFound

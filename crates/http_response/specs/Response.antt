@@ -1,11 +1,15 @@
 -- The text of a response: a status line, headers and a body.
-use Rattle.std.specs.Prelude.{ℕ, List, [], ◌∷◌, ◌++◌, length, map, codes}
+use Rattle.std.specs.Prelude.{ℕ, List, [], ◌∷◌, ◌++◌, length, codes, string_bytes}
+use Rattle.std.specs.List.{flat_map}
 use Rattle.std.specs.Fmt.{decimal}
 use Rattle.http_routes.specs.Routes.{methods_of, name_of}
-use Rattle.http_response.specs.declared.response.Status.{Status}
-use Rattle.http_response.specs.declared.response.Status.TheVariants as status
-use Rattle.http_response.specs.declared.response.Allow.{Allow}
-use Rattle.http_response.specs.declared.response.Allow.TheVariants as allow
+use Rattle.http_routes.specs.declared.Method.{Method}
+use Rattle.http_response.specs.declared.body.BodyText.{BodyText}
+use Rattle.http_response.specs.declared.body.BodyText.TheVariants as body_text
+use Rattle.http_response.specs.declared.status.StatusCode.{StatusCode}
+use Rattle.http_response.specs.declared.status.StatusCode.TheVariants as status
+use Rattle.http_response.specs.declared.head.Allow.{Allow}
+use Rattle.http_response.specs.declared.head.Allow.TheVariants as allow
 use Rattle.http_response.specs.declared.connection.Connection.{Connection}
 use Rattle.http_response.specs.declared.connection.Connection.TheVariants as connection
 
@@ -20,7 +24,7 @@ line text = text ++ crlf
 
 -- the code and the reason
 -- RFC 9112, 4 "Status Line"
-abbrev pub status_text : Status → List ℕ
+abbrev pub status_text : StatusCode → List ℕ
 status_text status.Ok = codes "200 OK"
 status_text status.Created = codes "201 Created"
 status_text status.BadRequest = codes "400 Bad Request"
@@ -33,18 +37,21 @@ status_text status.RequestHeaderFieldsTooLarge = codes "431 Request Header Field
 status_text status.ServiceUnavailable = codes "503 Service Unavailable"
 status_text status.InsufficientStorage = codes "507 Insufficient Storage"
 
--- words with `, ` between them
+-- one more method, behind others
+abbrev pub next_listed : Method → List ℕ
+next_listed method = codes ", " ++ name_of method
+
+-- the names of methods, with `, ` between them
 -- RFC 9110, 5.6.1 "Lists (#rule ABNF Extension)"
-abbrev pub listed : List (List ℕ) → List ℕ
+abbrev pub listed : List Method → List ℕ
 listed [] = []
-listed (word ∷ []) = word
-listed (word ∷ next ∷ words) = word ++ (codes ", " ++ listed (next ∷ words))
+listed (method ∷ methods) = name_of method ++ flat_map next_listed methods
 
 -- the line that says which methods a route takes
 -- RFC 9110, 10.2.1 "Allow"
 abbrev pub allow_line : Allow → List ℕ
 allow_line allow.Unsaid = []
-allow_line (allow.Methods route) = line (codes "Allow: " ++ listed (map name_of (methods_of route)))
+allow_line (allow.Methods route) = line (codes "Allow: " ++ listed (methods_of route))
 
 -- the line that says that the connection closes
 -- RFC 9110, 7.6.1 "Connection"
@@ -61,9 +68,18 @@ content_head = crlf ++ line (codes "Content-Type: application/json") ++ codes "C
 abbrev pub place_head : List ℕ
 place_head = crlf ++ codes "Couch-Place: "
 
--- the text of a response with this body, at a place of the history
+-- the head of a response at a place of the history, with a body of so many bytes
+abbrev pub head_text : StatusCode → ℕ → ℕ → Allow → Connection → List ℕ
+head_text status len place allow connection =
+    ((((((((codes "HTTP/1.1 " ++ status_text status) ++ content_head) ++ decimal len) ++ place_head) ++ decimal place)
+    ++ crlf) ++ allow_line allow) ++ connection_line connection) ++ crlf
+
+-- the text of a response with this body
 -- RFC 9112, 2.1 "Message Format"
-abbrev pub response_text : Status → ℕ → Allow → Connection → List ℕ → List ℕ
-response_text status place allow connection body =
-    codes "HTTP/1.1 " ++ (status_text status ++ (content_head ++ (decimal (length body) ++ (place_head ++ (decimal place
-    ++ (crlf ++ (allow_line allow ++ (connection_line connection ++ (crlf ++ body)))))))))
+abbrev pub response_text : StatusCode → ℕ → Allow → Connection → List ℕ → List ℕ
+response_text status place allow connection body = head_text status (length body) place allow connection ++ body
+
+-- the text of a body
+abbrev pub bytes_of : BodyText → List ℕ
+bytes_of (body_text.Fixed text) = text.now
+bytes_of (body_text.Made text) = string_bytes text

@@ -1,31 +1,19 @@
 -- The texts of responses, each at a place of the history.
-use Rattle.std.specs.Prelude.{ℕ, List, ◌++◌, Option, option_map, codes}
+use Rattle.std.specs.Prelude.{ℕ, List, Option, option_map, codes}
 use Rattle.model.specs.Command.{Command, Reply}
 use Rattle.model.specs.Query.{Query, Answer}
 use Rattle.http_framing.specs.declared.FramingFault.{FramingFault}
-use Rattle.http_framing.specs.declared.FramingFault.TheVariants as fault
 use Rattle.http_request.specs.declared.asked.Form.{Form}
 use Rattle.http_request.specs.declared.rejection.Rejection.{Rejection}
-use Rattle.http_response.specs.Response.{response_text, status_text, content_head, place_head, connection_line, crlf}
+use Rattle.http_response.specs.Response.{response_text}
 use Rattle.http_response.specs.Problem.{problem_text, refusal_status, refusal_allow, refusal_body, closing_status, closing_body}
 use Rattle.http_response.specs.Told.{Told, reply_told, answer_told}
-use Rattle.http_response.specs.declared.response.Status.{Status}
-use Rattle.http_response.specs.declared.response.Status.TheVariants as status
-use Rattle.http_response.specs.declared.response.Allow.TheVariants as allow
+use Rattle.http_response.specs.declared.status.StatusCode.TheVariants as status
+use Rattle.http_response.specs.declared.head.Allow.TheVariants as allow
 use Rattle.http_response.specs.declared.connection.Connection.{Connection}
 use Rattle.http_response.specs.declared.connection.Connection.TheVariants as connection
 use Rattle.http_response.specs.declared.lost.Lost.{Lost}
 use Rattle.http_response.specs.declared.lost.Lost.TheVariants as lost
-
--- ---- responses that take no memory, in parts
-
--- the head as far as the place, with a length in digits
-abbrev pub before_place : Status → List ℕ → List ℕ
-before_place status digits = codes "HTTP/1.1 " ++ (status_text status ++ (content_head ++ (digits ++ place_head)))
-
--- what goes on after the place, where the connection closes
-abbrev pub after_place : List ℕ → List ℕ
-after_place body = crlf ++ (connection_line connection.Close ++ (crlf ++ body))
 
 -- ---- what is told of no call of the database
 
@@ -37,14 +25,6 @@ refusal_text place connection refusal =
 -- bytes that are refused, with all that follows them
 unfoldable pub closing_text : ℕ → FramingFault → List ℕ
 closing_text place fault = response_text (closing_status fault) place allow.Unsaid connection.Close (closing_body fault)
-
--- the length of its body, in digits
-abbrev pub closing_length : FramingFault → List ℕ
-closing_length fault.Head = codes "39"
-closing_length fault.LargeHead = codes "37"
-closing_length fault.TransferEncoding = codes "68"
-closing_length fault.ContentLength = codes "41"
-closing_length fault.LargeBody = codes "37"
 
 -- `GET /`
 -- CouchDB: GET /
@@ -81,8 +61,3 @@ no_memory_body lost = problem_text (codes "no_memory") (lost_name lost)
 -- RFC 4918, 11.5 "507 Insufficient Storage"
 unfoldable pub no_memory_text : ℕ → Lost → List ℕ
 no_memory_text place lost = response_text status.InsufficientStorage place allow.Unsaid connection.Close (no_memory_body lost)
-
--- its length, in digits
-abbrev pub no_memory_length : Lost → List ℕ
-no_memory_length lost.Call = codes "37"
-no_memory_length lost.Reply = codes "38"

@@ -15,11 +15,11 @@ use Rattle.http_response.specs.AllDocs.{all_docs_data}
 use Rattle.http_response.specs.Changes.{page_data}
 use Rattle.http_response.specs.Differences.{differences_data}
 use Rattle.http_response.specs.Problem.{write_status, write_problem, absent_problem}
-use Rattle.http_response.specs.declared.response.Status.{Status}
-use Rattle.http_response.specs.declared.response.Status.TheVariants as status
+use Rattle.http_response.specs.declared.status.StatusCode.{StatusCode}
+use Rattle.http_response.specs.declared.status.StatusCode.TheVariants as status
 
 abbrev pub Told : Type 0
-Told = Status × List ℕ
+Told = StatusCode × List ℕ
 
 -- that it is done
 -- CouchDB: PUT /{db}/_revs_limit
@@ -27,7 +27,7 @@ abbrev pub done : Told
 done = (status.Ok, codes "{\"ok\":true}")
 
 -- a list
-abbrev pub told_list : Status → List Data → Told
+abbrev pub told_list : StatusCode → List Data → Told
 told_list status items = (status, compact_text (array (items_of items)))
 
 -- a write that was refused
@@ -35,13 +35,13 @@ abbrev pub told_refused : Refusal → Told
 told_refused refusal = (write_status refusal, write_problem refusal)
 
 -- one write
-abbrev pub told_one : Status → Id → Result Rev Refusal → Told
+abbrev pub told_one : StatusCode → Id → Result Rev Refusal → Told
 told_one status id (Ok rev) = (status, compact_text (written_data id rev))
 told_one status id (Err refusal) = told_refused refusal
 
 -- the one write that was asked for
 -- CouchDB: PUT /{db}/{docid} and DELETE /{db}/{docid}
-abbrev pub told_single : Status → List Edit → List (Result Rev Refusal) → Option Told
+abbrev pub told_single : StatusCode → List Edit → List (Result Rev Refusal) → Option Told
 told_single status (edit ∷ []) (outcome ∷ []) = Some (told_one status edit.id outcome)
 told_single status edits outcomes = None
 
@@ -58,7 +58,7 @@ abbrev pub told_merges : List Merge → List (Result Rev Refusal) → Told
 told_merges merges outcomes = told_list status.Created (merges_data merges outcomes)
 
 -- a write of a local document
-abbrev pub told_local_one : Status → Id → Result ℕ Refusal → Told
+abbrev pub told_local_one : StatusCode → Id → Result ℕ Refusal → Told
 told_local_one status id (Ok counter) = (status, compact_text (local_written_data id counter))
 told_local_one status id (Err refusal) = told_refused refusal
 
@@ -79,19 +79,27 @@ reply_told form command reply = None
 
 -- ---- answers
 
+-- what was found
+abbrev pub told_found : List ℕ → Told
+told_found text = (status.Ok, text)
+
+-- that a document is not found
+abbrev pub told_absent : Absent → Told
+told_absent absent = (status.NotFound, absent_problem absent)
+
 -- CouchDB: GET /{db}/{docid}
 abbrev pub found_told : Result Document Absent → Told
-found_told (Ok document) = (status.Ok, compact_text (document_data document))
-found_told (Err absent) = (status.NotFound, absent_problem absent)
+found_told (Ok document) = told_found (compact_text (document_data document))
+found_told (Err absent) = told_absent absent
 
 -- the text of a value
 abbrev pub told_data : Data → Told
-told_data d = (status.Ok, compact_text d)
+told_data d = told_found (compact_text d)
 
 -- CouchDB: GET /{db}/_local/{docid}
 abbrev pub local_told : Id → Option (ℕ × Body) → Told
 local_told id (Some local) = told_data (local_data id local)
-local_told id None = (status.NotFound, absent_problem IsMissing)
+local_told id None = told_absent IsMissing
 
 -- an answer to a query, where such queries are answered so
 abbrev pub answer_told : Query → Answer → Option Told

@@ -4,17 +4,20 @@ ghost use Rattle.std.specs.Prelude.{◌≡◌, option_map, IfOk, string_bytes};
 ghost use Rattle.std.specs.Arc.{arc_value};
 ghost use Rattle.queries.specs.Answer.{answer_of};
 ghost use Rattle.queries.specs.Query.{query_of};
+ghost use Rattle.http_response.specs.Response.{bytes_of};
 ghost use Rattle.http_response.specs.Texts.{answer_text};
-ghost use Rattle.http_response.specs.Told.{answer_told, found_told, local_told};
+ghost use Rattle.http_response.specs.Told.{answer_told, found_told, local_told, told_absent, told_found};
 
 use crate::all_docs::all_docs_text;
+use crate::body::BodyText;
 use crate::changes::page_text;
 use crate::connection::Connection;
 use crate::differences::differences_text;
 use crate::document::{all_opened_text, document_text};
 use crate::local::local_text;
 use crate::problem::body_of_absent;
-use crate::response::{Status, plain_response};
+use crate::response::Response;
+use crate::status::StatusCode;
 use crate::written::{counts_text, number_text};
 use document_id::DocId;
 use json_profile::Body;
@@ -31,80 +34,87 @@ pub fn answer(
     connection: Connection,
     query: &Query,
     answer: &Answer,
-) -> Result<Option<String>, AllocError>
-    ensures text { IfOk result (λ text. option_map string_bytes text
-        ≡ answer_text place connection query.now answer.now) }
+) -> Result<Option<Response>, AllocError>
+    ensures text { IfOk result (λ response. response ≡ answer_text place connection query.now answer.now) }
 {
     let Some((status, body)) = tell(alloc, query.kind(), answer.kind())? else {
         return Ok(None);
     };
-    let text = plain_response(alloc, status, place, connection, body.as_str())?;
-    Ok(Some(text))
+    Ok(Some(Response::plain(status, place, connection, body)))
 }
 
 fn tell(
     alloc: Global,
     query: &QueryKind,
     answer: &AnswerKind,
-) -> Result<Option<(Status, String)>, AllocError>
-    ensures { IfOk result (λ told. option_map (λ t. (t.0, string_bytes t.1)) told
+) -> Result<Option<(StatusCode, BodyText)>, AllocError>
+    ensures { IfOk result (λ told. option_map (λ t. (t.0, bytes_of t.1)) told
         ≡ answer_told (query_of query.now) (answer_of answer.now)) }
 {
     match (query, answer) {
         (QueryKind::Get { .. }, AnswerKind::Found(found)) => Ok(Some(tell_found(alloc, found)?)),
         (QueryKind::OpenRevs { .. }, AnswerKind::Opened(opened)) => {
-            Ok(Some((Status::Ok, all_opened_text(alloc, opened)?)))
+            Ok(Some(tell_text(all_opened_text(alloc, opened)?)))
         }
         (QueryKind::RevsDiff(_), AnswerKind::Differences(differences)) => {
-            Ok(Some((Status::Ok, differences_text(alloc, differences)?)))
+            Ok(Some(tell_text(differences_text(alloc, differences)?)))
         }
         (QueryKind::Changes { .. }, AnswerKind::Changed(page)) => {
-            Ok(Some((Status::Ok, page_text(alloc, page)?)))
+            Ok(Some(tell_text(page_text(alloc, page)?)))
         }
         (QueryKind::AllDocuments, AnswerKind::Documents(documents)) => {
-            Ok(Some((Status::Ok, all_docs_text(alloc, documents)?)))
+            Ok(Some(tell_text(all_docs_text(alloc, documents)?)))
         }
         (QueryKind::Info, AnswerKind::Counted(counts)) => {
-            Ok(Some((Status::Ok, counts_text(alloc, counts)?)))
+            Ok(Some(tell_text(counts_text(alloc, counts)?)))
         }
         (QueryKind::GetLocal(id), AnswerKind::FoundLocal(found)) => {
             Ok(Some(tell_local(alloc, id, found)?))
         }
         (QueryKind::RevsLimit, AnswerKind::Limit(limit)) => {
-            Ok(Some((Status::Ok, number_text(alloc, *limit)?)))
+            Ok(Some(tell_text(number_text(alloc, *limit)?)))
         }
         _ => Ok(None),
     }
+}
+
+/// Tells of what was found.
+fn tell_text(text: String) -> (StatusCode, BodyText)
+    ensures { (result.0, bytes_of result.1) ≡ told_found (string_bytes text) }
+{
+    (StatusCode::Ok, BodyText::Made(text))
+}
+
+/// Tells that a document is not found.
+fn tell_absent(absent: Absent) -> (StatusCode, BodyText)
+    ensures { (result.0, bytes_of result.1) ≡ told_absent absent }
+{
+    let body = body_of_absent(absent);
+    (StatusCode::NotFound, BodyText::Fixed(body))
 }
 
 fn tell_local(
     alloc: Global,
     id: &DocId,
     found: &Option<(u32, Arc<Body>)>,
-) -> Result<(Status, String), AllocError>
-    ensures { IfOk result (λ told. (told.0, string_bytes told.1)
+) -> Result<(StatusCode, BodyText), AllocError>
+    ensures { IfOk result (λ told. (told.0, bytes_of told.1)
         ≡ local_told id.now (option_map (λ l. (l.0, arc_value l.1)) found.now)) }
 {
     match found {
-        Some((counter, body)) => Ok((Status::Ok, local_text(alloc, id, *counter, body)?)),
-        None => {
-            let body = body_of_absent(Absent::IsMissing);
-            Ok((Status::NotFound, String::from_str(alloc, body)?))
-        }
+        Some((counter, body)) => Ok(tell_text(local_text(alloc, id, *counter, body)?)),
+        None => Ok(tell_absent(Absent::IsMissing)),
     }
 }
 
 fn tell_found(
     alloc: Global,
     found: &Result<Document, Absent>,
-) -> Result<(Status, String), AllocError>
-    ensures { IfOk result (λ told. (told.0, string_bytes told.1) ≡ found_told found.now) }
+) -> Result<(StatusCode, BodyText), AllocError>
+    ensures { IfOk result (λ told. (told.0, bytes_of told.1) ≡ found_told found.now) }
 {
     match found {
-        Ok(document) => Ok((Status::Ok, document_text(alloc, document)?)),
-        Err(absent) => {
-            let body = body_of_absent(*absent);
-            Ok((Status::NotFound, String::from_str(alloc, body)?))
-        }
+        Ok(document) => Ok(tell_text(document_text(alloc, document)?)),
+        Err(absent) => Ok(tell_absent(*absent)),
     }
 }

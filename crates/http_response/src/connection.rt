@@ -1,10 +1,7 @@
 //! What a response says of its connection.
 
-ghost use Rattle.std.specs.Prelude.{Some};
+ghost use Rattle.std.specs.Prelude.{◌≡◌, ◌≤◌, length};
 ghost use Rattle.http_response.specs.Response.{connection_line};
-
-use std::fmt;
-use std::fmt::Write;
 
 /// Whether the connection stays open.
 #[derive(Clone, Copy, Debug, PartialEq, Eq)]
@@ -13,13 +10,15 @@ pub enum Connection {
     Close,
 }
 
-impl fmt::Display for Connection {
-    ghost output = { λ c. Some (connection_line c) };
-
-    fn fmt<W: fmt::Write>(&self, f: &mut fmt::Formatter<W>) -> fmt::Result {
-        f.write_str(match self {
+impl Connection {
+    /// The line of a head that says so, if there is one.
+    pub(crate) fn line(self) -> &'static str
+        ensures text { result.now ≡ connection_line self }
+        ensures short { length result.now ≤ 19 }
+    {
+        match self {
             Connection::Open => "",
             Connection::Close => "Connection: close\r\n",
-        })
+        }
     }
 }

@@ -1,39 +1,37 @@
 //! Responses that tell nothing of the database.
 
-ghost use Rattle.std.specs.Prelude.{◌≡◌, IfOk, string_bytes};
+ghost use Rattle.std.specs.Prelude.{◌≡◌};
 ghost use Rattle.http_response.specs.Problem.{refusal_allow, refusal_body, refusal_status};
 ghost use Rattle.http_response.specs.Texts.{full_text, refusal_text, welcome_text};
 
+use crate::body::BodyText;
 use crate::connection::Connection;
+use crate::head::Allow;
 use crate::problem::body_of_absent;
-use crate::response::{Allow, Status, plain_response, response};
+use crate::response::Response;
+use crate::status::StatusCode;
 use document_json::Reason;
 use http_request::Rejection;
 use model::Absent;
-use std::alloc::{AllocError, Global};
 
 /// The response to a request that is refused.
 #[tactic(auto, unfolding(crate::specs::Texts::refusal_text))]
-pub fn refused(
-    alloc: Global,
-    place: u64,
-    connection: Connection,
-    refusal: Rejection,
-) -> Result<String, AllocError>
-    ensures text { IfOk result (λ text. string_bytes text ≡ refusal_text place connection refusal) }
+pub fn refused(place: u64, connection: Connection, refusal: Rejection) -> Response
+    ensures text { result ≡ refusal_text place connection refusal }
 {
     let status = status_of(refusal);
     let allow = allow_of(refusal);
-    response(alloc, status, place, allow, connection, body_of(refusal))
+    let body = BodyText::Fixed(body_of(refusal));
+    Response::new(status, place, allow, connection, body)
 }
 
-fn status_of(refusal: Rejection) -> Status
+fn status_of(refusal: Rejection) -> StatusCode
     ensures { result ≡ refusal_status refusal }
 {
     match refusal {
-        Rejection::Missing => Status::NotFound,
-        Rejection::MethodNotAllowed(_) => Status::MethodNotAllowed,
-        Rejection::BadRequest(_) => Status::BadRequest,
+        Rejection::Missing => StatusCode::NotFound,
+        Rejection::MethodNotAllowed(_) => StatusCode::MethodNotAllowed,
+        Rejection::BadRequest(_) => StatusCode::BadRequest,
     }
 }
 
@@ -75,28 +73,18 @@ fn bad_request(reason: Reason) -> &'static str
 
 /// The response to `GET /`.
 #[tactic(auto, unfolding(crate::specs::Texts::welcome_text))]
-pub fn welcome(alloc: Global, place: u64, connection: Connection) -> Result<String, AllocError>
-    ensures text { IfOk result (λ text. string_bytes text ≡ welcome_text place connection) }
+pub fn welcome(place: u64, connection: Connection) -> Response
+    ensures text { result ≡ welcome_text place connection }
 {
-    plain_response(
-        alloc,
-        Status::Ok,
-        place,
-        connection,
-        r#"{"couchdb":"Welcome"}"#,
-    )
+    let body = BodyText::Fixed(r#"{"couchdb":"Welcome"}"#);
+    Response::plain(StatusCode::Ok, place, connection, body)
 }
 
 /// The response to a command for which the history has no place.
 #[tactic(auto, unfolding(crate::specs::Texts::full_text))]
-pub fn full(alloc: Global, place: u64, connection: Connection) -> Result<String, AllocError>
-    ensures text { IfOk result (λ text. string_bytes text ≡ full_text place connection) }
+pub fn full(place: u64, connection: Connection) -> Response
+    ensures text { result ≡ full_text place connection }
 {
-    plain_response(
-        alloc,
-        Status::ServiceUnavailable,
-        place,
-        connection,
-        r#"{"error":"unavailable","reason":"full"}"#,
-    )
+    let body = BodyText::Fixed(r#"{"error":"unavailable","reason":"full"}"#);
+    Response::plain(StatusCode::ServiceUnavailable, place, connection, body)
 }

@@ -2,10 +2,12 @@
 //! The texts of responses.
 //!
 //! A response has a head, which names its length and the place of the history that it is given at,
-//! and a JSON text as its body. `specs/Texts.antt` says each text byte by byte.
+//! and a JSON text as its body. A head takes no memory, and neither does a body whose text is fixed.
+//! `specs/Texts.antt` says each text byte by byte.
 
 mod all_docs;
 mod answered;
+mod body;
 mod broken;
 mod bulk;
 mod changes;
@@ -13,6 +15,7 @@ mod connection;
 mod differences;
 mod document;
 mod fixed;
+mod head;
 mod list;
 mod local;
 mod lost;
@@ -20,7 +23,7 @@ mod object;
 mod problem;
 mod replied;
 mod response;
-mod short;
+mod status;
 mod written;
 
 pub use answered::answer;
@@ -29,4 +32,4 @@ pub use connection::Connection;
 pub use fixed::{full, refused, welcome};
 pub use lost::{Lost, no_memory};
 pub use replied::reply;
-pub use short::SHORT_ROOM;
+pub use response::Response;

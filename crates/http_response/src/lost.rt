@@ -1,11 +1,12 @@
 //! The responses for want of memory, which take none.
 
-ghost use Rattle.std.specs.Prelude.{◌≡◌, ◌≤◌, length};
-ghost use Rattle.http_response.specs.Texts.{after_place, before_place, no_memory_body, no_memory_length, no_memory_text};
+ghost use Rattle.std.specs.Prelude.{◌≡◌};
+ghost use Rattle.http_response.specs.Texts.{no_memory_body, no_memory_text};
 
-use crate::response::Status;
-use crate::short::{SHORT_ROOM, short_response};
-use arrayvec::ArrayString;
+use crate::body::BodyText;
+use crate::connection::Connection;
+use crate::response::Response;
+use crate::status::StatusCode;
 
 /// What memory was refused for.
 #[derive(Clone, Copy, Debug, PartialEq, Eq)]
@@ -18,38 +19,23 @@ pub enum Lost {
 
 /// The response for want of memory, after which the connection closes.
 #[tactic(auto, unfolding(crate::specs::Texts::no_memory_text))]
-pub fn no_memory(place: u64, lost: Lost) -> ArrayString<SHORT_ROOM>
-    ensures text { result.bytes ≡ no_memory_text place lost }
+pub fn no_memory(place: u64, lost: Lost) -> Response
+    ensures text { result ≡ no_memory_text place lost }
 {
-    short_response(before_place(lost), place, after_place(lost))
+    let body = BodyText::Fixed(body_of(lost));
+    Response::plain(
+        StatusCode::InsufficientStorage,
+        place,
+        Connection::Close,
+        body,
+    )
 }
 
-/// The head as far as the place.
-fn before_place(lost: Lost) -> &'static str
-    ensures text { result.now ≡ before_place Status.InsufficientStorage (no_memory_length lost) }
-    ensures short { length result.now ≤ 110 }
+fn body_of(lost: Lost) -> &'static str
+    ensures { result.now ≡ no_memory_body lost }
 {
     match lost {
-        Lost::Call => {
-            "HTTP/1.1 507 Insufficient Storage\r\nContent-Type: application/json\r\nContent-Length: 37\r\nCouch-Place: "
-        }
-        Lost::Reply => {
-            "HTTP/1.1 507 Insufficient Storage\r\nContent-Type: application/json\r\nContent-Length: 38\r\nCouch-Place: "
-        }
-    }
-}
-
-/// The rest of the head, and the body.
-fn after_place(lost: Lost) -> &'static str
-    ensures text { result.now ≡ after_place (no_memory_body lost) }
-    ensures short { length result.now ≤ 62 }
-{
-    match lost {
-        Lost::Call => {
-            "\r\nConnection: close\r\n\r\n{\"error\":\"no_memory\",\"reason\":\"call\"}"
-        }
-        Lost::Reply => {
-            "\r\nConnection: close\r\n\r\n{\"error\":\"no_memory\",\"reason\":\"reply\"}"
-        }
+        Lost::Call => r#"{"error":"no_memory","reason":"call"}"#,
+        Lost::Reply => r#"{"error":"no_memory","reason":"reply"}"#,
     }
 }

@@ -1,19 +1,20 @@
 //! Why a write or a query was refused, as a body tells it.
 
-ghost use Rattle.std.specs.Prelude.{◌≡◌, IfOk, string_bytes};
-ghost use Rattle.http_response.specs.Problem.{absent_problem, problem_text, write_error, write_problem, write_reason, write_status};
+ghost use Rattle.std.specs.Prelude.{◌≡◌};
+ghost use Rattle.http_response.specs.Problem.{absent_problem, write_error, write_problem, write_reason, write_status};
 
-use crate::response::Status;
+use crate::status::StatusCode;
 use model::{Absent, Refusal};
-use std::alloc::{AllocError, Global};
 
 /// The status of a refused write.
-pub(crate) fn status_of(refusal: Refusal) -> Status
+pub(crate) fn status_of(refusal: Refusal) -> StatusCode
     ensures { result ≡ write_status refusal }
 {
     match refusal {
-        Refusal::Missing | Refusal::Deleted => Status::NotFound,
-        Refusal::Conflict | Refusal::BadHistory | Refusal::GenerationLimit => { Status::Conflict }
+        Refusal::Missing | Refusal::Deleted => StatusCode::NotFound,
+        Refusal::Conflict | Refusal::BadHistory | Refusal::GenerationLimit => {
+            StatusCode::Conflict
+        }
     }
 }
 
@@ -43,16 +44,20 @@ pub(crate) fn reason_of(refusal: Refusal) -> &'static str
 }
 
 /// The body that tells of a refused write.
-pub(crate) fn refusal_text(alloc: Global, refusal: Refusal) -> Result<String, AllocError>
-    ensures { IfOk result (λ text. string_bytes text ≡ write_problem refusal) }
+pub(crate) fn body_of_refusal(refusal: Refusal) -> &'static str
+    ensures { result.now ≡ write_problem refusal }
 {
-    problem(alloc, error_of(refusal), reason_of(refusal))
-}
-
-fn problem(alloc: Global, error: &str, reason: &str) -> Result<String, AllocError>
-    ensures { IfOk result (λ text. string_bytes text ≡ problem_text error.now reason.now) }
-{
-    format!(in alloc; "{{\"error\":\"{error}\",\"reason\":\"{reason}\"}}")
+    match refusal {
+        Refusal::Conflict => r#"{"error":"conflict","reason":"Document update conflict."}"#,
+        Refusal::BadHistory => {
+            r#"{"error":"bad_history","reason":"A known revision has another parent."}"#
+        }
+        Refusal::Missing => r#"{"error":"not_found","reason":"missing"}"#,
+        Refusal::Deleted => r#"{"error":"not_found","reason":"deleted"}"#,
+        Refusal::GenerationLimit => {
+            r#"{"error":"generation","reason":"The generation limit is reached."}"#
+        }
+    }
 }
 
 /// The body that tells that a document is not found.

@@ -49,15 +49,6 @@ name_of method.Put = codes "PUT"
 name_of method.Post = codes "POST"
 name_of method.Delete = codes "DELETE"
 
--- the methods of all routes
-abbrev pub methods : List Method
-methods = method.Get ∷ method.Put ∷ method.Post ∷ method.Delete ∷ []
-
--- the method of this name
--- RFC 9110, 9.1 "Overview"
-abbrev pub method_named : List ℕ → Option Method
-method_named name = find (λ m. bytes_eq (name_of m) name) methods
-
 -- b'/'
 abbrev pub slash : ℕ
 slash = 47

@@ -9,7 +9,7 @@ ghost use Rattle.std.specs.Prelude.{◌≡◌, ℕ, List, None, true, false, IfO
 ghost use Rattle.std.specs.List.{list_any};
 ghost use Rattle.std.specs.Str.{bytes_eq};
 ghost use Rattle.http_routes.specs.Rows.{rows_of};
-ghost use Rattle.http_routes.specs.Routes.{name_of, method_named, methods_of, route_of, has_empty_segment, ended_paths};
+ghost use Rattle.http_routes.specs.Routes.{name_of, methods_of, route_of, has_empty_segment, ended_paths};
 
 use matchit::Router;
 use std::alloc::{AllocError, Global};
@@ -49,20 +49,7 @@ pub enum Method {
     Delete,
 }
 
-/// The methods of all routes.
-const METHODS: [Method; 4] = [Method::Get, Method::Put, Method::Post, Method::Delete];
-
 impl Method {
-    /// The method of this name, which is told apart by case.
-    pub fn from_name(name: &[u8]) -> Option<Method>
-        ensures { result ≡ method_named name.now }
-    {
-        METHODS
-            .iter()
-            .copied()
-            .find(|method| method.name().as_bytes() == name)
-    }
-
     /// The name, as a request and `Allow` write it.
     pub fn name(self) -> &'static str
         ensures { result.now ≡ name_of self }

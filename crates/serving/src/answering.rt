@@ -1,6 +1,6 @@
 //! What answers requests.
 
-ghost use Rattle.std.specs.Prelude.{◌≡◌, IfOk};
+ghost use Rattle.std.specs.Prelude.{◌≡◌, ◌++◌, IfOk};
 ghost use Rattle.streams.specs.Counts.{CountsFailure};
 ghost use Rattle.streams.specs.Writes.{Writes};
 ghost use Rattle.http_framing.specs.Input.{Asked, Refused};
@@ -8,11 +8,11 @@ ghost use Rattle.serving.specs.Turn.{Turn, TakesTurn};
 
 use http_framing::FramingFault;
 use http_framing::request::Request;
-use streams::{Failed, Sink, write_all};
+use streams::{Failed, Sink, write_both};
 
 /// What answers the requests of a connection, in a context that stays the same.
 ///
-/// It is lent the writer: a response may be one text, or be written in pieces as they come about.
+/// It is lent the writer: a response may be at hand, or be written in pieces as they come about.
 /// Its own want of memory is a response too, of a text that takes none, after which the connection
 /// closes.
 pub trait Service<C> {
@@ -49,12 +49,18 @@ pub trait Service<C> {
 }
 
 /// Writes a response that is at hand, and passes on whether the connection closes after it.
-pub fn write_response<W: Sink>(writer: &mut W, text: &[u8], closes: bool) -> Result<bool, Failed>
-    ensures written { Writes (W.taken writer.old) (W.taken writer.new) result text.now }
+pub fn write_response<W: Sink>(
+    writer: &mut W,
+    head: &[u8],
+    body: &[u8],
+    closes: bool,
+) -> Result<bool, Failed>
+    ensures written { Writes (W.taken writer.old) (W.taken writer.new) result
+        (head.now ++ body.now) }
     ensures closes { IfOk result (λ c. c ≡ closes) }
     ensures failures { CountsFailure (W.failed_writes writer.old)
         (W.failed_writes writer.new) result }
 {
-    write_all(writer, text)?;
+    write_both(writer, head, body)?;
     Ok(closes)
 }

@@ -22,7 +22,7 @@ impl Service<()> for Echo {
         request: &Request<'_>,
         writer: &mut W,
     ) -> Result<bool, Failed> {
-        write_response(writer, request.target().as_bytes(), request.closes())
+        write_response(writer, request.target().as_bytes(), b"", request.closes())
     }
 
     fn refuse<W: Sink>(

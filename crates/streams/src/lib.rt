@@ -11,4 +11,4 @@ mod writes;
 
 pub use counted::Stream;
 pub use traits::{Failed, Sink, Source};
-pub use writes::write_all;
+pub use writes::{write_all, write_both};

@@ -1,0 +1,25 @@
+-- How long what stands in a head is.
+use Rattle.std.proofs.Common.{◌≤◌, length, arith}
+use Rattle.http_routes.specs.Routes.{methods_of, name_of}
+use Rattle.http_routes.specs.declared.Method.{Method}
+use Rattle.http_routes.specs.declared.Method.TheVariants as method
+use Rattle.http_routes.specs.declared.Route.{Route}
+use Rattle.http_routes.specs.declared.Route.TheVariants as route
+
+pub few_methods : (r : Route) → length (methods_of r) ≤ 3
+few_methods route.Root = omega arith
+few_methods route.Database = omega arith
+few_methods route.DatabaseSlash = omega arith
+few_methods route.AllDocs = omega arith
+few_methods route.BulkDocs = omega arith
+few_methods route.Changes = omega arith
+few_methods route.Local = omega arith
+few_methods route.RevsDiff = omega arith
+few_methods route.RevsLimit = omega arith
+few_methods route.Document = omega arith
+
+pub short_name : (m : Method) → length (name_of m) ≤ 6
+short_name method.Get = omega arith
+short_name method.Put = omega arith
+short_name method.Post = omega arith
+short_name method.Delete = omega arith
