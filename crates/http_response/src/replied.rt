@@ -18,7 +18,7 @@ use crate::status::StatusCode;
 use commands::{Command, CommandKind, Edit, Reply, ReplyKind};
 use document_id::DocId;
 use http_request::Form;
-use model::{Refusal, Refusal};
+use model::Refusal;
 use revision_id::RevId;
 use std::alloc::{AllocError, Global};
 
