@@ -96,7 +96,7 @@ fn read_all_parts(alloc: Global, values: Vec<Json>) -> Result<Vec<Option<Parts>>
     ensures parts { DecidesEach result (each_of parts_in values.items) }
     ensures length { IfOk result (λ found. length found.items ≡ length values.items) }
 {
-    each(alloc, values, |value| Ok(read_parts(value)?))
+    each(alloc, values, |value| read_parts(alloc, value))
 }
 
 /// The documents, with their shape, their members and their ids.

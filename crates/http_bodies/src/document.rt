@@ -5,12 +5,12 @@ ghost use Rattle.http_bodies.specs.Document.{document_in, document_of, edit_of, 
 ghost use Rattle.http_bodies.specs.Revisions.{rev_of};
 ghost use Rattle.http_bodies.specs.Steps.{Decides};
 
-use crate::refusal::{Fault, Reason, Refusal};
+use crate::refusal::{Fault, Reason, Refusal, refuse};
 use crate::revision::name_revision;
 use crate::text::read_json;
 use commands::Edit;
 use document_id::DocId;
-use json_profile::{Body, Json, Object};
+use json_profile::{Body, Json, JsonFault, Object};
 use revision_id::RevId;
 use std::alloc::Global;
 use std::sync::Arc;
@@ -38,8 +38,8 @@ fn drop_ignored(object: &mut Object)
 }
 
 /// Takes an object apart, and refuses one whose body nests too deep.
-fn take_parts(mut object: Object) -> Result<Parts, Refusal>
-    ensures { result ≡ nesting_parts (parts_of object) }
+fn take_parts(alloc: Global, mut object: Object) -> Result<Parts, Fault>
+    ensures { Decides result (nesting_parts (parts_of object)) }
 {
     let id = object.take("_id");
     let rev = object.take("_rev");
@@ -47,7 +47,7 @@ fn take_parts(mut object: Object) -> Result<Parts, Refusal>
     let revisions = object.take("_revisions");
     drop_ignored(&mut object);
     let has_other = object.has_special();
-    match object.into_body() {
+    match object.into_body(alloc) {
         Ok(body) => Ok(Parts {
             id,
             rev,
@@ -56,18 +56,20 @@ fn take_parts(mut object: Object) -> Result<Parts, Refusal>
             has_other,
             body,
         }),
-        Err(_) => Err(Refusal::BadRequest(Reason::Depth)),
+        Err(JsonFault::Depth) => Err(refuse(Reason::Depth)),
+        Err(JsonFault::Memory) => Err(Fault::Memory),
+        Err(_) => unreachable!(),
     }
 }
 
 /// The parts of a document, if the value is an object.
-pub(crate) fn read_parts(value: Json) -> Result<Option<Parts>, Refusal>
-    ensures { result ≡ parts_in value }
+pub(crate) fn read_parts(alloc: Global, value: Json) -> Result<Option<Parts>, Fault>
+    ensures { Decides result (parts_in value) }
 {
     let Some(object) = value.into_object() else {
         return Ok(None);
     };
-    Ok(Some(take_parts(object)?))
+    Ok(Some(take_parts(alloc, object)?))
 }
 
 /// Whether what is there is a text.
@@ -229,7 +231,7 @@ fn read_document(alloc: Global, body: &[u8]) -> Result<Parts, Fault>
     ensures { Decides result (document_of body.now) }
 {
     let value = read_json(alloc, body)?;
-    Ok(as_known_document(read_parts(value)?)?)
+    Ok(as_known_document(read_parts(alloc, value)?)?)
 }
 
 /// The edit of the document that the path and the parameters name, as a body writes it.

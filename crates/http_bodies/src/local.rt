@@ -13,18 +13,18 @@ use crate::refusal::{Fault, Reason, Refusal, refuse};
 use crate::text::read_json;
 use commands::Command;
 use document_id::DocId;
-use json_profile::{Json, Object};
+use json_profile::{Json, JsonFault, Object};
 use std::alloc::{AllocError, Global};
 use std::sync::Arc;
 
 /// Takes an object apart, and refuses one whose body nests too deep.
-fn take_local_parts(mut object: Object) -> Result<Parts, Refusal>
-    ensures { result ≡ nesting_parts (local_parts_of object) }
+fn take_local_parts(alloc: Global, mut object: Object) -> Result<Parts, Fault>
+    ensures { Decides result (nesting_parts (local_parts_of object)) }
 {
     let id = object.take("_id");
     let rev = object.take("_rev");
     let has_other = object.has_special();
-    match object.into_body() {
+    match object.into_body(alloc) {
         Ok(body) => Ok(Parts {
             id,
             rev,
@@ -33,18 +33,20 @@ fn take_local_parts(mut object: Object) -> Result<Parts, Refusal>
             has_other,
             body,
         }),
-        Err(_) => Err(Refusal::BadRequest(Reason::Depth)),
+        Err(JsonFault::Depth) => Err(refuse(Reason::Depth)),
+        Err(JsonFault::Memory) => Err(Fault::Memory),
+        Err(_) => unreachable!(),
     }
 }
 
 /// The parts of a value, if it is an object.
-fn read_local_parts(value: Json) -> Result<Option<Parts>, Refusal>
-    ensures { result ≡ local_parts_found (as_object value) }
+fn read_local_parts(alloc: Global, value: Json) -> Result<Option<Parts>, Fault>
+    ensures { Decides result (local_parts_found (as_object value)) }
 {
     let Some(object) = value.into_object() else {
         return Ok(None);
     };
-    Ok(Some(take_local_parts(object)?))
+    Ok(Some(take_local_parts(alloc, object)?))
 }
 
 /// The document of a body, with no special member but `_id` and `_rev`.
@@ -52,7 +54,7 @@ fn read_local_document(alloc: Global, body: &[u8]) -> Result<Parts, Fault>
     ensures { Decides result (local_document_of body.now) }
 {
     let value = read_json(alloc, body)?;
-    Ok(as_known_document(read_local_parts(value)?)?)
+    Ok(as_known_document(read_local_parts(alloc, value)?)?)
 }
 
 /// The id of a local document as bodies and answers write it, `_local/ID`.

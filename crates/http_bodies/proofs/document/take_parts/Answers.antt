@@ -1,4 +1,4 @@
-use Rattle.std.proofs.Common.{◌∙◌, ◌≤◌, ◌<◌, Ok, ap, sym, subst}
+use Rattle.std.proofs.Common.{◌∙◌, ◌≤◌, ◌<◌, Ok, Err, ap, sym, subst}
 use Rattle.std.specs.Prelude.{codes}
 use Rattle.serde_json.specs.Data.{object, depth}
 use Rattle.serde_json.specs.Find.{get_member}
@@ -23,11 +23,11 @@ returns-in-Ok c =
     let body = sym (c.in-Ok.ensures.body.0 ∙ ap without_specials l5 ∙ body_left ms) in
     let nests : depth (object (without_specials ms)) ≤ max_body_nesting =
     subst (λ b. depth (object b) ≤ max_body_nesting) (sym body) c.in-Ok.ensures.body.1 in
-    sym (nesting_parts-ok (parts_of ms) nests
+    (nesting_parts-ok (parts_of ms) nests
     ∙ λ i. Ok (record { id = sym c.take-id.ensures.taken i; rev = rev i; deleted = deleted i; revisions = revisions i; has_other = other i; body = body i }))
 
-pub returns-in-Err : goal.returns-in-Err
-returns-in-Err c =
+pub returns-in-Err-Depth : goal.returns-in-Err-Depth
+returns-in-Err-Depth c =
     let l1 = c.take-id.ensures.left in
     let l2 = c.take-rev.ensures.left ∙ ap (without (codes "_rev")) l1 in
     let l3 = c.take-deleted.ensures.left ∙ ap (without (codes "_deleted")) l2 in
@@ -36,5 +36,5 @@ returns-in-Err c =
     let ms = c.args.object in
     let body = ap without_specials l5 ∙ body_left ms in
     let deep : max_body_nesting < depth (object (without_specials ms)) =
-    subst (λ b. max_body_nesting < depth (object b)) body c.in-Err.ensures.depth.1 in
-    sym (nesting_parts-depth (parts_of ms) deep)
+    subst (λ b. max_body_nesting < depth (object b)) body (c.in-Err-Depth.ensures.depth (ap Err c.in-Err-Depth.field-0-is)) in
+    rw c.refuse.ensures (nesting_parts-depth (parts_of ms) deep)

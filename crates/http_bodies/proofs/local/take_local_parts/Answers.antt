@@ -1,4 +1,4 @@
-use Rattle.std.proofs.Common.{◌≡◌, ◌∙◌, ◌≤◌, ◌<◌, Ok, None, ap, refl, sym, subst}
+use Rattle.std.proofs.Common.{◌≡◌, ◌∙◌, ◌≤◌, ◌<◌, Ok, Err, None, ap, refl, sym, subst}
 use Rattle.std.specs.Prelude.{codes}
 use Rattle.serde_json.specs.Data.{Members, object, depth}
 use Rattle.serde_json.specs.Find.{get_member}
@@ -22,15 +22,15 @@ returns-in-Ok c =
     let body = sym (c.in-Ok.ensures.body.0 ∙ ap without_specials l2 ∙ body_left ms) in
     let nests : depth (object (without_specials ms)) ≤ max_body_nesting =
     subst (λ b. depth (object b) ≤ max_body_nesting) (sym body) c.in-Ok.ensures.body.1 in
-    sym (nesting_parts-ok (local_parts_of ms) nests
+    (nesting_parts-ok (local_parts_of ms) nests
     ∙ λ i. Ok (record { id = sym c.take-id.ensures.taken i; rev = rev i; deleted = None; revisions = None; has_other = other i; body = body i }))
 
-pub returns-in-Err : goal.returns-in-Err
-returns-in-Err c =
+pub returns-in-Err-Depth : goal.returns-in-Err-Depth
+returns-in-Err-Depth c =
     let l1 = c.take-id.ensures.left in
     let l2 = c.take-rev.ensures.left ∙ ap (without (codes "_rev")) l1 in
     let ms = c.args.object in
     let body = ap without_specials l2 ∙ body_left ms in
     let deep : max_body_nesting < depth (object (without_specials ms)) =
-    subst (λ b. max_body_nesting < depth (object b)) body c.in-Err.ensures.depth.1 in
-    sym (nesting_parts-depth (local_parts_of ms) deep)
+    subst (λ b. max_body_nesting < depth (object b)) body (c.in-Err-Depth.ensures.depth (ap Err c.in-Err-Depth.field-0-is)) in
+    rw c.refuse.ensures (nesting_parts-depth (local_parts_of ms) deep)
