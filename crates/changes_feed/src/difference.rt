@@ -54,7 +54,7 @@ fn difference(
 ) -> Result<Option<Difference>, AllocError>
     ensures { IfOk result (λ answer. answer ≡ difference_at (now version.now) id.now asked.now) }
 {
-    match version.record(id) {
+    match version.database().documents().get(id) {
         Some(record) => difference_in(alloc, Some(record.tree()), asked),
         None => difference_in(alloc, None, asked),
     }

@@ -26,7 +26,7 @@ pub fn get(
 ) -> Result<Result<Document, Absent>, AllocError>
     ensures found { IfOk result (λ answer. answer ≡ found (now version.now) id.now rev options.now) }
 {
-    match version.record(id) {
+    match version.database().documents().get(id) {
         Some(record) => found_in(alloc, id, record.tree(), rev, options),
         None => Ok(Err(missing())),
     }

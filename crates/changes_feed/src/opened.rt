@@ -30,7 +30,7 @@ pub fn open_revs(
     ensures opened { IfOk result (λ answer. answer.items
         ≡ opened (now version.now) id.now (option_copied asked.entry) options.now) }
 {
-    match version.record(id) {
+    match version.database().documents().get(id) {
         Some(record) => opened_in(alloc, id, record.tree(), asked, options),
         None => opened_unknown(alloc, asked),
     }

@@ -23,7 +23,7 @@ pub fn changes(
 ) -> Result<ChangesPage, AllocError>
     ensures page { IfOk result (λ page. page ≡ changes_page every_id (now version.now) since limit style) }
 {
-    let count = version.count_changed_since(since);
+    let count = version.database().count_changed_since(since);
     let rows = first_rows(alloc, version, since, most_rows(limit, count), style)?;
     let pending = count - rows.len() as u64;
     Ok(ChangesPage {
@@ -48,7 +48,7 @@ fn page_end(version: &Version, since: u64, rows: &[Row], pending: u64) -> u64
     ensures { result ≡ (if pending == 0 then (now version.now).update_seq else last_seq_of since rows.now) }
 {
     if pending == 0 {
-        return version.update_seq();
+        return version.database().documents().update_seq();
     }
     last_seq(rows, since)
 }
@@ -74,7 +74,7 @@ pub(crate) fn first_rows(
     ensures { IfOk result (λ rows. rows.items ≡ take most (rows_since every_id (now version.now) since style)) }
 {
     let mut rows = Vec::new(alloc);
-    for (seq, changed) in version.changed_since(since).take(most as usize) {
+    for (seq, changed) in version.database().changed_since(since).take(most as usize) {
         rows.push(row(alloc, *seq, &changed.0, changed.1.get(), style)?)?;
     }
     Ok(rows)

@@ -19,7 +19,7 @@ pub fn all_docs(alloc: Global, version: &Version) -> Result<Vec<(DocId, RevId)>,
     ensures documents { IfOk result (λ documents. documents.items ≡ live_documents (now version.now)) }
 {
     let mut documents = Vec::new(alloc);
-    for (id, record) in version.documents() {
+    for (id, record) in version.database().documents().iter() {
         if let Some(document) = live_document(id, record.get())? {
             documents.push(document)?;
         }
@@ -41,7 +41,7 @@ fn live_document(id: &DocId, stored: &Record) -> Result<Option<(DocId, RevId)>, 
 pub fn info(version: &Version) -> Counts
     ensures counts { result ≡ counts (now version.now) }
 {
-    version.counts()
+    version.database().counts()
 }
 
 /// The revision number and the body of a local document. The body is shared.
@@ -49,7 +49,7 @@ pub fn local_get(version: &Version, id: &DocId) -> Result<Option<(u32, Arc<Body>
     ensures local { IfOk result (λ local. option_map (λ l. (l.0, arc_value l.1)) local
         ≡ option_map local_shown (get (now version.now).locals id.now)) }
 {
-    let Some(local) = version.local(id) else {
+    let Some(local) = version.database().locals().get(id) else {
         return Ok(None);
     };
     Ok(Some((local.counter, Arc::try_clone(&local.body)?)))
@@ -59,5 +59,5 @@ pub fn local_get(version: &Version, id: &DocId) -> Result<Option<(u32, Arc<Body>
 pub fn revs_limit(version: &Version) -> u32
     ensures limit { result ≡ (now version.now).revs_limit }
 {
-    version.revs_limit()
+    version.database().revs_limit()
 }
