@@ -2,7 +2,8 @@
 use Rattle.std.specs.Prelude.{◌≤◌, ℕ, max, List, Option, Some, None}
 use Rattle.model.specs.Map.{Map}
 use Rattle.model.specs.Command.{names}
-use Rattle.model.specs.Query.{Style, Row}
+use Rattle.model.specs.Query.{Row}
+use Rattle.model.specs.declared.style.Style.{Style}
 use Rattle.model.specs.Database.{IsNumbered}
 use Rattle.model.specs.History.{Chronicle, Follows, now}
 use Rattle.model.specs.Changes.{every_id, fed, IsRightFeed}

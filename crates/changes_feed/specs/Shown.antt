@@ -4,7 +4,8 @@ use Rattle.std.specs.Bool.{beq}
 use Rattle.model.specs.Body.{Body}
 use Rattle.model.specs.Revision.{Rev}
 use Rattle.model.specs.Tree.{Tree, is_deleted, leaves, path_of, revs_of}
-use Rattle.model.specs.Query.{Options, Status}
+use Rattle.model.specs.Query.{Options}
+use Rattle.model.specs.declared.status.Status.{Status}
 use Rattle.model.specs.Local.{Local}
 use Rattle.model.specs.Documents.{status_of}
 

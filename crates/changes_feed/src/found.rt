@@ -1,6 +1,6 @@
 //! A document's winner, or a revision that is named.
 ghost use Rattle.std.specs.Prelude.{◌≡◌, Err, IfOk, ok_or};
-ghost use Rattle.model.specs.Query.{IsMissing as IsUnknown};
+ghost use Rattle.model.specs.declared.absent.Absent.TheVariants.{IsMissing as IsUnknown};
 ghost use Rattle.model.specs.Tree.{winner};
 ghost use Rattle.model.specs.History.{now};
 ghost use Rattle.model.specs.Documents.{found, found_in as found_of, named_by as named_of, of_winner as winner_shown, stored as stored_of};

@@ -1,7 +1,8 @@
 -- What becomes of a request, and the text that tells it.
 use Rattle.std.specs.Prelude.{◌≡◌, ℕ, ◌⊎◌, Bool, true, List, [], ◌∷◌, length, take, Option, Some, Result, Ok, Err, if◌then◌else◌, ⊤}
 use Rattle.model.specs.Command.{Entry, Command}
-use Rattle.model.specs.Query.{Query, Answer, Changes, Style}
+use Rattle.model.specs.Query.{Query, Answer, Changes}
+use Rattle.model.specs.declared.style.Style.{Style}
 use Rattle.model.specs.Database.{Database}
 use Rattle.model.specs.History.{replay}
 use Rattle.model.specs.World.{WroteAt, Asked as AskedAt}

@@ -10,7 +10,8 @@ use Rattle.http_routes.specs.declared.Route.TheVariants as route
 use Rattle.http_routes.specs.declared.Method.{Method}
 use Rattle.http_routes.specs.declared.Method.TheVariants as method
 use Rattle.model.specs.Command.{Command, Id}
-use Rattle.model.specs.Query.{Options, Style}
+use Rattle.model.specs.Query.{Options}
+use Rattle.model.specs.declared.style.Style.{Style}
 use Rattle.document_json.specs.Steps.{Checked, and_then, or_refused, check}
 use Rattle.document_json.specs.Each.{each}
 use Rattle.document_json.specs.Text.{json_of}

@@ -3,7 +3,9 @@ use Rattle.std.specs.Prelude.{ℕ, ◌||◌, Bool, true, List, Option, Some, Non
 use Rattle.std.specs.Option.{option_map_or}
 use Rattle.std.specs.Str.{bytes_eq}
 use Rattle.http_target.specs.Query.{Parameters, parameter}
-use Rattle.model.specs.Query.{AllDocuments, Changes, Style, MainOnly, AllDocs}
+use Rattle.model.specs.Query.{AllDocuments, Changes}
+use Rattle.model.specs.declared.style.Style.{Style}
+use Rattle.model.specs.declared.style.Style.TheVariants.{MainOnly, AllDocs}
 use Rattle.document_json.specs.Steps.{Checked, and_then, or_refused, check}
 use Rattle.http_request.specs.Parameters.{asks_for_documents, is_given, is_there, number_parameter}
 use Rattle.http_request.specs.declared.asked.Asked.{Asked}

@@ -6,7 +6,8 @@ use Rattle.std.specs.Ordering.{match_ordering}
 use Rattle.serde_json.specs.Data.{Data, boolean, string, Members, no_members, member, put}
 use Rattle.serde_json.specs.View.{items_of}
 use Rattle.serde_json.specs.Written.{has_float, items_have_float, members_have_float}
-use Rattle.model.specs.Query.{Document, Status}
+use Rattle.model.specs.Query.{Document}
+use Rattle.model.specs.declared.status.Status.{Status}
 use Rattle.hex.specs.Hex.{encode_lower}
 use Rattle.model.specs.Revision.{Rev, rev_text}
 use Rattle.http_response.specs.Document.{named_members, rev_data, revs_data, info_data, infos_data, revisions_data, with_flag, with_revs, with_revisions, with_infos, told_members}

@@ -2,7 +2,8 @@
 use Rattle.std.specs.Prelude.{ℕ, List, [], ◌∷◌, map, Result, Ok, Err, codes}
 use Rattle.std.specs.List.{flat_map, zip}
 use Rattle.serde_json.specs.Data.{Data, string, object, no_members, member}
-use Rattle.model.specs.Command.{Id, Edit, Merge, Refusal}
+use Rattle.model.specs.Command.{Id, Edit, Merge}
+use Rattle.model.specs.declared.refusal.Refusal.{Refusal}
 use Rattle.model.specs.Revision.{Rev}
 use Rattle.http_response.specs.Document.{written_data}
 use Rattle.http_response.specs.Problem.{write_error, write_reason}

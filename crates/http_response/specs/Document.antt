@@ -6,7 +6,9 @@ use Rattle.serde_json.specs.View.{items_of}
 use Rattle.document_json.specs.Local.{local_id}
 use Rattle.model.specs.Body.{Body}
 use Rattle.model.specs.Command.{Id}
-use Rattle.model.specs.Query.{Counts, Document, Status, Available, IsDeleted, NoBody}
+use Rattle.model.specs.Query.{Counts, Document}
+use Rattle.model.specs.declared.status.Status.{Status}
+use Rattle.model.specs.declared.status.Status.TheVariants.{Available, IsDeleted, NoBody}
 use Rattle.model.specs.Revision.{Rev, rev_text}
 
 abbrev pub rev_data : Rev → Data

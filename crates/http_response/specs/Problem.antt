@@ -3,11 +3,13 @@ use Rattle.std.specs.Prelude.{ℕ, List, ◌++◌, codes}
 use Rattle.http_framing.specs.declared.FramingFault.{FramingFault}
 use Rattle.http_framing.specs.declared.FramingFault.TheVariants as fault
 use Rattle.http_request.specs.declared.rejection.Rejection.{Rejection}
-use Rattle.http_request.specs.declared.rejection.Rejection.TheVariants as refusal
+use Rattle.http_request.specs.declared.rejection.Rejection.TheVariants as rejection
 use Rattle.document_json.specs.declared.fault.Reason.{Reason}
 use Rattle.document_json.specs.declared.fault.Reason.TheVariants as reason
-use Rattle.model.specs.Command as model
-use Rattle.model.specs.Query as query
+use Rattle.model.specs.declared.refusal.Refusal.{Refusal}
+use Rattle.model.specs.declared.refusal.Refusal.TheVariants as refusal
+use Rattle.model.specs.declared.absent.Absent.{Absent}
+use Rattle.model.specs.declared.absent.Absent.TheVariants as absent
 use Rattle.http_response.specs.declared.status.StatusCode.{StatusCode}
 use Rattle.http_response.specs.declared.status.StatusCode.TheVariants as status
 use Rattle.http_response.specs.declared.head.Allow.{Allow}
@@ -32,20 +34,20 @@ reason_name reason.Member = codes "member"
 
 -- CouchDB: "API Basics", "HTTP Status Codes"
 abbrev pub refusal_status : Rejection → StatusCode
-refusal_status refusal.Missing = status.NotFound
-refusal_status (refusal.MethodNotAllowed route) = status.MethodNotAllowed
-refusal_status (refusal.BadRequest reason) = status.BadRequest
+refusal_status rejection.Missing = status.NotFound
+refusal_status (rejection.MethodNotAllowed route) = status.MethodNotAllowed
+refusal_status (rejection.BadRequest reason) = status.BadRequest
 
 -- RFC 9110, 10.2.1 "Allow"
 abbrev pub refusal_allow : Rejection → Allow
-refusal_allow refusal.Missing = allow.Unsaid
-refusal_allow (refusal.MethodNotAllowed route) = allow.Methods route
-refusal_allow (refusal.BadRequest reason) = allow.Unsaid
+refusal_allow rejection.Missing = allow.Unsaid
+refusal_allow (rejection.MethodNotAllowed route) = allow.Methods route
+refusal_allow (rejection.BadRequest reason) = allow.Unsaid
 
 abbrev pub refusal_body : Rejection → List ℕ
-refusal_body refusal.Missing = problem_text (codes "not_found") (codes "missing")
-refusal_body (refusal.MethodNotAllowed route) = problem_text (codes "method_not_allowed") (codes "Method not allowed.")
-refusal_body (refusal.BadRequest reason) = problem_text (codes "bad_request") (reason_name reason)
+refusal_body rejection.Missing = problem_text (codes "not_found") (codes "missing")
+refusal_body (rejection.MethodNotAllowed route) = problem_text (codes "method_not_allowed") (codes "Method not allowed.")
+refusal_body (rejection.BadRequest reason) = problem_text (codes "bad_request") (reason_name reason)
 
 -- ---- bytes that are refused, after which the connection closes
 
@@ -67,36 +69,36 @@ closing_body fault.LargeBody = problem_text (codes "too_large") (codes "body")
 -- ---- a write that is refused
 
 -- CouchDB: "API Basics", "HTTP Status Codes"
-abbrev pub write_status : model.Refusal → StatusCode
-write_status model.Conflict = status.Conflict
-write_status model.BadHistory = status.Conflict
-write_status model.Missing = status.NotFound
-write_status model.Deleted = status.NotFound
-write_status model.GenerationLimit = status.Conflict
+abbrev pub write_status : Refusal → StatusCode
+write_status refusal.Conflict = status.Conflict
+write_status refusal.BadHistory = status.Conflict
+write_status refusal.Missing = status.NotFound
+write_status refusal.Deleted = status.NotFound
+write_status refusal.GenerationLimit = status.Conflict
 
-abbrev pub write_error : model.Refusal → List ℕ
-write_error model.Conflict = codes "conflict"
-write_error model.BadHistory = codes "bad_history"
-write_error model.Missing = codes "not_found"
-write_error model.Deleted = codes "not_found"
-write_error model.GenerationLimit = codes "generation"
+abbrev pub write_error : Refusal → List ℕ
+write_error refusal.Conflict = codes "conflict"
+write_error refusal.BadHistory = codes "bad_history"
+write_error refusal.Missing = codes "not_found"
+write_error refusal.Deleted = codes "not_found"
+write_error refusal.GenerationLimit = codes "generation"
 
-abbrev pub write_reason : model.Refusal → List ℕ
-write_reason model.Conflict = codes "Document update conflict."
-write_reason model.BadHistory = codes "A known revision has another parent."
-write_reason model.Missing = codes "missing"
-write_reason model.Deleted = codes "deleted"
-write_reason model.GenerationLimit = codes "The generation limit is reached."
+abbrev pub write_reason : Refusal → List ℕ
+write_reason refusal.Conflict = codes "Document update conflict."
+write_reason refusal.BadHistory = codes "A known revision has another parent."
+write_reason refusal.Missing = codes "missing"
+write_reason refusal.Deleted = codes "deleted"
+write_reason refusal.GenerationLimit = codes "The generation limit is reached."
 
-abbrev pub write_problem : model.Refusal → List ℕ
+abbrev pub write_problem : Refusal → List ℕ
 write_problem refusal = problem_text (write_error refusal) (write_reason refusal)
 
 -- ---- what is not found
 
-abbrev pub absent_reason : query.Absent → List ℕ
-absent_reason query.IsMissing = codes "missing"
-absent_reason query.WasDeleted = codes "deleted"
+abbrev pub absent_reason : Absent → List ℕ
+absent_reason absent.IsMissing = codes "missing"
+absent_reason absent.WasDeleted = codes "deleted"
 
 -- CouchDB: GET /{db}/{docid}, 404 Not Found
-abbrev pub absent_problem : query.Absent → List ℕ
+abbrev pub absent_problem : Absent → List ℕ
 absent_problem absent = problem_text (codes "not_found") (absent_reason absent)

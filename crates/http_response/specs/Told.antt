@@ -3,8 +3,11 @@ use Rattle.std.specs.Prelude.{ℕ, List, [], ◌∷◌, Result, Ok, Err, codes, 
 use Rattle.serde_json.specs.Data.{Data, number, unsigned, array}
 use Rattle.serde_json.specs.View.{items_of}
 use Rattle.serde_json.specs.Written.{compact_text}
-use Rattle.model.specs.Command.{Id, Edit, Merge, Command, Edits, Merges, PutLocal, SetLimit, Refusal, Reply, Wrote, WroteLocal, Done}
-use Rattle.model.specs.Query.{Query, Get, OpenRevs, RevsDiff, Changes, AllDocuments, Info, GetLocal, RevsLimit, Answer, Document, Absent, Counted, Found, Limit, IsMissing, Changed, Differences, Documents, FoundLocal, Opened}
+use Rattle.model.specs.Command.{Id, Edit, Merge, Command, Edits, Merges, PutLocal, SetLimit, Reply, Wrote, WroteLocal, Done}
+use Rattle.model.specs.declared.refusal.Refusal.{Refusal}
+use Rattle.model.specs.Query.{Query, Get, OpenRevs, RevsDiff, Changes, AllDocuments, Info, GetLocal, RevsLimit, Answer, Document, Counted, Found, Limit, Changed, Differences, Documents, FoundLocal, Opened}
+use Rattle.model.specs.declared.absent.Absent.{Absent}
+use Rattle.model.specs.declared.absent.Absent.TheVariants.{IsMissing}
 use Rattle.model.specs.Revision.{Rev}
 use Rattle.http_request.specs.declared.asked.Form.{Form}
 use Rattle.http_request.specs.declared.asked.Form.TheVariants as form

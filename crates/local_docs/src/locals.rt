@@ -3,7 +3,7 @@ ghost use Rattle.std.specs.Prelude.{◌≡◌, ◌↔◌, T, Ok, Err, Some, None
 ghost use Rattle.std.specs.Arc.{arc_value};
 ghost use Rattle.std.specs.FinMap.Entries.{is_sorted};
 ghost use Rattle.model.specs.Body as model_body;
-ghost use Rattle.model.specs.Command as model;
+ghost use Rattle.model.specs.declared.refusal.Refusal.TheVariants as refusal;
 ghost use Rattle.model.specs.Local.{local_written, store_local};
 ghost use Rattle.model.specs.Map.{get, empty, put as put_in, without as without_in};
 ghost use Rattle.local_docs.specs.Written.{written_or_fault};
@@ -78,11 +78,11 @@ impl Locals {
         ensures written { IfOk result (λ r. local_written (get self.now id.now) named (Some (arc_value body)) ≡ Ok r.1) }
         ensures stored { IfOk result (λ r. r.0 ≡ store_local self.now id.now (Some (arc_value body)) (Ok r.1)) }
         ensures conflict { (result ≡ Err Conflict)
-            ↔ (local_written (get self.now id.now) named (Some (arc_value body)) ≡ Err model.Conflict) }
+            ↔ (local_written (get self.now id.now) named (Some (arc_value body)) ≡ Err refusal.Conflict) }
         ensures missing { (result ≡ Err Missing)
-            ↔ (local_written (get self.now id.now) named (Some (arc_value body)) ≡ Err model.Missing) }
+            ↔ (local_written (get self.now id.now) named (Some (arc_value body)) ≡ Err refusal.Missing) }
         ensures last_counter { (result ≡ Err LastCounter)
-            ↔ (local_written (get self.now id.now) named (Some (arc_value body)) ≡ Err model.GenerationLimit) }
+            ↔ (local_written (get self.now id.now) named (Some (arc_value body)) ≡ Err refusal.GenerationLimit) }
     {
         let counter = put_counter(self.get(id), named)?;
         Ok((self.with(id, LocalDoc { counter, body })?, counter))
@@ -93,11 +93,11 @@ impl Locals {
         ensures written { IfOk result (λ _. local_written (get self.now id.now) named None ≡ Ok 0) }
         ensures stored { IfOk result (λ locals. locals ≡ store_local self.now id.now None (Ok 0)) }
         ensures conflict { (result ≡ Err Conflict)
-            ↔ (local_written (get self.now id.now) named None ≡ Err model.Conflict) }
+            ↔ (local_written (get self.now id.now) named None ≡ Err refusal.Conflict) }
         ensures missing { (result ≡ Err Missing)
-            ↔ (local_written (get self.now id.now) named None ≡ Err model.Missing) }
+            ↔ (local_written (get self.now id.now) named None ≡ Err refusal.Missing) }
         ensures last_counter { (result ≡ Err LastCounter)
-            ↔ (local_written (get self.now id.now) named None ≡ Err model.GenerationLimit) }
+            ↔ (local_written (get self.now id.now) named None ≡ Err refusal.GenerationLimit) }
     {
         deletion_counter(self.get(id), named)?;
         Ok(self.without(id)?)
@@ -114,11 +114,11 @@ impl Locals {
         ensures written { IfOk result (λ r. local_written (get self.now id.now) named (option_map arc_value (option_copied body.entry)) ≡ Ok r.1) }
         ensures stored { IfOk result (λ r. r.0 ≡ store_local self.now id.now (option_map arc_value (option_copied body.entry)) (Ok r.1)) }
         ensures conflict { (result ≡ Err Conflict)
-            ↔ (local_written (get self.now id.now) named (option_map arc_value (option_copied body.entry)) ≡ Err model.Conflict) }
+            ↔ (local_written (get self.now id.now) named (option_map arc_value (option_copied body.entry)) ≡ Err refusal.Conflict) }
         ensures missing { (result ≡ Err Missing)
-            ↔ (local_written (get self.now id.now) named (option_map arc_value (option_copied body.entry)) ≡ Err model.Missing) }
+            ↔ (local_written (get self.now id.now) named (option_map arc_value (option_copied body.entry)) ≡ Err refusal.Missing) }
         ensures last_counter { (result ≡ Err LastCounter)
-            ↔ (local_written (get self.now id.now) named (option_map arc_value (option_copied body.entry)) ≡ Err model.GenerationLimit) }
+            ↔ (local_written (get self.now id.now) named (option_map arc_value (option_copied body.entry)) ≡ Err refusal.GenerationLimit) }
     {
         let Some(body) = body else {
             return Ok((self.delete(id, named)?, 0));

@@ -2,7 +2,8 @@
 use Rattle.std.specs.Prelude.{◌≡◌, ◌+◌, suc, ◌<◌, ◌≤◌, ◌++◌, true, false, cond, ℕ, List, [], ◌∷◌, length, option_map, unwrap_or, Result, Ok, Err}
 use Rattle.std.proofs.Common.{arith, sym, ap, ◌∙◌, add-one, append_assoc, get_or, drop, drop-cons}
 use Rattle.model.specs.Revision.{Rev}
-use Rattle.model.specs.Command.{Id, Edit, Merge, Refusal}
+use Rattle.model.specs.Command.{Id, Edit, Merge}
+use Rattle.model.specs.declared.refusal.Refusal.{Refusal}
 use Rattle.model.specs.Edit.{Written, revision_written}
 use Rattle.model.specs.Database.{Database, tree_at, same_tree, with_tree, store, store_written, edit_in, merge_in, after_edit, after_edits, edit_replies, after_merge, after_merges, merge_replies}
 

@@ -11,7 +11,7 @@ use Rattle.model.specs.Body.{Body}
 use Rattle.model.specs.Revision.{Rev, revs, rev_cmp, same_rev}
 use Rattle.model.specs.Tree.{Tree, Revision, is_leaf, among}
 use Rattle.model.specs.TreeChange.{graft, stem, strip, removed_leaves}
-use Rattle.model.specs.Command.{BadHistory}
+use Rattle.model.specs.declared.refusal.Refusal.TheVariants.{BadHistory}
 use Rattle.model.specs.Edit.{stemmed, with_path}
 use Rattle.model.proofs.StripLaws.{IsTree-strip, IsInRange-strip}
 use Rattle.model.proofs.OnceLaws.{Contains-removed_leaves, removed_leaves-push}

@@ -1,7 +1,7 @@
 //! What a write of a path leaves.
 ghost use Rattle.std.specs.Prelude.{◌≡◌, ◌↔◌, ◌<◌, Ok, Err, IfOk, option_copied};
 ghost use Rattle.std.specs.Arc.{arc_value};
-ghost use Rattle.model.specs.Command.{BadHistory};
+ghost use Rattle.model.specs.declared.refusal.Refusal.TheVariants.{BadHistory};
 ghost use Rattle.model.specs.Edit.{with_path as writing};
 ghost use Rattle.model.specs.TreeChange.{IsPath};
 ghost use Rattle.tree_merge.specs.declared.fault.MergeFault.TheVariants.{Contradiction};
