@@ -62,16 +62,19 @@ impl Compaction {
         }) }
         ensures memory { IfErr result (λ f. f ≡ Memory) }
     {
-        let records = Records::new(alloc).up_to(version.update_seq());
+        let database = version.database();
+        let documents = database.documents();
+        let update_mark = documents.update_seq();
+        let records = Records::new(alloc).up_to(update_mark);
         let seen = version.share()?;
         Ok(Compaction {
             alloc,
             seen,
             last: None,
-            left: version.document_count(),
+            left: documents.len(),
             records,
-            update_mark: version.update_seq(),
-            purge_mark: version.purge_seq(),
+            update_mark,
+            purge_mark: database.purges().purge_seq(),
             visited: 0,
         })
     }
@@ -264,7 +267,7 @@ fn taken_from(
     ensures visited { IfOk result (λ _. visited.new ≡ visited.old + length (take n (touched (now version.now) (record { update = marks.0; purge = marks.1 })))) }
 {
     let records = records.share()?;
-    let records = records.up_to(version.update_seq());
+    let records = records.up_to(version.database().documents().update_seq());
     let start = Taken {
         records,
         update_mark: marks.0,

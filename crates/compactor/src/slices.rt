@@ -25,9 +25,9 @@ fn rest<'a>(version: &'a Version, last: &Option<DocId>) -> Range<'a, DocId, Shar
     ensures fits { length result < 2 ^ 64 }
 {
     let Some(last) = last else {
-        return version.documents();
+        return version.database().documents().iter();
     };
-    let mut rest = version.documents_from(last);
+    let mut rest = version.database().documents().range_from(last);
     let _last = rest.next();
     rest
 }

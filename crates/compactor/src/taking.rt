@@ -28,7 +28,7 @@ fn look_up<'a>(visited: &mut u64, version: &'a Version, id: &DocId) -> Option<&'
     ensures counted { visited.new ≡ visited.old + 1 }
 {
     *visited += 1;
-    version.record(id)
+    version.database().documents().get(id)
 }
 
 /// With the strip of the document as the version has it, or without the document.
@@ -94,7 +94,8 @@ fn taken_purged(
     let _place = version.place();
     let mut records = taken.records;
     let mut purge_mark = taken.purge_mark;
-    for (number, purged) in version.purges_above(taken.purge_mark).take(n as usize) {
+    let log = version.database().purges();
+    for (number, purged) in log.above(taken.purge_mark).take(n as usize) {
         records = taken_one(alloc, visited, &records, version, purged.id())?;
         purge_mark = *number;
     }
@@ -129,7 +130,8 @@ fn taken_updated(
     let _place = version.place();
     let mut records = taken.records;
     let mut update_mark = taken.update_mark;
-    for (number, changed) in version.changed_since(taken.update_mark).take(n as usize) {
+    let database = version.database();
+    for (number, changed) in database.changed_since(taken.update_mark).take(n as usize) {
         records = taken_one(alloc, visited, &records, version, &changed.0)?;
         update_mark = *number;
     }
@@ -161,7 +163,7 @@ pub(crate) fn taken_touched(
     ensures visits { visited.new ≤ visited.old + n }
     ensures visited { IfOk result (λ _. visited.new ≡ visited.old + length (take n (touched (now version.now) (record { update = taken.update_mark; purge = taken.purge_mark })))) }
 {
-    let purges = version.count_purges_above(taken.purge_mark);
+    let purges = version.database().purges().count_above(taken.purge_mark);
     let taken = taken_purged(alloc, visited, version, taken, n)?;
     let taken = taken_updated(alloc, visited, version, taken, n.saturating_sub(purges))?;
     Ok(taken)

@@ -141,7 +141,7 @@ fn reply_text(
 fn changes_from_now(session: &Session, limit: Option<u64>, style: Style) -> Query
     ensures { result ≡ Changes (now (history_of session.now)).update_seq limit style }
 {
-    let since = session.look().update_seq();
+    let since = session.look().database().documents().update_seq();
     Query::new(QueryKind::Changes {
         since,
         limit,

@@ -132,9 +132,9 @@ entry_is h place seat command reply t stands =
     λ i. record { seat = t.seat_is i; command = t.command_is i; reply = replies i }
 
 -- what a version is compared with tells that the entry is what was asked
-pub told : (c : Chronicle) (place session next : ℕ) (seat : Seat) (command : Command) (e : Entry) → c.base ≡ opening_base
-    → entry_at c.entries place ≡ Some e → session ≡ seat.session → e.seat.session ≡ session → e.seat.call ≡ seat.call → e.command ≡ command → next ≡ calls_of (now c) session + 1 → next - 1 ≡ seat.call → IsTold c.entries place seat command
-told c place session next seat command e base at own mine called same counts last =
+pub told : (c : Chronicle) (place session calls : ℕ) (seat : Seat) (command : Command) (e : Entry) → c.base ≡ opening_base
+    → entry_at c.entries place ≡ Some e → session ≡ seat.session → e.seat.session ≡ session → e.seat.call ≡ seat.call → e.command ≡ command → calls ≡ calls_of (now c) session → calls ≡ seat.call → IsTold c.entries place seat command
+told c place session calls seat command e base at own mine called same counts last =
     let h = c.entries in
     let counted' : calls_of (now c) session ≡ length (of_session session h) = ap (λ (d : Database). calls_of (replay d h) session) base ∙ counted session h in
     let n : length (of_session session h) ≡ seat.call = omega (arith, counts, last, counted') in

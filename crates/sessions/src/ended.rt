@@ -97,5 +97,5 @@ fn calls_of(version: &Version, session: u16) -> u64
     requires base { version.now.base ≡ opening_base }
     ensures { result ≡ length (of_session session version.now.entries) }
 {
-    version.next_call(session) - 1
+    version.database().calls_of(session)
 }

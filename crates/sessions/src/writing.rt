@@ -199,5 +199,5 @@ fn is_told(version: &Version, place: u64, seat: Seat, asked: &Command) -> bool
     if !entry.command.is_same(asked) {
         return false;
     }
-    version.next_call(seat.session()) - 1 == seat.call()
+    version.database().calls_of(seat.session()) == seat.call()
 }

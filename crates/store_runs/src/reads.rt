@@ -16,14 +16,14 @@ fn print_history(rt: &HostRuntime, version: &Version) -> io::Result<()> {
     println!(rt; "place {}", version.place())?;
     println!(rt; "entries {}", count_entries(version))?;
     println!(rt; "next call {}", version.next_call(0))?;
-    println!(rt; "revs limit {}", version.revs_limit())
+    println!(rt; "revs limit {}", version.database().revs_limit())
 }
 
 fn print_documents(rt: &HostRuntime, version: &Version) -> io::Result<()> {
-    let counts = version.counts();
+    let counts = version.database().counts();
     println!(rt;
         "documents {} {}",
-        version.document_count(),
+        version.database().documents().len(),
         counts.doc_count
     )?;
     println!(rt; "found {}", count_found(version))?;
@@ -32,21 +32,21 @@ fn print_documents(rt: &HostRuntime, version: &Version) -> io::Result<()> {
 }
 
 fn print_changes(rt: &HostRuntime, version: &Version) -> io::Result<()> {
-    println!(rt; "update seq {}", version.update_seq())?;
-    println!(rt; "changes {}", version.changed_since(0).count())?;
-    println!(rt; "changes counted {}", version.count_changed_since(0))
+    println!(rt; "update seq {}", version.database().documents().update_seq())?;
+    println!(rt; "changes {}", version.database().changed_since(0).count())?;
+    println!(rt; "changes counted {}", version.database().count_changed_since(0))
 }
 
 fn print_purges(rt: &HostRuntime, version: &Version) -> io::Result<()> {
-    println!(rt; "purge seq {}", version.purge_seq())?;
-    println!(rt; "purges {}", version.purges_above(0).count())?;
-    println!(rt; "purges counted {}", version.count_purges_above(0))?;
+    println!(rt; "purge seq {}", version.database().purges().purge_seq())?;
+    println!(rt; "purges {}", version.database().purges().above(0).count())?;
+    println!(rt; "purges counted {}", version.database().purges().count_above(0))?;
     println!(rt; "touched {}", version.touched_since(0, 0).unwrap_or(0))
 }
 
 fn print_shares(rt: &HostRuntime, version: &Version) -> io::Result<()> {
     println!(rt; "shared {}", is_shared(version))?;
-    println!(rt; "records {}", version.records().is_ok())
+    println!(rt; "records {}", version.database().documents().share().is_ok())
 }
 
 fn is_shared(version: &Version) -> bool {
@@ -66,8 +66,8 @@ fn count_entries(version: &Version) -> u64 {
 /// How many documents are found by their ids.
 fn count_found(version: &Version) -> u64 {
     let mut found: u64 = 0;
-    for (id, _) in version.documents() {
-        if version.record(id).is_some() {
+    for (id, _) in version.database().documents().iter() {
+        if version.database().documents().get(id).is_some() {
             found = found.saturating_add(1);
         }
     }
@@ -77,8 +77,8 @@ fn count_found(version: &Version) -> u64 {
 /// How many documents are the first of those from their ids on.
 fn count_first(version: &Version) -> u64 {
     let mut found: u64 = 0;
-    for (id, _) in version.documents() {
-        if let Some((first, _)) = version.documents_from(id).next() {
+    for (id, _) in version.database().documents().iter() {
+        if let Some((first, _)) = version.database().documents().range_from(id).next() {
             if first == id {
                 found = found.saturating_add(1);
             }
@@ -90,8 +90,8 @@ fn count_first(version: &Version) -> u64 {
 /// How many documents have a local one of their id.
 fn count_locals(version: &Version) -> u64 {
     let mut found: u64 = 0;
-    for (id, _) in version.documents() {
-        if version.local(id).is_some() {
+    for (id, _) in version.database().documents().iter() {
+        if version.database().locals().get(id).is_some() {
             found = found.saturating_add(1);
         }
     }

@@ -13,10 +13,10 @@ pub(super) fn push_content(text: &mut String, version: &Version) -> Result<(), A
     write!(
         text,
         " update {} purge {} ",
-        version.update_seq(),
-        version.purge_seq()
+        version.database().documents().update_seq(),
+        version.database().purges().purge_seq()
     )?;
-    for (id, stored) in version.documents() {
+    for (id, stored) in version.database().documents().iter() {
         push_document(text, id, stored.get())?;
     }
     Ok(())

@@ -33,7 +33,7 @@ const DOCUMENTS: [&str; 20] = [
 
 /// The revision to write over, which wins in the version.
 fn winner(version: &Version, id: &DocId) -> Option<RevId> {
-    Some(version.record(id)?.tree().winner().rev)
+    Some(version.database().documents().get(id)?.tree().winner().rev)
 }
 
 /// An edit of a document over what wins in the version.

@@ -6,7 +6,7 @@ use Rattle.std.proofs.lemmas.Iterator.{YieldsList-from_take}
 use Rattle.std.proofs.lemmas.Iterator.Consumers.{YieldsList-from_rest, YieldsList-end}
 use Rattle.model.specs.Database.{Database}
 use Rattle.model.specs.History.{now}
-use Rattle.model.specs.PurgeLog.{purges_since}
+use Rattle.model.specs.PurgeLog.{PurgeLog, purges_since}
 use Rattle.model.specs.Compaction.{Marks, Touched, WasPurged, of_purge, passed, touched_id}
 use Rattle.purge.specs.Log.{PurgedEntry, info_of}
 use Rattle.snapshots.specs.Listing.{Listing}
@@ -32,15 +32,15 @@ loop-number-preserved c =
 pub returns-clause-taken : goal.returns-clause-taken
 returns-clause-taken c =
     let d : Database = now c.args.version.now in
-    let t = YieldsList-end (YieldsList-from_take {s = c.into_iter-number-iterator.result} c.args.n (YieldsList-from_rest {shows = deref_pair} c.purges_above.result cc) cc) c.loop-number.yielded _ c.loop-number.yielded_by _ _ c.in-None.is c.next.ensures.steps in
+    let t = YieldsList-end (YieldsList-from_take {s = c.into_iter-number-iterator.result} c.args.n (YieldsList-from_rest {shows = deref_pair} c.above.result cc) cc) c.loop-number.yielded _ c.loop-number.yielded_by _ _ c.in-None.is c.next.ensures.steps in
     c.loop-number.invariant.taken
     ∙ ap (λ (ts : List Touched). record c.args.taken.records { docs = taken_all c.args.taken.records.docs d (map touched_id ts) })
-    (ap (λ (es : List (ℕ × PurgedEntry)). map of_purge (map info_of es)) t.0 ∙ purges-taken c.args.n c.purges_above.result (purges_since d.purges c.args.taken.purge_mark) c.purges_above.ensures.rest)
+    (ap (λ (es : List (ℕ × PurgedEntry)). map of_purge (map info_of es)) t.0 ∙ purges-taken c.args.n c.above.result (purges_since d.purges c.args.taken.purge_mark) (c.above.ensures.rest ∙ ap (λ (l : PurgeLog). purges_since l c.args.taken.purge_mark) c.purges-log.ensures.log ∙ ap (λ (e : Database). purges_since e.purges c.args.taken.purge_mark) c.database.ensures))
 
 pub returns-clause-marks : goal.returns-clause-marks
 returns-clause-marks c =
     let d : Database = now c.args.version.now in
-    let t = YieldsList-end (YieldsList-from_take {s = c.into_iter-number-iterator.result} c.args.n (YieldsList-from_rest {shows = deref_pair} c.purges_above.result cc) cc) c.loop-number.yielded _ c.loop-number.yielded_by _ _ c.in-None.is c.next.ensures.steps in
+    let t = YieldsList-end (YieldsList-from_take {s = c.into_iter-number-iterator.result} c.args.n (YieldsList-from_rest {shows = deref_pair} c.above.result cc) cc) c.loop-number.yielded _ c.loop-number.yielded_by _ _ c.in-None.is c.next.ensures.steps in
     let m : Marks = record { update = c.args.taken.update_mark; purge = c.args.taken.purge_mark } in
     c.loop-number.invariant.marks
-    ∙ ap (passed m) (ap (λ (es : List (ℕ × PurgedEntry)). map of_purge (map info_of es)) t.0 ∙ purges-taken c.args.n c.purges_above.result (purges_since d.purges c.args.taken.purge_mark) c.purges_above.ensures.rest)
+    ∙ ap (passed m) (ap (λ (es : List (ℕ × PurgedEntry)). map of_purge (map info_of es)) t.0 ∙ purges-taken c.args.n c.above.result (purges_since d.purges c.args.taken.purge_mark) (c.above.ensures.rest ∙ ap (λ (l : PurgeLog). purges_since l c.args.taken.purge_mark) c.purges-log.ensures.log ∙ ap (λ (e : Database). purges_since e.purges c.args.taken.purge_mark) c.database.ensures))
