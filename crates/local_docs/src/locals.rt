@@ -3,6 +3,7 @@ ghost use Rattle.std.specs.Prelude.{◌≡◌, ◌↔◌, T, Ok, Err, Some, None
 ghost use Rattle.std.specs.Arc.{arc_value};
 ghost use Rattle.std.specs.FinMap.Entries.{is_sorted};
 ghost use Rattle.model.specs.Body as model_body;
+ghost use Rattle.model.specs.Command as model;
 ghost use Rattle.model.specs.declared.refusal.Refusal.TheVariants as refusal;
 ghost use Rattle.model.specs.Local.{local_written, store_local};
 ghost use Rattle.model.specs.Map.{get, empty, put as put_in, without as without_in};
