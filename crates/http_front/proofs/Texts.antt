@@ -1,6 +1,6 @@
 -- What is asked has a text: each reply to a command in a form in which it is asked, and each answer to a query.
-use Rattle.std.proofs.Common.{◌≡◌, ℕ, List, [], ◌∷◌, Option, Some, None, Result, Ok, Err, String, Global, refl, sym, ◌∙◌}
-use Rattle.std.specs.Prelude.{IfOk, IsSome, string_bytes, option_map}
+use Rattle.std.proofs.Common.{◌≡◌, ℕ, List, [], ◌∷◌, Option, Some, None, Result, Ok, Err, refl, sym, ◌∙◌}
+use Rattle.std.specs.Prelude.{IfOk, IsSome, option_map}
 use Rattle.model.specs.Command.{Command, Edits, Merges, PutLocal, Purge, SetLimit, Compact, Reply}
 use Rattle.model.specs.Query.{Query, Get, OpenRevs, RevsDiff, Changes, AllDocuments, Info, GetLocal, RevsLimit, Answer}
 use Rattle.model.specs.Database.{Database, reply_to}
@@ -67,8 +67,8 @@ unfolding answer_text
 answer_due place connection query answer some = due place connection (answer_told query answer) some
 
 -- what was made is the text that is due
-pub made_due : {E : Type 0} (made : Result (String Global) E) (wanted : Option (List ℕ)) (text : List ℕ) → Some text ≡ wanted
-    → IfOk made (λ m. Some (string_bytes m) ≡ wanted) → IfOk made (λ m. string_bytes m ≡ text)
+pub made_due : {E : Type 0} (made : Result (List ℕ) E) (wanted : Option (List ℕ)) (text : List ℕ) → Some text ≡ wanted
+    → IfOk made (λ m. Some m ≡ wanted) → IfOk made (λ m. m ≡ text)
 made_due (Ok m) wanted text is said = let same = said ∙ sym is in cc
 made_due (Err refused) wanted text is said = tt
 

@@ -17,46 +17,40 @@ use Rattle.http_front.specs.Outcome.{Outcome, Fixed, Wrote, WroteUntold, Read, O
 use Rattle.http_front.specs.Session.{WritesCall}
 use Rattle.http_front.specs.Answers.{AnswersAlone}
 use Rattle.http_front.specs.Response.{turn_of, Sends, SaysLost, SendsOrLost}
-use Rattle.http_front.specs.declared.response.Response.{Response}
+use Rattle.http_front.specs.declared.response.Sent.{Sent}
 
-module _ (k : Known) (place : ℕ) (place_is : place ≡ length k.seen) (response : Response) where
+module _ (k : Known) (place : ℕ) (place_is : place ≡ length k.seen) (sent : Sent) where
   -- nothing was written
-  unchanged : (item : Item) (outcome : Outcome) → written outcome ≡ [] → TellsAt k (turn_of item response) place outcome → AnswersAlone k (turn_of item response) k
+  unchanged : (item : Item) (outcome : Outcome) → written outcome ≡ [] → TellsAt k (turn_of item sent) place outcome → AnswersAlone k (turn_of item sent) k
   unchanged item outcome none told = record {
     outcome = outcome;
-    told = subst (λ (p : ℕ). TellsAt k (turn_of item response) p outcome) place_is told;
+    told = subst (λ (p : ℕ). TellsAt k (turn_of item sent) p outcome) place_is told;
     entries = (λ i. record k { seen = (sym (append-nil k.seen) ∙ ap (λ (es : List Entry). k.seen ++ es) (sym none)) i });
   }
 
   -- memory was refused
-  pub answers_lost : (request : Request) → SaysLost place lost.Call response → AnswersAlone k (turn_of (Asked request) response) k
+  pub answers_lost : (request : Request) → SaysLost place lost.Call sent → AnswersAlone k (turn_of (Asked request) sent) k
   answers_lost request says = unchanged (Asked request) OutOfMemory refl (tt, says.0, says.1)
 
   -- the text of a refusal, or of `/`
-  pub answers_fixed : (item : Item) (text : List ℕ) → HasFixedText place item text → Sends text (closes_connection item) response
-      → AnswersAlone k (turn_of item response) k
+  pub answers_fixed : (item : Item) (text : List ℕ) → HasFixedText place item text → Sends text (closes_connection item) sent
+      → AnswersAlone k (turn_of item sent) k
   answers_fixed item text fixed sends = unchanged item Fixed refl (subst (HasFixedText place item) (sym sends.0) fixed, sends.1)
-
-  -- the same of a request, unless memory was refused
-  answers_fixed-or_lost : (request : Request) (text : List ℕ) → HasFixedText place (Asked request) text → SendsOrLost text request.closes place lost.Call response
-      → AnswersAlone k (turn_of (Asked request) response) k
-  answers_fixed-or_lost request text fixed (inl sends) = answers_fixed (Asked request) text fixed sends
-  answers_fixed-or_lost request text fixed (inr says) = answers_lost request says
 
   module _ (request : Request) (closes : Bool) (closes_is : request.closes ≡ closes) where
     -- the text of what was decided, where that is a refusal or `/`
     pub answers_decided : (decided : _) (text : List ℕ) → decided ≡ decide request → IsFixedText place closes decided text
-        → SendsOrLost text closes place lost.Call response → AnswersAlone k (turn_of (Asked request) response) k
+        → Sends text closes sent → AnswersAlone k (turn_of (Asked request) sent) k
     answers_decided decided text is fixed sends =
-        answers_fixed-or_lost request text
+        answers_fixed (Asked request) text
         (subst (λ (c : Bool). IsFixedText place c (decide request) text) (sym closes_is) (subst (λ d. IsFixedText place closes d text) is fixed))
-        (subst (λ (c : Bool). SendsOrLost text c place lost.Call response) (sym closes_is) sends)
+        (sends.0, sends.1 ∙ sym closes_is)
 
     -- the answer to a query
     pub answers_query : (query : Query) (answer : Answer) → AsksQuery (now (history_of k)) (Asked request) query → answer ≡ answer_to (now (history_of k)) query
         → (text : List ℕ) → Some text ≡ answer_text place (after_closing closes) query answer
-        → SendsOrLost text closes place lost.Call response
-        → AnswersAlone k (turn_of (Asked request) response) k
+        → SendsOrLost text closes place lost.Call sent
+        → AnswersAlone k (turn_of (Asked request) sent) k
     answers_query query answer asks answers text text_is (inl sends) =
         let all : take place k.seen ≡ k.seen = take_all place k.seen (omega (arith, place_is)) in
         unchanged (Asked request) (Read query answer) refl (
@@ -68,30 +62,29 @@ module _ (k : Known) (place : ℕ) (place_is : place ≡ length k.seen) (respons
 
     -- the history is full
     pub answers_full : (form : Form) (command : Command) → decide request ≡ Ok (asked.Command form command) → length k.seen ≡ k.room
-        → SendsOrLost (full_text place (after_closing closes)) closes place lost.Call response
-        → AnswersAlone k (turn_of (Asked request) response) k
-    answers_full form command asks full (inl sends) =
+        → Sends (full_text place (after_closing closes)) closes sent
+        → AnswersAlone k (turn_of (Asked request) sent) k
+    answers_full form command asks full sends =
         unchanged (Asked request) Full refl
         (form, command, asks, place_is ∙ full, sends.0 ∙ ap (λ (c : Bool). full_text place (after_closing c)) (sym sends.1), sends.1 ∙ sym closes_is)
-    answers_full form command asks full (inr says) = answers_lost request says
 
     module _ (old : Known) (seat : Seat) (form : Form) (command : Command) (reply : Reply) (asks : decide request ≡ Ok (asked.Command form command)) (writes : WritesCall old seat command place reply k) (entry_is : k ≡ sees_more old (record { seat = seat; command = command; reply = reply } ∷ [])) where
       own : seat.session ≡ k.number
       own = writes.seat ∙ ap (λ (o : Known). o.number) (sym entry_is)
 
       -- the entry was written
-      answers_entry : (outcome : Outcome) → written outcome ≡ record { seat = seat; command = command; reply = reply } ∷ [] → TellsAt k (turn_of (Asked request) response) place outcome
-          → AnswersAlone old (turn_of (Asked request) response) k
+      answers_entry : (outcome : Outcome) → written outcome ≡ record { seat = seat; command = command; reply = reply } ∷ [] → TellsAt k (turn_of (Asked request) sent) place outcome
+          → AnswersAlone old (turn_of (Asked request) sent) k
       answers_entry outcome one told = record {
         outcome = outcome;
-        told = subst (λ (p : ℕ). TellsAt k (turn_of (Asked request) response) p outcome) place_is told;
+        told = subst (λ (p : ℕ). TellsAt k (turn_of (Asked request) sent) p outcome) place_is told;
         entries = entry_is ∙ ap (sees_more old) (sym one);
       }
 
       -- the reply to a command
       pub answers_command : (text : List ℕ) → Some text ≡ reply_text place (after_closing closes) form command reply
-          → SendsOrLost text closes place lost.Reply response
-          → AnswersAlone old (turn_of (Asked request) response) k
+          → SendsOrLost text closes place lost.Reply sent
+          → AnswersAlone old (turn_of (Asked request) sent) k
       answers_command text text_is (inl sends) =
           answers_entry (Wrote form (record { seat = seat; command = command; reply = reply })) refl (
             record { asked = asks; own = own; told = writes.told },

@@ -1,11 +1,14 @@
 //! The connections of a session.
 
-ghost use Rattle.std.specs.Prelude.{◌≡◌};
+ghost use Rattle.std.specs.Prelude.{◌≡◌, IfOk};
 ghost use Rattle.model.specs.History.{of_session};
+ghost use Rattle.streams.specs.Counts.{CountsFailure};
+ghost use Rattle.streams.specs.Writes.{Writes};
 ghost use Rattle.serving.specs.Served.{Streams};
 ghost use Rattle.http_front.specs.Answers.{AnswersAlone};
 ghost use Rattle.http_front.specs.Connection.{IsConnection};
 
+use crate::response::Sent;
 use crate::session::Session;
 use crate::turn::{Setting, refuse, respond};
 use http_framing::FramingFault;
@@ -23,8 +26,8 @@ impl Service<Setting> for Session {
         request: &Request<'_>,
         writer: &mut W,
     ) -> Result<bool, Failed> {
-        let response = respond(self, setting, request);
-        write_response(writer, response.bytes(), response.closes())
+        let sent = respond(self, setting, request);
+        send(writer, &sent)
     }
 
     fn refuse<W: Sink>(
@@ -33,10 +36,21 @@ impl Service<Setting> for Session {
         fault: FramingFault,
         writer: &mut W,
     ) -> Result<(), Failed> {
-        let response = refuse(self, fault);
-        write_response(writer, response.bytes(), response.closes())?;
+        let sent = refuse(self, fault);
+        send(writer, &sent)?;
         Ok(())
     }
+}
+
+/// Writes a response, and answers whether the connection closes after it.
+fn send<W: Sink>(writer: &mut W, sent: &Sent) -> Result<bool, Failed>
+    ensures written { Writes (W.taken writer.old) (W.taken writer.new) result sent.now.response }
+    ensures closes { IfOk result (λ closes. closes ≡ sent.now.closes) }
+    ensures failures { CountsFailure (W.failed_writes writer.old)
+        (W.failed_writes writer.new) result }
+{
+    let (head, body) = sent.response.parts();
+    write_response(writer, head.as_bytes(), body.as_bytes(), sent.closes)
 }
 
 /// Serves the requests of the reader to the writer, in order, each as soon as it is whole.

@@ -1,6 +1,6 @@
 //! The turns of a session.
 
-ghost use Rattle.std.specs.Prelude.{◌≡◌, ◌++◌, length, Ok, Some, IfOk, IsSome, string_bytes};
+ghost use Rattle.std.specs.Prelude.{◌≡◌, ◌++◌, length, Ok, Some, IfOk, IsSome};
 ghost use Rattle.http_framing.specs.Input.{Asked as AskedItem, Refused};
 ghost use Rattle.http_framing.specs.Request as framing;
 ghost use Rattle.http_request.specs.Decide.{decide};
@@ -14,14 +14,14 @@ ghost use Rattle.http_front.specs.Known.{history_of};
 ghost use Rattle.http_front.specs.Outcome.{AsksQuery};
 ghost use Rattle.http_front.specs.Response.{turn_of};
 
-use crate::response::{Response, connection_after};
+use crate::response::{Sent, connection_after};
 use crate::session::{Receipt, Session, WriteFault};
 use changes_feed::answer;
 use commands::Command;
 use http_framing::FramingFault;
 use http_framing::request::Request;
 use http_request::{Asked, Form, read_request};
-use http_response::{Connection, Lost, closing, full, refused, reply, welcome};
+use http_response::{Connection, Lost, Response, closing, full, refused, reply, welcome};
 use http_routes::Routes;
 use model::Style;
 use queries::{Answer, Query, QueryKind};
@@ -45,26 +45,26 @@ impl Setting {
 }
 
 /// Does what a request asks, and answers it.
-pub(crate) fn respond(session: &mut Session, setting: &Setting, request: &Request<'_>) -> Response
+pub(crate) fn respond(session: &mut Session, setting: &Setting, request: &Request<'_>) -> Sent
     ensures { AnswersAlone session.old (turn_of (AskedItem request.now) result) session.new }
 {
     let alloc = setting.alloc;
     let place = session.place();
     let closes = request.closes();
     let Ok(asked) = read_request(alloc, &setting.routes, request) else {
-        return Response::out_of_memory(place, Lost::Call);
+        return Sent::out_of_memory(place, Lost::Call);
     };
     match asked {
         Ok(asked) => carry_out(session, alloc, &asked, closes),
         Err(refusal) => {
-            let text = refused(alloc, place, connection_after(closes), refusal);
-            Response::new(text, closes, place, Lost::Call)
+            let response = refused(place, connection_after(closes), refusal);
+            Sent { response, closes }
         }
     }
 }
 
 /// Does what is asked, and answers it.
-fn carry_out(session: &mut Session, alloc: Global, asked: &Asked, closes: bool) -> Response
+fn carry_out(session: &mut Session, alloc: Global, asked: &Asked, closes: bool) -> Sent
     requires { HasForm asked.now }
     ensures { (request : framing.Request) → decide request ≡ Ok asked.now
         → request.closes ≡ closes
@@ -78,21 +78,14 @@ fn carry_out(session: &mut Session, alloc: Global, asked: &Asked, closes: bool) 
             read(session, alloc, &query, closes)
         }
         Asked::Welcome => {
-            let place = session.place();
-            let text = welcome(alloc, place, connection_after(closes));
-            Response::new(text, closes, place, Lost::Call)
+            let response = welcome(session.place(), connection_after(closes));
+            Sent { response, closes }
         }
     }
 }
 
 /// Writes a command, and tells the reply in this form.
-fn write(
-    session: &mut Session,
-    alloc: Global,
-    form: Form,
-    command: &Command,
-    closes: bool,
-) -> Response
+fn write(session: &mut Session, alloc: Global, form: Form, command: &Command, closes: bool) -> Sent
     requires { IsFormOf form command.now }
     ensures { (request : framing.Request) → decide request ≡ Ok (Asked.Command form command.now)
         → request.closes ≡ closes
@@ -102,30 +95,30 @@ fn write(
     match session.write(alloc, command) {
         Ok(receipt) => {
             let place = receipt.place;
-            let text = reply_text(alloc, connection, form, command, &receipt);
-            Response::new(text, closes, place, Lost::Reply)
+            let response = reply_to(alloc, connection, form, command, &receipt);
+            Sent::made(response, closes, place, Lost::Reply)
         }
-        Err(WriteFault::Memory) => Response::out_of_memory(session.place(), Lost::Call),
+        Err(WriteFault::Memory) => Sent::out_of_memory(session.place(), Lost::Call),
         Err(WriteFault::Full) => {
-            let place = session.place();
-            Response::new(full(alloc, place, connection), closes, place, Lost::Call)
+            let response = full(session.place(), connection);
+            Sent { response, closes }
         }
     }
 }
 
-/// The text of the reply to a command that was asked for in this form.
-fn reply_text(
+/// The reply to a command that was asked for in this form.
+fn reply_to(
     alloc: Global,
     connection: Connection,
     form: Form,
     command: &Command,
     receipt: &Receipt,
-) -> Result<String, AllocError>
+) -> Result<Response, AllocError>
     requires { IsSome (reply_told form command.now receipt.now.reply) }
-    ensures { IfOk result (λ text. Some (string_bytes text)
+    ensures { IfOk result (λ response. Some response
         ≡ reply_text receipt.now.place connection form command.now receipt.now.reply) }
 {
-    let text = reply(
+    let response = reply(
         alloc,
         receipt.place,
         connection,
@@ -133,8 +126,10 @@ fn reply_text(
         command,
         &receipt.reply,
     )?;
-    let Some(text) = text else { unreachable!() };
-    Ok(text)
+    let Some(response) = response else {
+        unreachable!()
+    };
+    Ok(response)
 }
 
 /// The query for the changes after all that the session has seen.
@@ -150,7 +145,7 @@ fn changes_from_now(session: &Session, limit: Option<u64>, style: Style) -> Quer
 }
 
 /// Answers a query by what the session has seen.
-fn read(session: &Session, alloc: Global, query: &Query, closes: bool) -> Response
+fn read(session: &Session, alloc: Global, query: &Query, closes: bool) -> Sent
     ensures { (request : framing.Request)
         → AsksQuery (now (history_of session.now)) (AskedItem request) query.now
         → request.closes ≡ closes
@@ -158,32 +153,37 @@ fn read(session: &Session, alloc: Global, query: &Query, closes: bool) -> Respon
 {
     let place = session.place();
     let Ok(found) = answer(alloc, session.look(), query) else {
-        return Response::out_of_memory(place, Lost::Call);
+        return Sent::out_of_memory(place, Lost::Call);
     };
-    let text = answer_text(alloc, place, connection_after(closes), query, &found);
-    Response::new(text, closes, place, Lost::Call)
+    let response = answer_with(alloc, place, connection_after(closes), query, &found);
+    Sent::made(response, closes, place, Lost::Call)
 }
 
-/// The text of the answer to a query.
-fn answer_text(
+/// The answer to a query.
+fn answer_with(
     alloc: Global,
     place: u64,
     connection: Connection,
     query: &Query,
     found: &Answer,
-) -> Result<String, AllocError>
+) -> Result<Response, AllocError>
     requires { IsSome (answer_told query.now found.now) }
-    ensures { IfOk result (λ text. Some (string_bytes text)
+    ensures { IfOk result (λ response. Some response
         ≡ answer_text place connection query.now found.now) }
 {
-    let text = http_response::answer(alloc, place, connection, query, found)?;
-    let Some(text) = text else { unreachable!() };
-    Ok(text)
+    let response = http_response::answer(alloc, place, connection, query, found)?;
+    let Some(response) = response else {
+        unreachable!()
+    };
+    Ok(response)
 }
 
 /// Answers bytes that are refused.
-pub(crate) fn refuse(session: &Session, fault: FramingFault) -> Response
+pub(crate) fn refuse(session: &Session, fault: FramingFault) -> Sent
     ensures { AnswersAlone session.now (turn_of (Refused fault) result) session.now }
 {
-    Response::last(closing(session.place(), fault))
+    Sent {
+        response: closing(session.place(), fault),
+        closes: true,
+    }
 }

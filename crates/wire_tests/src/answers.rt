@@ -1,5 +1,6 @@
 //! The texts of answers to queries.
 
+use crate::texts::text_of;
 use commands::NamedRevisions;
 use document_id::DocId;
 use http_response::{Connection, answer};
@@ -28,8 +29,8 @@ fn rev() -> Result<RevId, Fail> {
 fn told(rt: &HostRuntime, query: QueryKind, told: AnswerKind) -> Result<String, Fail> {
     let query = Query::new(query);
     let told = Answer::new(told);
-    let text = answer(rt.alloc(), 1, Connection::Open, &query, &told)?;
-    Ok(text.ok_or("no text")?)
+    let response = answer(rt.alloc(), 1, Connection::Open, &query, &told)?.ok_or("no response")?;
+    text_of(rt.alloc(), &response)
 }
 
 #[test]
@@ -39,8 +40,8 @@ fn answers_to_other_queries(rt: HostRuntime) -> Result<(), Fail> {
         Query::new(QueryKind::Info),
         Query::new(QueryKind::AllDocuments),
     ] {
-        let text = answer(rt.alloc(), 1, Connection::Open, &query, &limit)?;
-        assert!(rt; text.is_none());
+        let response = answer(rt.alloc(), 1, Connection::Open, &query, &limit)?;
+        assert!(rt; response.is_none());
     }
     Ok(())
 }

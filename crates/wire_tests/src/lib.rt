@@ -7,3 +7,5 @@ mod answers;
 mod requests;
 #[cfg(test)]
 mod responses;
+#[cfg(test)]
+mod texts;

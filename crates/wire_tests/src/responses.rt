@@ -1,5 +1,6 @@
 //! The texts of replies to commands, and of refusals.
 
+use crate::texts::text_of;
 use commands::{Command, Edit, Merge, Reply, ReplyKind};
 use document_id::DocId;
 use document_json::Reason;
@@ -27,8 +28,8 @@ fn reply_to_put(
     let command = Command::edits(edits).ok_or("command")?;
     let outcomes = vec![in alloc; outcome].ok().ok_or("memory")?;
     let told = Reply::new(ReplyKind::Wrote(outcomes));
-    let text = reply(alloc, 1, Connection::Open, form, &command, &told)?;
-    Ok(text.ok_or("no text")?)
+    let response = reply(alloc, 1, Connection::Open, form, &command, &told)?.ok_or("no response")?;
+    text_of(alloc, &response)
 }
 
 #[test]
@@ -78,6 +79,13 @@ fn two_writes(alloc: Global, refusal: Refusal) -> Result<Reply, Fail> {
     Ok(Reply::new(ReplyKind::Wrote(outcomes)))
 }
 
+fn reply_whole(alloc: Global, place: u64, command: &Command, told: &Reply) -> Result<String, Fail> {
+    let response = reply(alloc, place, Connection::Open, Form::Whole, command, told)?.ok_or(
+        "no response",
+    )?;
+    text_of(alloc, &response)
+}
+
 #[test]
 fn bulks(rt: HostRuntime) -> Result<(), Fail> {
     let alloc = rt.alloc();
@@ -85,18 +93,14 @@ fn bulks(rt: HostRuntime) -> Result<(), Fail> {
     let edits = Command::edits(edits).ok_or("command")?;
     let told = two_writes(alloc, Refusal::Conflict)?;
     assert_eq!(rt;
-        reply(alloc, 1, Connection::Open, Form::Whole, &edits, &told)?
-            .ok_or("no text")?
-            .as_str(),
+        reply_whole(alloc, 1, &edits, &told)?.as_str(),
         "HTTP/1.1 201 Created\r\nContent-Type: application/json\r\nContent-Length: 132\r\nCouch-Place: 1\r\n\r\n[{\"id\":\"a\",\"ok\":true,\"rev\":\"1-0123456789abcdef0123456789abcdef\"},{\"error\":\"conflict\",\"id\":\"b\",\"reason\":\"Document update conflict.\"}]"
     );
     let merges = vec![in alloc; merge(alloc, "a")?, merge(alloc, "b")?]?;
     let merges = Command::merges(merges).ok_or("command")?;
     let told = two_writes(alloc, Refusal::BadHistory)?;
     assert_eq!(rt;
-        reply(alloc, 2, Connection::Open, Form::Whole, &merges, &told)?
-            .ok_or("no text")?
-            .as_str(),
+        reply_whole(alloc, 2, &merges, &told)?.as_str(),
         "HTTP/1.1 201 Created\r\nContent-Type: application/json\r\nContent-Length: 82\r\nCouch-Place: 2\r\n\r\n[{\"error\":\"bad_history\",\"id\":\"b\",\"reason\":\"A known revision has another parent.\"}]"
     );
     Ok(())
@@ -113,8 +117,8 @@ fn no_such_replies(rt: HostRuntime) -> Result<(), Fail> {
         (Form::Put, merges, &written),
     ];
     for (form, command, told) in rows {
-        let text = reply(alloc, 1, Connection::Open, form, &command, told)?;
-        assert!(rt; text.is_none());
+        let response = reply(alloc, 1, Connection::Open, form, &command, told)?;
+        assert!(rt; response.is_none());
     }
     Ok(())
 }
@@ -127,8 +131,8 @@ fn reply_to_local(
     let alloc = rt.alloc();
     let command = Command::put_local(id(alloc, "a")?, None, None).ok_or("command")?;
     let told = Reply::new(ReplyKind::WroteLocal(outcome));
-    let text = reply(alloc, 3, Connection::Open, form, &command, &told)?;
-    Ok(text.ok_or("no text")?)
+    let response = reply(alloc, 3, Connection::Open, form, &command, &told)?.ok_or("no response")?;
+    text_of(alloc, &response)
 }
 
 #[test]
@@ -163,8 +167,8 @@ fn answer_to_get(rt: &HostRuntime, found: Result<Document, Absent>) -> Result<St
         },
     });
     let found = Answer::new(AnswerKind::Found(found));
-    let text = answer(alloc, 1, Connection::Close, &query, &found)?;
-    Ok(text.ok_or("no text")?)
+    let response = answer(alloc, 1, Connection::Close, &query, &found)?.ok_or("no response")?;
+    text_of(alloc, &response)
 }
 
 #[test]
@@ -195,26 +199,21 @@ fn a_get(rt: HostRuntime) -> Result<(), Fail> {
 #[test]
 fn refusals(rt: HostRuntime) -> Result<(), Fail> {
     let alloc = rt.alloc();
-    let number = refused(
-        alloc,
-        12,
-        Connection::Open,
-        Rejection::BadRequest(Reason::Number),
-    )?;
+    let refusal = Rejection::BadRequest(Reason::Number);
     assert_eq!(rt;
-        number.as_str(),
+        text_of(alloc, &refused(12, Connection::Open, refusal))?.as_str(),
         "HTTP/1.1 400 Bad Request\r\nContent-Type: application/json\r\nContent-Length: 41\r\nCouch-Place: 12\r\n\r\n{\"error\":\"bad_request\",\"reason\":\"number\"}"
     );
     let refusal = Rejection::MethodNotAllowed(Route::Document);
     assert_eq!(rt;
-        refused(alloc, 0, Connection::Close, refusal)?.as_str(),
+        text_of(alloc, &refused(0, Connection::Close, refusal))?.as_str(),
         "HTTP/1.1 405 Method Not Allowed\r\nContent-Type: application/json\r\nContent-Length: 61\r\nCouch-Place: 0\r\nAllow: GET, PUT, DELETE\r\nConnection: close\r\n\r\n{\"error\":\"method_not_allowed\",\"reason\":\"Method not allowed.\"}"
     );
     Ok(())
 }
 
 #[test]
-fn broken_input(rt: HostRuntime) {
+fn broken_input(rt: HostRuntime) -> Result<(), Fail> {
     let cases = [
         (
             0,
@@ -243,23 +242,24 @@ fn broken_input(rt: HostRuntime) {
         ),
     ];
     for (place, fault, text) in cases {
-        assert_eq!(rt; closing(place, fault).as_str(), text);
+        assert_eq!(rt; text_of(rt.alloc(), &closing(place, fault))?.as_str(), text);
     }
+    Ok(())
 }
 
 #[test]
 fn fixed_texts(rt: HostRuntime) -> Result<(), Fail> {
     let alloc = rt.alloc();
     assert_eq!(rt;
-        welcome(alloc, 0, Connection::Open)?.as_str(),
+        text_of(alloc, &welcome(0, Connection::Open))?.as_str(),
         "HTTP/1.1 200 OK\r\nContent-Type: application/json\r\nContent-Length: 21\r\nCouch-Place: 0\r\n\r\n{\"couchdb\":\"Welcome\"}"
     );
     assert_eq!(rt;
-        full(alloc, 1, Connection::Open)?.as_str(),
+        text_of(alloc, &full(1, Connection::Open))?.as_str(),
         "HTTP/1.1 503 Service Unavailable\r\nContent-Type: application/json\r\nContent-Length: 39\r\nCouch-Place: 1\r\n\r\n{\"error\":\"unavailable\",\"reason\":\"full\"}"
     );
     assert_eq!(rt;
-        no_memory(18446744073709551615, Lost::Reply).as_str(),
+        text_of(alloc, &no_memory(18446744073709551615, Lost::Reply))?.as_str(),
         "HTTP/1.1 507 Insufficient Storage\r\nContent-Type: application/json\r\nContent-Length: 38\r\nCouch-Place: 18446744073709551615\r\nConnection: close\r\n\r\n{\"error\":\"no_memory\",\"reason\":\"reply\"}"
     );
     Ok(())

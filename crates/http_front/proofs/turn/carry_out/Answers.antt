@@ -3,8 +3,6 @@ use Rattle.http_request.specs.declared.asked.Asked.TheVariants as asked
 use Rattle.http_request.specs.Forms.{HasForm}
 use Rattle.http_response.specs.Texts.{welcome_text}
 use Rattle.http_response.specs.declared.connection.Connection.{Connection}
-use Rattle.http_response.specs.declared.lost.Lost.TheVariants as lost
-use Rattle.http_front.specs.Response.{SendsOrLost}
 use Rattle.http_front.proofs.Turns.{answers_decided}
 use Rattle.http_front.proofs.turn.carry_out.Goals as goal
 
@@ -14,8 +12,7 @@ write-requires c = subst HasForm c.in-Command.is c.requires
 pub returns-in-Welcome : goal.returns-in-Welcome
 returns-in-Welcome c =
     λ request asks closes_is.
-    let place = c.place-place.result in
-    answers_decided c.args.session.now place c.place-place.ensures c.new.result request c.args.closes closes_is (Ok asked.Welcome) _
+    let place = c.place.result in
+    answers_decided c.args.session.now place c.place.ensures _ request c.args.closes closes_is (Ok asked.Welcome) _
     (sym (asks ∙ ap Ok c.in-Welcome.is)) refl
-    (subst (λ (k : Connection). SendsOrLost (welcome_text place k) c.args.closes place lost.Call c.new.result)
-    c.connection_after.ensures (c.new.ensures _ c.welcome-text.ensures.text))
+    (c.welcome-response.ensures.text ∙ ap (λ (k : Connection). welcome_text place k) c.connection_after.ensures, refl)

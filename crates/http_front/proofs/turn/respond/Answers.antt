@@ -1,4 +1,4 @@
-use Rattle.std.proofs.Common.{Err, refl, sym, ◌∙◌, subst}
+use Rattle.std.proofs.Common.{Err, refl, ap, sym, ◌∙◌, subst}
 use Rattle.std.specs.Prelude.{IfOk}
 use Rattle.document_json.specs.Steps.{Checked}
 use Rattle.http_request.specs.Forms.{HasForm}
@@ -6,8 +6,6 @@ use Rattle.http_request.specs.declared.asked.Asked.{Asked}
 use Rattle.http_request.proofs.Forms.{decided-fits}
 use Rattle.http_response.specs.Texts.{refusal_text}
 use Rattle.http_response.specs.declared.connection.Connection.{Connection}
-use Rattle.http_response.specs.declared.lost.Lost.TheVariants as lost
-use Rattle.http_front.specs.Response.{SendsOrLost}
 use Rattle.http_front.proofs.Turns.{answers_decided}
 use Rattle.http_front.proofs.turn.respond.Goals as goal
 
@@ -19,7 +17,6 @@ pub returns-in-Err : goal.returns-in-Err
 returns-in-Err c =
     let place = c.place-place.result in
     let closes = c.closes-closes.result in
-    answers_decided c.args.session.now place c.place-place.ensures c.new.result c.args.request.now closes (sym c.closes-closes.ensures) (Err c.in-Err.refusal) _
+    answers_decided c.args.session.now place c.place-place.ensures _ c.args.request.now closes (sym c.closes-closes.ensures) (Err c.in-Err.refusal) _
     (sym c.in-Err.is ∙ c.in-Ok.ensures.decides) refl
-    (subst (λ (k : Connection). SendsOrLost (refusal_text place k c.in-Err.refusal) closes place lost.Call c.new.result)
-    c.connection_after.ensures (c.new.ensures _ c.refused-text.ensures.text))
+    (c.refused-response.ensures.text ∙ ap (λ (k : Connection). refusal_text place k c.in-Err.refusal) c.connection_after.ensures, refl)

@@ -1,20 +1,20 @@
-use Rattle.std.proofs.Common.{Err, ap, sym, ◌∙◌, subst, length}
+use Rattle.std.proofs.Common.{Err, refl, ap, sym, ◌∙◌, subst, length}
 use Rattle.std.specs.Prelude.{IsSome}
 use Rattle.model.specs.Command.{Reply}
 use Rattle.http_framing.specs.Input.{Asked}
 use Rattle.http_response.specs.Texts.{reply_text, full_text}
 use Rattle.http_response.specs.Told.{reply_told}
 use Rattle.http_response.specs.declared.connection.Connection.{Connection}
-use Rattle.http_response.specs.declared.lost.Lost.TheVariants as lost
 use Rattle.http_front.specs.Answers.{AnswersAlone}
 use Rattle.http_front.specs.Known.{Known}
-use Rattle.http_front.specs.Response.{turn_of, SendsOrLost}
+use Rattle.http_front.specs.Response.{turn_of}
+use Rattle.http_front.specs.declared.response.Sent.{Sent}
 use Rattle.http_front.proofs.Texts.{reply-told, reply_due, made_due}
 use Rattle.http_front.proofs.Turns.{answers_command, answers_full}
 use Rattle.http_front.proofs.turn.write.Goals as goal
 
-pub reply_text-text-requires : goal.reply_text-text-requires
-reply_text-text-requires c =
+pub reply_to-response-requires : goal.reply_to-response-requires
+reply_to-response-requires c =
     subst (λ (reply : Reply). IsSome (reply_told c.args.form c.args.command.now reply)) (sym c.in-Ok.ensures.reply)
     (reply-told _ c.args.form c.args.command.now c.requires)
 
@@ -27,19 +27,19 @@ returns-in-Ok c =
     let told = c.in-Ok.ensures in
     let some = subst (λ (reply : Reply). IsSome (reply_told form command reply)) (sym told.reply) (reply-told _ form command c.requires) in
     let due = reply_due receipt.place c.connection_after-connection.result form command receipt.reply some in
-    answers_command c.write.new.self receipt.place told.alone.1 c.new.result request c.args.closes closes_is c.args.session.now receipt.seat form command receipt.reply asks
+    answers_command c.write.new.self receipt.place told.alone.1 c.made.result request c.args.closes closes_is c.args.session.now receipt.seat form command receipt.reply asks
     told.written told.alone.0
     due.0
     (due.1 ∙ ap (λ (k : Connection). reply_text receipt.place k form command receipt.reply) c.connection_after-connection.ensures)
-    (c.new.ensures due.0 (made_due c.reply_text-text.result _ due.0 due.1 c.reply_text-text.ensures))
+    (c.made.ensures due.0 (made_due c.reply_to-response.result _ due.0 due.1 c.reply_to-response.ensures))
 
 pub returns-in-Err-Full : goal.returns-in-Err-Full
 returns-in-Err-Full c =
     λ request asks closes_is.
-    let place = c.place-place.result in
+    let place = c.place-in-Err-Full.result in
+    let sent : Sent = record { response = c.full-response.result; closes = c.args.closes } in
     let same = c.in-Err-Full.ensures.fault in
     let full = ap (λ (k : Known). length k.seen) same ∙ c.in-Err-Full.ensures.full.0 (ap Err c.in-Err-Full.field-0-is) ∙ ap (λ (k : Known). k.room) (sym same) in
-    subst (λ (k : Known). AnswersAlone k (turn_of (Asked request) c.new-in-Err-Full.result) c.write.new.self) same
-    (answers_full c.write.new.self place c.place-place.ensures c.new-in-Err-Full.result request c.args.closes closes_is c.args.form c.args.command.now asks full
-    (subst (λ (k : Connection). SendsOrLost (full_text place k) c.args.closes place lost.Call c.new-in-Err-Full.result)
-    c.connection_after-connection.ensures (c.new-in-Err-Full.ensures _ c.full.ensures.text)))
+    subst (λ (k : Known). AnswersAlone k (turn_of (Asked request) sent) c.write.new.self) same
+    (answers_full c.write.new.self place c.place-in-Err-Full.ensures sent request c.args.closes closes_is c.args.form c.args.command.now asks full
+    (c.full-response.ensures.text ∙ ap (λ (k : Connection). full_text place k) c.connection_after-connection.ensures, refl))
