@@ -11,7 +11,7 @@ use Rattle.httparse.proofs.GrammarLemmas.{ReadsRequest-append}
 use Rattle.http_framing.proofs.InTarget.{past_target-append}
 use Rattle.http_framing.specs.Request.{head_limit, header_limit, Request, BeginsWithHead, BeginsWithRequest}
 use Rattle.http_framing.specs.Refusal.{head_window, HasLargeHead, HasBadBody, IsRefused}
-use Rattle.http_framing.specs.Input.{Item, Asked, Refused, closes_connection, Begins, Splits, AreOpen}
+use Rattle.http_framing.specs.Input.{Item, Requested, Refused, closes_connection, Begins, Splits, AreOpen}
 use Rattle.http_framing.specs.declared.FramingFault.{FramingFault}
 use Rattle.http_framing.specs.declared.FramingFault.TheVariants.{Head, LargeHead, TransferEncoding, ContentLength, LargeBody}
 
@@ -107,11 +107,11 @@ IsOpen item = IsFalse (closes_connection item)
 pub Splits-append : (bytes more : List ℕ) (items : List Item) (rest : List ℕ) → AreOpen items → Splits bytes items rest
     → Splits (bytes ++ more) items (rest ++ more)
 Splits-append bytes more [] rest are_open splits = ap (λ (x : List ℕ). x ++ more) splits
-Splits-append bytes more (Asked request ∷ items) rest are_open (after, begins, last, splits) = (
+Splits-append bytes more (Requested request ∷ items) rest are_open (after, begins, last, splits) = (
   after ++ more,
   BeginsWithRequest-append bytes request after more begins,
   last,
-  Splits-append after more items rest (All-tail IsOpen (Asked request) items are_open) splits,
+  Splits-append after more items rest (All-tail IsOpen (Requested request) items are_open) splits,
 )
 Splits-append bytes more (Refused fault ∷ items) rest are_open splits =
     let opens = All-head IsOpen (Refused fault) items are_open in absurd (cc)

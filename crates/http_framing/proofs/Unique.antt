@@ -7,7 +7,7 @@ use Rattle.http_framing.specs.Headers.{headers_of}
 use Rattle.http_framing.specs.Body.{body_length}
 use Rattle.http_framing.specs.Request.{head_limit, header_limit, Request, IsAskedBy, BeginsWithHead, BeginsWithRequest}
 use Rattle.http_framing.specs.Refusal.{head_window, HasLargeHead, HasNoHead, HasBadBody, IsRefused}
-use Rattle.http_framing.specs.Input.{Item, Asked, Refused, Begins, Splits, EndsInHead, IsUnfinished}
+use Rattle.http_framing.specs.Input.{Item, Requested, Refused, Begins, Splits, EndsInHead, IsUnfinished}
 use Rattle.http_framing.proofs.Heads.{head_window-short}
 use Rattle.http_framing.proofs.ManyHeaders.{no_head_with_room}
 use Rattle.http_framing.specs.declared.FramingFault.{FramingFault}
@@ -152,9 +152,9 @@ unfinished_refused bytes fault (inr (head, after, len, begins, said, short)) ref
     head_and_fault bytes head after len fault begins said refused
 
 one_item : (bytes : List ℕ) (item other : Item) (x y : List ℕ) → Begins bytes item x → Begins bytes other y → (item ≡ other) × (x ≡ y)
-one_item bytes (Asked r) (Asked q) x y b c = let one = one_request bytes r q x y b c in (ap Asked one.0, one.1)
-one_item bytes (Asked r) (Refused g) x y b c = absurd (request_not_refused bytes r x g b c.0)
-one_item bytes (Refused f) (Asked q) x y b c = absurd (request_not_refused bytes q y f c b.0)
+one_item bytes (Requested r) (Requested q) x y b c = let one = one_request bytes r q x y b c in (ap Requested one.0, one.1)
+one_item bytes (Requested r) (Refused g) x y b c = absurd (request_not_refused bytes r x g b c.0)
+one_item bytes (Refused f) (Requested q) x y b c = absurd (request_not_refused bytes q y f c b.0)
 one_item bytes (Refused f) (Refused g) x y b c = (ap Refused (one_fault bytes f g b.0 c.0), b.1 ∙ sym c.1)
 
 pub one_reading : (bytes : List ℕ) (items others : List Item) (rest after : List ℕ) → Splits bytes items rest → Splits bytes others after

@@ -13,18 +13,18 @@ request_limit = head_limit + body_limit
 
 -- what stands on a connection: a request, or the fault for which all that is left is refused
 pub data Item : Type 0 where
-  Asked : Request → Item
+  Requested : Request → Item
   Refused : FramingFault → Item
 
 -- the connection closes after the response to it
 -- RFC 9112, 9.6 "Tear-down"
 abbrev pub closes_connection : Item → Bool
-closes_connection (Asked request) = request.closes
+closes_connection (Requested request) = request.closes
 closes_connection (Refused fault) = true
 
 -- the bytes begin with this item, and go on with what is after it; a refusal reaches to their end
 abbrev pub Begins : List ℕ → Item → List ℕ → Type 0
-Begins bytes (Asked request) after = BeginsWithRequest bytes request after
+Begins bytes (Requested request) after = BeginsWithRequest bytes request after
 Begins bytes (Refused fault) after = IsRefused bytes fault × (after ≡ [])
 
 -- the bytes are these items, one after another, and then a rest; nothing is read after an item that closes

@@ -6,7 +6,7 @@ use Rattle.model.specs.Query.{Query, Answer}
 use Rattle.model.specs.History.{now, replay}
 use Rattle.model.specs.Answers.{answer_to}
 use Rattle.http_framing.specs.Request.{Request}
-use Rattle.http_framing.specs.Input.{Item, Asked, closes_connection}
+use Rattle.http_framing.specs.Input.{Item, Requested, closes_connection}
 use Rattle.http_request.specs.Decide.{decide}
 use Rattle.http_request.specs.declared.asked.Asked.TheVariants as asked
 use Rattle.http_request.specs.declared.asked.Form.{Form}
@@ -29,8 +29,8 @@ module _ (k : Known) (place : ℕ) (place_is : place ≡ length k.seen) (sent : 
   }
 
   -- memory was refused
-  pub answers_lost : (request : Request) → SaysLost place lost.Call sent → AnswersAlone k (turn_of (Asked request) sent) k
-  answers_lost request says = unchanged (Asked request) OutOfMemory refl (tt, says.0, says.1)
+  pub answers_lost : (request : Request) → SaysLost place lost.Call sent → AnswersAlone k (turn_of (Requested request) sent) k
+  answers_lost request says = unchanged (Requested request) OutOfMemory refl (tt, says.0, says.1)
 
   -- the text of a refusal, or of `/`
   pub answers_fixed : (item : Item) (text : List ℕ) → HasFixedText place item text → Sends text (closes_connection item) sent
@@ -40,21 +40,21 @@ module _ (k : Known) (place : ℕ) (place_is : place ≡ length k.seen) (sent : 
   module _ (request : Request) (closes : Bool) (closes_is : request.closes ≡ closes) where
     -- the text of what was decided, where that is a refusal or `/`
     pub answers_decided : (decided : _) (text : List ℕ) → decided ≡ decide request → IsFixedText place closes decided text
-        → Sends text closes sent → AnswersAlone k (turn_of (Asked request) sent) k
+        → Sends text closes sent → AnswersAlone k (turn_of (Requested request) sent) k
     answers_decided decided text is fixed sends =
-        answers_fixed (Asked request) text
+        answers_fixed (Requested request) text
         (subst (λ (c : Bool). IsFixedText place c (decide request) text) (sym closes_is) (subst (λ d. IsFixedText place closes d text) is fixed))
         (sends.0, sends.1 ∙ sym closes_is)
 
     -- the answer to a query
-    pub answers_query : (query : Query) (answer : Answer) → AsksQuery (now (history_of k)) (Asked request) query → answer ≡ answer_to (now (history_of k)) query
+    pub answers_query : (query : Query) (answer : Answer) → AsksQuery (now (history_of k)) (Requested request) query → answer ≡ answer_to (now (history_of k)) query
         → (text : List ℕ) → Some text ≡ answer_text place (after_closing closes) query answer
         → SendsOrLost text closes place lost.Call sent
-        → AnswersAlone k (turn_of (Asked request) sent) k
+        → AnswersAlone k (turn_of (Requested request) sent) k
     answers_query query answer asks answers text text_is (inl sends) =
         let all : take place k.seen ≡ k.seen = take_all place k.seen (omega (arith, place_is)) in
-        unchanged (Asked request) (Read query answer) refl (
-          record { asked = subst (λ (es : List Entry). AsksQuery (replay k.base es) (Asked request) query) (sym all) asks; told = (omega (arith, place_is), answers ∙ ap (λ (es : List Entry). answer_to (replay k.base es) query) (sym all)) },
+        unchanged (Requested request) (Read query answer) refl (
+          record { asked = subst (λ (es : List Entry). AsksQuery (replay k.base es) (Requested request) query) (sym all) asks; told = (omega (arith, place_is), answers ∙ ap (λ (es : List Entry). answer_to (replay k.base es) query) (sym all)) },
           ap Some sends.0 ∙ text_is ∙ ap (λ (c : Bool). answer_text place (after_closing c) query answer) (sym sends.1),
           sends.1 ∙ sym closes_is,
         )
@@ -63,9 +63,9 @@ module _ (k : Known) (place : ℕ) (place_is : place ≡ length k.seen) (sent : 
     -- the history is full
     pub answers_full : (form : Form) (command : Command) → decide request ≡ Ok (asked.Command form command) → length k.seen ≡ k.room
         → Sends (full_text place (after_closing closes)) closes sent
-        → AnswersAlone k (turn_of (Asked request) sent) k
+        → AnswersAlone k (turn_of (Requested request) sent) k
     answers_full form command asks full sends =
-        unchanged (Asked request) Full refl
+        unchanged (Requested request) Full refl
         (form, command, asks, place_is ∙ full, sends.0 ∙ ap (λ (c : Bool). full_text place (after_closing c)) (sym sends.1), sends.1 ∙ sym closes_is)
 
     module _ (old : Known) (seat : Seat) (form : Form) (command : Command) (reply : Reply) (asks : decide request ≡ Ok (asked.Command form command)) (writes : WritesCall old seat command place reply k) (entry_is : k ≡ sees_more old (record { seat = seat; command = command; reply = reply } ∷ [])) where
@@ -73,18 +73,18 @@ module _ (k : Known) (place : ℕ) (place_is : place ≡ length k.seen) (sent : 
       own = writes.seat ∙ ap (λ (o : Known). o.number) (sym entry_is)
 
       -- the entry was written
-      answers_entry : (outcome : Outcome) → written outcome ≡ record { seat = seat; command = command; reply = reply } ∷ [] → TellsAt k (turn_of (Asked request) sent) place outcome
-          → AnswersAlone old (turn_of (Asked request) sent) k
+      answers_entry : (outcome : Outcome) → written outcome ≡ record { seat = seat; command = command; reply = reply } ∷ [] → TellsAt k (turn_of (Requested request) sent) place outcome
+          → AnswersAlone old (turn_of (Requested request) sent) k
       answers_entry outcome one told = record {
         outcome = outcome;
-        told = subst (λ (p : ℕ). TellsAt k (turn_of (Asked request) sent) p outcome) place_is told;
+        told = subst (λ (p : ℕ). TellsAt k (turn_of (Requested request) sent) p outcome) place_is told;
         entries = entry_is ∙ ap (sees_more old) (sym one);
       }
 
       -- the reply to a command
       pub answers_command : (text : List ℕ) → Some text ≡ reply_text place (after_closing closes) form command reply
           → SendsOrLost text closes place lost.Reply sent
-          → AnswersAlone old (turn_of (Asked request) sent) k
+          → AnswersAlone old (turn_of (Requested request) sent) k
       answers_command text text_is (inl sends) =
           answers_entry (Wrote form (record { seat = seat; command = command; reply = reply })) refl (
             record { asked = asks; own = own; told = writes.told },

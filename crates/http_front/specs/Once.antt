@@ -8,13 +8,13 @@ use Rattle.http_front.specs.Known.{Known, opened}
 use Rattle.http_front.specs.Connection.{IsConnection}
 
 -- the exit status
-abbrev pub status_of : Cause → ℕ
-status_of cause.AtEnd = 0
-status_of cause.InRequest = 0
-status_of cause.Closed = 0
-status_of cause.ReadFault = 1
-status_of cause.WriteFault = 1
-status_of cause.Memory = 1
+abbrev pub exit_status : Cause → ℕ
+exit_status cause.AtEnd = 0
+exit_status cause.InRequest = 0
+exit_status cause.Closed = 0
+exit_status cause.ReadFault = 1
+exit_status cause.WriteFault = 1
+exit_status cause.Memory = 1
 
 -- the most entries of the history
 abbrev pub max_places : ℕ
@@ -25,4 +25,4 @@ pub record ServesOnce (before after : Streams) (status : ℕ) : Type 0 where
   pub final : Known
   pub ended : Ended
   pub connection : IsConnection before after (opened max_places) final ended
-  pub tells : status ≡ status_of ended.cause
+  pub tells : status ≡ exit_status ended.cause

@@ -7,7 +7,7 @@ use Rattle.model.specs.Database.{Database}
 use Rattle.model.specs.History.{replay}
 use Rattle.model.specs.World.{WroteAt, Asked as AskedAt}
 use Rattle.model.specs.Told.{Tells}
-use Rattle.http_framing.specs.Input.{Item, Asked, Refused, closes_connection}
+use Rattle.http_framing.specs.Input.{Item, Requested, Refused, closes_connection}
 use Rattle.http_request.specs.Decide.{decide}
 use Rattle.http_request.specs.declared.asked.Asked.{Asked as Asking}
 use Rattle.http_request.specs.declared.asked.Asked.TheVariants as asked
@@ -61,12 +61,12 @@ NamesSeen Full place seen = place ≡ length seen
 
 -- the item is a request
 abbrev pub IsRequest : Item → Type 0
-IsRequest (Asked request) = ⊤
+IsRequest (Requested request) = ⊤
 IsRequest (Refused fault) = ⊥
 
 -- the item is a request that asks this
 abbrev pub Asks : Item → Asking → Type 0
-Asks (Asked request) asking = decide request ≡ Ok asking
+Asks (Requested request) asking = decide request ≡ Ok asking
 Asks (Refused fault) asking = ⊥
 
 -- the item is a request that asks for the changes from now on, which for a database are those after its update number
@@ -92,7 +92,7 @@ IsFixedText place closes (Ok (asked.ChangesFromNow limit style)) text = ⊥
 
 -- the text is the one that is fixed for the item at this place
 abbrev pub HasFixedText : ℕ → Item → List ℕ → Type 0
-HasFixedText place (Asked request) text = IsFixedText place request.closes (decide request) text
+HasFixedText place (Requested request) text = IsFixedText place request.closes (decide request) text
 HasFixedText place (Refused fault) text = text ≡ closing_text place fault
 
 -- by what a session knows

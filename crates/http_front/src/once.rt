@@ -2,7 +2,7 @@
 
 ghost use Rattle.std.specs.Prelude.{◌≡◌};
 ghost use Rattle.serving.specs.Served.{Streams};
-ghost use Rattle.http_front.specs.Once.{ServesOnce, status_of};
+ghost use Rattle.http_front.specs.Once.{ServesOnce, exit_status};
 
 use crate::connection::serve;
 use crate::session::Session;
@@ -14,8 +14,8 @@ use streams::{Sink, Source};
 const MAX_PLACES: u32 = 1_000_000;
 
 /// The exit status after a connection that ended so.
-fn status_of(cause: Cause) -> u8
-    ensures { result ≡ status_of cause }
+fn exit_status(cause: Cause) -> u8
+    ensures { result ≡ exit_status cause }
 {
     match cause {
         Cause::AtEnd | Cause::InRequest | Cause::Closed => 0,
@@ -42,9 +42,9 @@ pub fn run_once<R: Source, W: Sink, A: AllocGlobal>(reader: &mut R, writer: &mut
         result }
 {
     let Ok(setting) = Setting::new(rt.alloc()) else {
-        return status_of(Cause::Memory);
+        return exit_status(Cause::Memory);
     };
     let mut session = Session::new(rt.alloc(), MAX_PLACES);
     let ended = serve(rt.alloc(), reader, writer, &mut session, &setting);
-    status_of(ended.cause)
+    exit_status(ended.cause)
 }

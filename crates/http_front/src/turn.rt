@@ -1,7 +1,7 @@
 //! The turns of a session.
 
 ghost use Rattle.std.specs.Prelude.{◌≡◌, ◌++◌, length, Ok, Some, IfOk, IsSome};
-ghost use Rattle.http_framing.specs.Input.{Asked as AskedItem, Refused};
+ghost use Rattle.http_framing.specs.Input.{Requested, Refused};
 ghost use Rattle.http_framing.specs.Request as framing;
 ghost use Rattle.http_request.specs.Decide.{decide};
 ghost use Rattle.http_request.specs.Forms.{HasForm, IsFormOf};
@@ -46,7 +46,7 @@ impl Setting {
 
 /// Does what a request asks, and answers it.
 pub(crate) fn respond(session: &mut Session, setting: &Setting, request: &Request<'_>) -> Sent
-    ensures { AnswersAlone session.old (turn_of (AskedItem request.now) result) session.new }
+    ensures { AnswersAlone session.old (turn_of (Requested request.now) result) session.new }
 {
     let alloc = setting.alloc;
     let place = session.place();
@@ -68,7 +68,7 @@ fn carry_out(session: &mut Session, alloc: Global, asked: &Asked, closes: bool) 
     requires { HasForm asked.now }
     ensures { (request : framing.Request) → decide request ≡ Ok asked.now
         → request.closes ≡ closes
-        → AnswersAlone session.old (turn_of (AskedItem request) result) session.new }
+        → AnswersAlone session.old (turn_of (Requested request) result) session.new }
 {
     match asked {
         Asked::Command(form, command) => write(session, alloc, *form, command, closes),
@@ -89,7 +89,7 @@ fn write(session: &mut Session, alloc: Global, form: Form, command: &Command, cl
     requires { IsFormOf form command.now }
     ensures { (request : framing.Request) → decide request ≡ Ok (Asked.Command form command.now)
         → request.closes ≡ closes
-        → AnswersAlone session.old (turn_of (AskedItem request) result) session.new }
+        → AnswersAlone session.old (turn_of (Requested request) result) session.new }
 {
     let connection = connection_after(closes);
     match session.write(alloc, command) {
@@ -147,9 +147,9 @@ fn changes_from_now(session: &Session, limit: Option<u64>, style: Style) -> Quer
 /// Answers a query by what the session has seen.
 fn read(session: &Session, alloc: Global, query: &Query, closes: bool) -> Sent
     ensures { (request : framing.Request)
-        → AsksQuery (now (history_of session.now)) (AskedItem request) query.now
+        → AsksQuery (now (history_of session.now)) (Requested request) query.now
         → request.closes ≡ closes
-        → AnswersAlone session.now (turn_of (AskedItem request) result) session.now }
+        → AnswersAlone session.now (turn_of (Requested request) result) session.now }
 {
     let place = session.place();
     let Ok(found) = answer(alloc, session.look(), query) else {

@@ -3,14 +3,14 @@ use Rattle.std.proofs.Common.{◌≡◌, ℕ, ◌+◌, ◌<◌, ◌≤◌, List,
 use Rattle.http_framing.specs.Grammar.{RequestHead, print_request}
 use Rattle.http_framing.specs.Request.{Request, BeginsWithRequest}
 use Rattle.http_framing.specs.Refusal.{IsRefused}
-use Rattle.http_framing.specs.Input.{Asked, Refused, Begins, IsUnfinished}
+use Rattle.http_framing.specs.Input.{Requested, Refused, Begins, IsUnfinished}
 use Rattle.http_framing.specs.Front.{IsRequestAt, NeedsMore, request_at}
 use Rattle.http_framing.specs.declared.FramingFault.{FramingFault}
 use Rattle.http_framing.specs.declared.front.RequestSpans.{RequestSpans}
 
 -- the request whose spans were found, by what two looks at the window show
 pub begins-request : (window : List ℕ) {bytes again : List ℕ} {spans : RequestSpans} {request : Request} (after : List ℕ) → bytes ≡ window → again ≡ window
-    → IsRequestAt bytes spans → request ≡ request_at again spans → after ≡ drop spans.body.end window → Begins window (Asked request) after
+    → IsRequestAt bytes spans → request ≡ request_at again spans → after ≡ drop spans.body.end window → Begins window (Requested request) after
 begins-request window {spans = spans} {request = request} after is is_too at e rest =
     let asked : request ≡ request_at window spans = e ∙ ap (λ (b : List ℕ). request_at b spans) is_too in
     let there = subst (λ (b : List ℕ). IsRequestAt b spans) is at in

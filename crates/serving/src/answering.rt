@@ -3,7 +3,7 @@
 ghost use Rattle.std.specs.Prelude.{◌≡◌, ◌++◌, IfOk};
 ghost use Rattle.streams.specs.Counts.{CountsFailure};
 ghost use Rattle.streams.specs.Writes.{Writes};
-ghost use Rattle.http_framing.specs.Input.{Asked, Refused};
+ghost use Rattle.http_framing.specs.Input.{Requested, Refused};
 ghost use Rattle.serving.specs.Turn.{Turn, TakesTurn};
 
 use http_framing::FramingFault;
@@ -28,7 +28,7 @@ pub trait Service<C> {
         writer: &mut W,
     ) -> Result<bool, Failed>
         ensures turn { (turn : Turn)
-            × TakesTurn (answers context.now) self.old self.new (Asked request.now) turn
+            × TakesTurn (answers context.now) self.old self.new (Requested request.now) turn
             × Writes (W.taken writer.old) (W.taken writer.new) result turn.text
             × IfOk result (λ closes. closes ≡ turn.closes) }
         ensures failures { CountsFailure (W.failed_writes writer.old)

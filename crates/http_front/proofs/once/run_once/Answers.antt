@@ -14,7 +14,7 @@ returns-in_default g c = record {
     taken = g.W.Sink.taken c.args.writer.now;
     failed_writes = g.W.Sink.failed_writes c.args.writer.now;
   }) (opened max_places) tt;
-  tells = c.status_of.ensures;
+  tells = c.exit_status.ensures;
 }
 
 pub returns : goal.returns
@@ -22,5 +22,5 @@ returns g c = record {
   final = c.serve-ended.new.session;
   ended = c.serve-ended.result;
   connection = rw (← c.new-session.ensures) c.serve-ended.ensures.connection;
-  tells = c.status_of-2.ensures;
+  tells = c.exit_status-2.ensures;
 }

@@ -1,7 +1,7 @@
 use Rattle.std.proofs.Common.{Err, refl, ap, sym, ◌∙◌, subst, length}
 use Rattle.std.specs.Prelude.{IsSome}
 use Rattle.model.specs.Command.{Reply}
-use Rattle.http_framing.specs.Input.{Asked}
+use Rattle.http_framing.specs.Input.{Requested}
 use Rattle.http_response.specs.Texts.{reply_text, full_text}
 use Rattle.http_response.specs.Told.{reply_told}
 use Rattle.http_response.specs.declared.connection.Connection.{Connection}
@@ -40,6 +40,6 @@ returns-in-Err-Full c =
     let sent : Sent = record { response = c.full-response.result; closes = c.args.closes } in
     let same = c.in-Err-Full.ensures.fault in
     let full = ap (λ (k : Known). length k.seen) same ∙ c.in-Err-Full.ensures.full.0 (ap Err c.in-Err-Full.field-0-is) ∙ ap (λ (k : Known). k.room) (sym same) in
-    subst (λ (k : Known). AnswersAlone k (turn_of (Asked request) sent) c.write.new.self) same
+    subst (λ (k : Known). AnswersAlone k (turn_of (Requested request) sent) c.write.new.self) same
     (answers_full c.write.new.self place c.place-in-Err-Full.ensures sent request c.args.closes closes_is c.args.form c.args.command.now asks full
     (c.full-response.ensures.text ∙ ap (λ (k : Connection). full_text place k) c.connection_after-connection.ensures, refl))
