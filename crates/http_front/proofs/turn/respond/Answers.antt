@@ -1,6 +1,6 @@
 use Rattle.std.proofs.Common.{Err, refl, ap, sym, ◌∙◌, subst}
 use Rattle.std.specs.Prelude.{IfOk}
-use Rattle.document_json.specs.Steps.{Checked}
+use Rattle.http_request.specs.Rejections.{Decided}
 use Rattle.http_request.specs.Forms.{HasForm}
 use Rattle.http_request.specs.declared.asked.Asked.{Asked}
 use Rattle.http_request.proofs.Forms.{decided-fits}
@@ -11,7 +11,7 @@ use Rattle.http_front.proofs.turn.respond.Goals as goal
 
 pub carry_out-requires : goal.carry_out-requires
 carry_out-requires c =
-    subst (λ (decided : Checked Asked). IfOk decided HasForm) (sym (sym c.in-Ok-asked.is ∙ c.in-Ok.ensures.decides)) (decided-fits c.args.request.now)
+    subst (λ (decided : Decided Asked). IfOk decided HasForm) (sym (sym c.in-Ok-asked.is ∙ c.in-Ok.ensures.decides)) (decided-fits c.args.request.now)
 
 pub returns-in-Err : goal.returns-in-Err
 returns-in-Err c =
