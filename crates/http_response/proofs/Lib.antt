@@ -5,3 +5,4 @@ pub mod ListTexts
 pub mod ObjectTexts
 pub mod PlainRows
 pub mod ShortTexts
+pub mod Specials

@@ -21,6 +21,7 @@ mod problem;
 mod replied;
 mod response;
 mod short;
+mod special;
 mod written;
 
 pub use answered::answer;
