@@ -5,3 +5,4 @@ pub mod Heads
 pub mod ListTexts
 pub mod ObjectTexts
 pub mod PlainRows
+pub mod Specials

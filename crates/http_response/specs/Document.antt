@@ -104,11 +104,19 @@ told_members d members =
 abbrev pub document_data : Document → Data
 document_data d = object (told_members d (named_members d.id d.rev d.deleted d.body))
 
--- `{"ok":document}`, or `{"missing":r}`
+-- `{"ok":document}`
+abbrev pub found_data : Document → Data
+found_data d = object (member (codes "ok") (document_data d) no_members)
+
+-- `{"missing":r}`
+abbrev pub missing_data : Rev → Data
+missing_data rev = object (member (codes "missing") (rev_data rev) no_members)
+
+-- a revision as a document, or its name where it is missing
 -- CouchDB: GET /{db}/{docid}, "open_revs"
 abbrev pub opened_data : Result Document Rev → Data
-opened_data (Ok document) = object (member (codes "ok") (document_data document) no_members)
-opened_data (Err rev) = object (member (codes "missing") (rev_data rev) no_members)
+opened_data (Ok document) = found_data document
+opened_data (Err rev) = missing_data rev
 
 -- CouchDB: GET /{db}/{docid}, "open_revs"
 abbrev pub all_opened_data : List (Result Document Rev) → Data

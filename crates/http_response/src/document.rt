@@ -1,16 +1,15 @@
 //! Documents and revisions, as answers write them.
 
 ghost use Rattle.std.specs.Prelude.{◌≡◌, true, false, codes, option_map, IfOk, OnOk, string_bytes};
-ghost use Rattle.serde_json.specs.Data.{object, string, put as with_member};
+ghost use Rattle.serde_json.specs.Data.{no_members, string, put as with_member};
 ghost use Rattle.serde_json.specs.View.{members_view, view};
-ghost use Rattle.serde_json.specs.Written.{compact_text, has_float, members_have_float};
-ghost use Rattle.model.specs.Profile.{members_whole};
-ghost use Rattle.http_response.specs.Document.{document_data, named_members, rev_data, told_members, with_flag, with_infos, with_revisions, with_revs, write_data, written_data, all_opened_data, opened_data};
+ghost use Rattle.serde_json.specs.Written.{compact_text, has_float};
+ghost use Rattle.http_response.specs.Document.{document_data, found_data, missing_data, named_members, rev_data, told_members, with_flag, with_infos, with_revisions, with_revs, write_data, written_data, all_opened_data, opened_data};
 
 use crate::list::ListText;
+use crate::special::text_with;
 use crate::written::{infos_value, revisions_value, revs_value, value_text};
 use document_id::DocId;
-use json_profile::Body;
 use model::Status;
 use queries::Document;
 use revision_id::RevId;
@@ -39,17 +38,6 @@ pub(crate) fn write_value(alloc: Global, id: &str, rev: &str) -> Result<Value, A
     ensures plain { IfOk result (λ value. has_float (view value) ≡ false) }
 {
     json!(in alloc; {"id": id, "ok": true, "rev": rev})
-}
-
-/// A copy of a body's members, to add to.
-pub(crate) fn copy_members(body: &Body) -> Result<Map<String, Value>, AllocError>
-    ensures members { IfOk result (λ members. members_view members.entries ≡ body.now) }
-    ensures whole { members_whole body.now ≡ true }
-{
-    match body.value().clone()? {
-        Value::Object(members) => Ok(members),
-        _ => unreachable!(),
-    }
 }
 
 fn put_id(members: &mut Map<String, Value>, alloc: Global, id: &DocId) -> Result<(), AllocError>
@@ -84,13 +72,12 @@ fn put_flag(
     }
 }
 
-/// A body's members with what names the revision.
+/// What names the revision.
 fn name_members(alloc: Global, document: &Document) -> Result<Map<String, Value>, AllocError>
-    ensures members { IfOk result (λ members. members_view members.entries
-        ≡ named_members document.now.id document.now.rev document.now.deleted document.now.body) }
-    ensures whole { members_whole document.now.body ≡ true }
+    ensures { IfOk result (λ members. members_view members.entries
+        ≡ named_members document.now.id document.now.rev document.now.deleted no_members) }
 {
-    let mut members = copy_members(&document.body)?;
+    let mut members = Map::new(alloc);
     put_id(&mut members, alloc, &document.id)?;
     put_rev(&mut members, alloc, &document.rev)?;
     put_flag(&mut members, alloc, "_deleted", document.deleted)?;
@@ -164,48 +151,55 @@ fn put_told(
     )
 }
 
-/// The members of a document, with what was asked of it.
-fn document_members(alloc: Global, document: &Document) -> Result<Map<String, Value>, AllocError>
-    ensures members { IfOk result (λ members. object (members_view members.entries)
-        ≡ document_data document.now) }
-    ensures plain { IfOk result (λ members. members_have_float (members_view members.entries) ≡ false) }
+/// The special members of a document, with what was asked of it.
+fn special_members(alloc: Global, document: &Document) -> Result<Map<String, Value>, AllocError>
+    ensures { IfOk result (λ members. members_view members.entries
+        ≡ told_members document.now (named_members document.now.id document.now.rev document.now.deleted no_members)) }
 {
     let mut members = name_members(alloc, document)?;
     put_told(&mut members, alloc, document)?;
     Ok(members)
 }
 
-/// The text of an object with no float.
-pub(crate) fn object_text(alloc: Global, members: Map<String, Value>) -> Result<String, AllocError>
-    requires { members_have_float (members_view members.entries) ≡ false }
-    ensures { IfOk result (λ text. string_bytes text ≡ compact_text (object (members_view members.entries))) }
-{
-    Value::Object(members).to_string(alloc)
-}
-
 /// The text of a document.
 pub(crate) fn document_text(alloc: Global, document: &Document) -> Result<String, AllocError>
     ensures { IfOk result (λ text. string_bytes text ≡ compact_text (document_data document.now)) }
 {
-    let members = document_members(alloc, document)?;
-    object_text(alloc, members)
+    let special = special_members(alloc, document)?;
+    let text = text_with(alloc, &document.body, special)?;
+    Ok(text)
 }
 
 /// A revision as a document, or its name where it is missing.
-fn opened_value(alloc: Global, opened: &Result<Document, RevId>) -> Result<Value, AllocError>
-    ensures data { IfOk result (λ value. view value ≡ opened_data opened.now) }
-    ensures plain { IfOk result (λ value. has_float (view value) ≡ false) }
+fn opened_text(alloc: Global, opened: &Result<Document, RevId>) -> Result<String, AllocError>
+    ensures { IfOk result (λ text. string_bytes text ≡ compact_text (opened_data opened.now)) }
 {
     match opened {
-        Ok(document) => {
-            let document = Value::Object(document_members(alloc, document)?);
-            json!(in alloc; {"ok": document})
-        }
-        Err(rev) => {
-            let rev = rev.text(alloc)?;
-            json!(in alloc; {"missing": rev.as_str()})
-        }
+        Ok(document) => found_text(alloc, document),
+        Err(rev) => missing_text(alloc, rev),
     }
+}
+
+fn found_text(alloc: Global, document: &Document) -> Result<String, AllocError>
+    ensures { IfOk result (λ text. string_bytes text ≡ compact_text (found_data document.now)) }
+{
+    let document = document_text(alloc, document)?;
+    format!(in alloc; "{{\"ok\":{document}}}")
+}
+
+fn missing_text(alloc: Global, rev: &RevId) -> Result<String, AllocError>
+    ensures { IfOk result (λ text. string_bytes text ≡ compact_text (missing_data rev.now)) }
+{
+    let missing = missing_value(alloc, rev)?;
+    value_text(alloc, &missing)
+}
+
+fn missing_value(alloc: Global, rev: &RevId) -> Result<Value, AllocError>
+    ensures value { IfOk result (λ value. view value ≡ missing_data rev.now) }
+    ensures plain { IfOk result (λ value. has_float (view value) ≡ false) }
+{
+    let rev = rev.text(alloc)?;
+    json!(in alloc; {"missing": rev.as_str()})
 }
 
 /// The revisions that were asked for.
@@ -217,8 +211,8 @@ pub(crate) fn all_opened_text(
 {
     let mut list = ListText::after(String::new(alloc))?;
     for one in opened {
-        let value = opened_value(alloc, one)?;
-        list.push(alloc, &value)?;
+        let text = opened_text(alloc, one)?;
+        list.push_text(text.as_str())?;
     }
     list.finish()
 }

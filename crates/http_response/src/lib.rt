@@ -23,6 +23,7 @@ mod object;
 mod problem;
 mod replied;
 mod response;
+mod special;
 mod status;
 mod written;
 

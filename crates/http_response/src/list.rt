@@ -6,6 +6,7 @@ ghost use Rattle.serde_json.specs.View.{items_of, view};
 ghost use Rattle.serde_json.specs.Written.{comma_if, compact_text, has_float};
 ghost use Rattle.http_response.specs.List.{IsListAfter};
 
+use crate::written::value_text;
 use serde_json::Value;
 use std::alloc::{AllocError, Global};
 
@@ -36,9 +37,19 @@ impl ListText {
             → IsListAfter before self.old items → more ≡ items ++ view item.now ∷ []
             → IsListAfter before self.new more) }
     {
+        let text = value_text(alloc, item)?;
+        self.push_text(text.as_str())?;
+        Ok(())
+    }
+
+    /// Writes the text of one more item.
+    pub(crate) fn push_text(&mut self, item: &str) -> Result<(), AllocError>
+        ensures { OnOk result ((before : List ℕ) (items more : List Data) (d : Data)
+            → IsListAfter before self.old items → item.now ≡ compact_text d → more ≡ items ++ d ∷ []
+            → IsListAfter before self.new more) }
+    {
         put_comma(&mut self.text, self.has_items)?;
-        let text = item.to_string(alloc)?;
-        self.text.push_str(text.as_str())?;
+        self.text.push_str(item)?;
         self.has_items = true;
         Ok(())
     }

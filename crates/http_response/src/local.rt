@@ -1,13 +1,14 @@
 //! Local documents, as answers write them.
 
 ghost use Rattle.std.specs.Prelude.{◌≡◌, codes, IfOk, OnOk, string_bytes};
-ghost use Rattle.serde_json.specs.Data.{string, put as with_member};
+ghost use Rattle.serde_json.specs.Data.{no_members, string, put as with_member};
 ghost use Rattle.serde_json.specs.View.{members_view};
 ghost use Rattle.serde_json.specs.Written.{compact_text};
 ghost use Rattle.document_json.specs.Local.{local_id};
 ghost use Rattle.http_response.specs.Document.{counter_text, local_data, local_written_data};
 
-use crate::document::{copy_members, object_text, write_value};
+use crate::document::write_value;
+use crate::special::text_with;
 use crate::written::value_text;
 use document_id::DocId;
 use document_json::local_id_text;
@@ -63,6 +64,17 @@ fn put_counter(
     put(members, alloc, "_rev", Value::String(text))
 }
 
+/// The special members of a local document.
+fn local_members(alloc: Global, id: &DocId, counter: u32) -> Result<Map<String, Value>, AllocError>
+    ensures { IfOk result (λ members. members_view members.entries
+        ≡ with_member (codes "_rev") (string (counter_text counter)) (with_member (codes "_id") (string (local_id id.now)) no_members)) }
+{
+    let mut members = Map::new(alloc);
+    put_local_id(&mut members, alloc, id)?;
+    put_counter(&mut members, alloc, counter)?;
+    Ok(members)
+}
+
 /// The text of a local document.
 pub(crate) fn local_text(
     alloc: Global,
@@ -73,8 +85,7 @@ pub(crate) fn local_text(
     ensures { IfOk result (λ text. string_bytes text
         ≡ compact_text (local_data id.now (counter, body.now))) }
 {
-    let mut members = copy_members(body)?;
-    put_local_id(&mut members, alloc, id)?;
-    put_counter(&mut members, alloc, counter)?;
-    object_text(alloc, members)
+    let special = local_members(alloc, id, counter)?;
+    let text = text_with(alloc, body, special)?;
+    Ok(text)
 }

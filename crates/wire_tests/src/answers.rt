@@ -4,7 +4,7 @@ use crate::texts::text_of;
 use commands::NamedRevisions;
 use document_id::DocId;
 use http_response::{Connection, answer};
-use json_profile::Body;
+use json_profile::{Body, read};
 use model::Style;
 use queries::{
     Answer, AnswerKind, ChangesPage, Difference, Differences, Document, Options, Query, QueryKind,
@@ -89,13 +89,20 @@ fn all_documents(rt: HostRuntime) -> Result<(), Fail> {
     Ok(())
 }
 
+fn body(rt: &HostRuntime, text: &str) -> Result<Arc<Body>, Fail> {
+    let alloc = rt.alloc();
+    let object = read(alloc, text.as_bytes(), 72)?.into_object();
+    let body = object.ok_or("object")?.into_body(alloc)?;
+    Ok(Arc::new(alloc, body).ok().ok_or("memory")?)
+}
+
 fn document(rt: &HostRuntime) -> Result<Document, Fail> {
     let alloc = rt.alloc();
     Ok(Document {
         id: id(rt, "a")?,
         rev: rev()?,
         deleted: false,
-        body: Arc::new(alloc, Body::empty(alloc)).ok().ok_or("memory")?,
+        body: body(rt, r#"{"text":[],"Kind":1}"#)?,
         revisions: None,
         revs_info: None,
         conflicts: Vec::new(alloc),
@@ -119,7 +126,7 @@ fn open_revs(rt: HostRuntime) -> Result<(), Fail> {
     let opened = vec![in rt.alloc(); Ok(document(&rt)?), Err(rev()?)]?;
     assert_eq!(rt;
         told(&rt, query, AnswerKind::Opened(opened))?.as_str(),
-        "HTTP/1.1 200 OK\r\nContent-Type: application/json\r\nContent-Length: 113\r\nCouch-Place: 1\r\n\r\n[{\"ok\":{\"_id\":\"a\",\"_rev\":\"1-0123456789abcdef0123456789abcdef\"}},{\"missing\":\"1-0123456789abcdef0123456789abcdef\"}]"
+        "HTTP/1.1 200 OK\r\nContent-Type: application/json\r\nContent-Length: 132\r\nCouch-Place: 1\r\n\r\n[{\"ok\":{\"Kind\":1,\"_id\":\"a\",\"_rev\":\"1-0123456789abcdef0123456789abcdef\",\"text\":[]}},{\"missing\":\"1-0123456789abcdef0123456789abcdef\"}]"
     );
     Ok(())
 }

@@ -57,8 +57,8 @@ fn push_deleted(text: &mut String, deleted: bool) -> Result<(), AllocError> {
 
 /// A body that has members.
 fn push_body(text: &mut String, body: &Body) -> Result<(), AllocError> {
-    let members = body.text(*text.allocator())?;
-    if members.as_str() != "{}" {
+    let members = body.text();
+    if members != "{}" {
         write!(text, " {members}")?;
     }
     Ok(())

@@ -1,21 +1,23 @@
-use Rattle.std.proofs.Common.{◌≡◌, false, ap, ◌∙◌, refl}
+use Rattle.std.proofs.Common.{ap, ◌∙◌}
 use Rattle.std.specs.Prelude.{codes}
-use Rattle.serde_json.specs.Data.{object, string, put}
-use Rattle.serde_json.specs.Written.{members_have_float}
-use Rattle.json_profile.proofs.Floats.{has_float-whole}
+use Rattle.serde_json.specs.Data.{object, string, put, no_members}
+use Rattle.serde_json.specs.Written.{compact_text, members_have_float}
+use Rattle.json_profile.specs.Joined.{between, has_member}
 use Rattle.document_json.specs.Local.{local_id}
 use Rattle.http_response.specs.Document.{counter_text}
-use Rattle.http_response.proofs.Floats.{no_float-put}
+use Rattle.http_response.proofs.Specials.{has_member-put, local-between, no_float-local}
 use Rattle.http_response.proofs.local.local_text.Goals as goal
 
-pub object_text-requires : goal.object_text-requires
-object_text-requires c =
-    let body = c.args.body.now in
-    let id = string (local_id c.args.id.now) in
-    let rev = string (counter_text c.args.counter) in
-    let named = put (codes "_id") id body in
-    let plain = has_float-whole (object body) c.in_ok-members.ensures.whole in
-    let first : members_have_float named ≡ false = no_float-put (codes "_id") id body refl plain in
-    let put_id = c.in_ok-put_local_id.ensures ∙ ap (put (codes "_id") id) c.in_ok-members.ensures.members in
-    ap members_have_float (c.in_ok-put_counter.ensures ∙ ap (put (codes "_rev") rev) put_id)
-    ∙ no_float-put (codes "_rev") rev named refl first
+pub text_with-requires-clause-some : goal.text_with-requires-clause-some
+text_with-requires-clause-some c =
+    ap has_member c.in_ok-special.ensures
+    ∙ has_member-put (codes "_rev") (string (counter_text c.args.counter)) (put (codes "_id") (string (local_id c.args.id.now)) no_members)
+
+pub text_with-requires-clause-plain : goal.text_with-requires-clause-plain
+text_with-requires-clause-plain c = ap members_have_float c.in_ok-special.ensures ∙ no_float-local c.args.id.now c.args.counter
+
+pub returns : goal.returns
+returns c =
+    c.in_ok-text.ensures.text
+    ∙ ap (λ ms. compact_text (object (between c.args.body.now ms))) c.in_ok-special.ensures
+    ∙ ap compact_text (local-between c.args.id.now c.args.counter c.args.body.now c.in_ok-text.ensures.body)

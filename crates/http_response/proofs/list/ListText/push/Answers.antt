@@ -1,19 +1,7 @@
-use Rattle.std.proofs.Common.{◌≡◌, ◌++◌, false, string_bytes, ap, sym, ◌∙◌}
+use Rattle.std.proofs.Common.{◌∙◌}
 use Rattle.serde_json.specs.View.{view}
-use Rattle.serde_json.specs.Written.{comma_if, compact_text}
-use Rattle.http_response.specs.List.{stands_after}
-use Rattle.http_response.proofs.ListTexts.{one_more, stands_after-push}
 use Rattle.http_response.proofs.list.ListText.push.Goals as goal
 
 pub returns : goal.returns
-returns c =
-    let list = c.args.self.now in
-    let item = view c.args.item.now in
-    let stood = string_bytes list.text ++ comma_if list.has_items in
-    let pushed : string_bytes c.push_str.new.self ≡ stood ++ compact_text item =
-    c.in_ok-push_str.ensures.bytes ∙ ap (λ t. t ++ c.as_str.result.now) c.in_ok-put_comma.ensures
-    ∙ ap (λ t. stood ++ t) (c.as_str.ensures.value ∙ c.in_ok-text.ensures.text c.requires) in
-    λ before items more h all. record {
-      text = one_more before (string_bytes list.text) (string_bytes c.push_str.new.self) list.has_items items more item h.text h.later pushed all;
-      later = sym (ap (stands_after false) all ∙ stands_after-push false items item);
-    }
+returns c = λ before items more h all.
+    c.in_ok-push_text.ensures before items more (view c.args.item.now) h (c.as_str.ensures.value ∙ c.in_ok-text.ensures) all

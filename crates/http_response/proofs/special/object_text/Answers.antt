@@ -4,7 +4,7 @@ use Rattle.std.proofs.lemmas.Result.{IfOk-weaker}
 use Rattle.serde_json.specs.Data.{Data}
 use Rattle.serde_json.specs.Written.{compact_text, has_float}
 use Rattle.serde_json.proofs.Views.{view-Object}
-use Rattle.http_response.proofs.document.object_text.Goals as goal
+use Rattle.http_response.proofs.special.object_text.Goals as goal
 
 pub returns : goal.returns
 returns c =
