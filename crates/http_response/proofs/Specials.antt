@@ -11,9 +11,10 @@ use Rattle.json_profile.specs.Profiled.{ArePlain}
 use Rattle.json_profile.proofs.Joined.{put-between, between-none, between-text, has_member-length}
 use Rattle.model.specs.Body.{Body, IsBody}
 use Rattle.model.specs.Profile.{is_special}
-use Rattle.model.specs.Query.{Document, Status}
+use Rattle.model.specs.Query.{Document}
+use Rattle.model.specs.declared.status.Status.{Status}
 use Rattle.model.specs.Revision.{Rev}
-use Rattle.http_bodies.specs.Local.{local_id}
+use Rattle.document_json.specs.Local.{local_id}
 use Rattle.http_response.specs.Document.{counter_text, document_data, found_data, local_data, named_members, rev_data, revs_data, infos_data, revisions_data, with_flag, with_revs, with_revisions, with_infos, told_members}
 use Rattle.http_response.proofs.Floats.{no_float-named, no_float-put, no_float-told}
 
