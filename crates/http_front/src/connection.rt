@@ -1,5 +1,4 @@
 //! The connections of a session.
-
 ghost use Rattle.std.specs.Prelude.{◌≡◌, IfOk};
 ghost use Rattle.model.specs.History.{of_session};
 ghost use Rattle.streams.specs.Counts.{CountsFailure};

@@ -1,5 +1,5 @@
-#![tactic(auto)]
 //! Sessions of the database, and the connections that they serve.
+#![tactic(auto)]
 
 mod connection;
 mod once;

@@ -1,5 +1,4 @@
 //! What the program does with its standard streams.
-
 ghost use Rattle.std.specs.Prelude.{◌≡◌};
 ghost use Rattle.serving.specs.Served.{Streams};
 ghost use Rattle.http_front.specs.Once.{ServesOnce, exit_status};

@@ -1,5 +1,4 @@
 //! A response at hand.
-
 ghost use Rattle.std.specs.Prelude.{◌≡◌, ℕ, true, List, IfOk};
 ghost use Rattle.http_front.specs.Outcome.{after_closing};
 ghost use Rattle.http_front.specs.Response.{SaysLost, Sends, SendsOrLost};

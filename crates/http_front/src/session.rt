@@ -1,5 +1,4 @@
 //! A session that is alone with its database.
-
 ghost use Rattle.std.specs.Prelude.{◌≡◌, ◌↔◌, ◌+◌, ◌<◌, List, [], ◌∷◌, ◌++◌, length, IfOk, IfErr, OnErr, Err};
 ghost use Rattle.model.specs.Command.{Entry};
 ghost use Rattle.model.specs.Database.{calls_of, reply_to};

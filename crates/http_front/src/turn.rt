@@ -1,5 +1,4 @@
 //! The turns of a session.
-
 ghost use Rattle.std.specs.Prelude.{◌≡◌, ◌++◌, length, Ok, Some, IfOk, IsSome};
 ghost use Rattle.http_framing.specs.Input.{Requested, Refused};
 ghost use Rattle.http_framing.specs.Request as framing;

@@ -1,11 +1,4 @@
 pub mod Response
 pub mod Problem
-pub mod Document
-pub mod List
-pub mod Bulk
-pub mod Object
-pub mod Changes
-pub mod AllDocs
-pub mod Differences
 pub mod Told
 pub mod Texts

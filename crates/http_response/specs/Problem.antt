@@ -10,6 +10,7 @@ use Rattle.model.specs.declared.refusal.Refusal.{Refusal}
 use Rattle.model.specs.declared.refusal.Refusal.TheVariants as refusal
 use Rattle.model.specs.declared.absent.Absent.{Absent}
 use Rattle.model.specs.declared.absent.Absent.TheVariants as absent
+use Rattle.answer_json.specs.Refusals.{write_error, write_reason}
 use Rattle.http_response.specs.declared.status.StatusCode.{StatusCode}
 use Rattle.http_response.specs.declared.status.StatusCode.TheVariants as status
 use Rattle.http_response.specs.declared.head.Allow.{Allow}
@@ -75,20 +76,6 @@ write_status refusal.BadHistory = status.Conflict
 write_status refusal.Missing = status.NotFound
 write_status refusal.Deleted = status.NotFound
 write_status refusal.GenerationLimit = status.Conflict
-
-abbrev pub write_error : Refusal → List ℕ
-write_error refusal.Conflict = codes "conflict"
-write_error refusal.BadHistory = codes "bad_history"
-write_error refusal.Missing = codes "not_found"
-write_error refusal.Deleted = codes "not_found"
-write_error refusal.GenerationLimit = codes "generation"
-
-abbrev pub write_reason : Refusal → List ℕ
-write_reason refusal.Conflict = codes "Document update conflict."
-write_reason refusal.BadHistory = codes "A known revision has another parent."
-write_reason refusal.Missing = codes "missing"
-write_reason refusal.Deleted = codes "deleted"
-write_reason refusal.GenerationLimit = codes "The generation limit is reached."
 
 abbrev pub write_problem : Refusal → List ℕ
 write_problem refusal = problem_text (write_error refusal) (write_reason refusal)

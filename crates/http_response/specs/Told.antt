@@ -11,12 +11,12 @@ use Rattle.model.specs.declared.absent.Absent.TheVariants.{IsMissing}
 use Rattle.model.specs.Revision.{Rev}
 use Rattle.http_request.specs.declared.asked.Form.{Form}
 use Rattle.http_request.specs.declared.asked.Form.TheVariants as form
-use Rattle.http_response.specs.Bulk.{edits_data, merges_data}
-use Rattle.http_response.specs.Document.{counts_data, written_data, local_written_data, document_data, all_opened_data, local_data}
+use Rattle.answer_json.specs.Bulk.{edits_data, merges_data}
+use Rattle.answer_json.specs.Document.{counts_data, written_data, local_written_data, document_data, all_opened_data, local_data}
 use Rattle.model.specs.Body.{Body}
-use Rattle.http_response.specs.AllDocs.{all_docs_data}
-use Rattle.http_response.specs.Changes.{page_data}
-use Rattle.http_response.specs.Differences.{differences_data}
+use Rattle.answer_json.specs.AllDocs.{all_docs_data}
+use Rattle.answer_json.specs.Changes.{page_data}
+use Rattle.answer_json.specs.Differences.{differences_data}
 use Rattle.http_response.specs.Problem.{write_status, write_problem, absent_problem}
 use Rattle.http_response.specs.declared.status.StatusCode.{StatusCode}
 use Rattle.http_response.specs.declared.status.StatusCode.TheVariants as status

@@ -1,5 +1,4 @@
 //! What a query is answered.
-
 ghost use Rattle.std.specs.Prelude.{◌≡◌, option_map, IfOk, string_bytes};
 ghost use Rattle.std.specs.Arc.{arc_value};
 ghost use Rattle.queries.specs.Answer.{answer_of};
@@ -8,17 +7,15 @@ ghost use Rattle.http_response.specs.Response.{bytes_of};
 ghost use Rattle.http_response.specs.Texts.{answer_text};
 ghost use Rattle.http_response.specs.Told.{answer_told, found_told, local_told, told_absent, told_found};
 
-use crate::all_docs::all_docs_text;
 use crate::body::BodyText;
-use crate::changes::page_text;
 use crate::connection::Connection;
-use crate::differences::differences_text;
-use crate::document::{all_opened_text, document_text};
-use crate::local::local_text;
 use crate::problem::body_of_absent;
 use crate::response::Response;
 use crate::status::StatusCode;
-use crate::written::{counts_text, number_text};
+use answer_json::{
+    all_docs_text, all_opened_text, counts_text, differences_text, document_text, local_text,
+    number_text, page_text,
+};
 use document_id::DocId;
 use json_profile::Body;
 use model::Absent;

@@ -1,5 +1,4 @@
 //! The bodies of responses.
-
 ghost use Rattle.std.specs.Prelude.{◌≡◌};
 ghost use Rattle.http_response.specs.Response.{bytes_of};
 

@@ -1,5 +1,4 @@
 //! The responses to bytes that are refused with all that follows them.
-
 ghost use Rattle.std.specs.Prelude.{◌≡◌};
 ghost use Rattle.http_response.specs.Problem.{closing_body, closing_status};
 ghost use Rattle.http_response.specs.Texts.{closing_text};

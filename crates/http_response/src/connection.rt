@@ -1,5 +1,4 @@
 //! What a response says of its connection.
-
 ghost use Rattle.std.specs.Prelude.{◌≡◌, ◌≤◌, length};
 ghost use Rattle.http_response.specs.Response.{connection_line};
 

@@ -1,31 +1,21 @@
-#![tactic(auto)]
 //! The texts of responses.
 //!
 //! A response has a head, which names its length and the place of the history that it is given at,
 //! and a JSON text as its body. A head takes no memory, and neither does a body whose text is fixed.
 //! `specs/Texts.antt` says each text byte by byte.
+#![tactic(auto)]
 
-mod all_docs;
 mod answered;
 mod body;
 mod broken;
-mod bulk;
-mod changes;
 mod connection;
-mod differences;
-mod document;
 mod fixed;
 mod head;
-mod list;
-mod local;
 mod lost;
-mod object;
 mod problem;
 mod replied;
 mod response;
-mod special;
 mod status;
-mod written;
 
 pub use answered::answer;
 pub use broken::closing;

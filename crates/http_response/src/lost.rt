@@ -1,5 +1,4 @@
 //! The responses for want of memory, which take none.
-
 ghost use Rattle.std.specs.Prelude.{◌≡◌};
 ghost use Rattle.http_response.specs.Texts.{no_memory_body, no_memory_text};
 

@@ -1,7 +1,6 @@
 //! Why a write or a query was refused, as a body tells it.
-
 ghost use Rattle.std.specs.Prelude.{◌≡◌};
-ghost use Rattle.http_response.specs.Problem.{absent_problem, write_error, write_problem, write_reason, write_status};
+ghost use Rattle.http_response.specs.Problem.{absent_problem, write_problem, write_status};
 
 use crate::status::StatusCode;
 use model::{Absent, Refusal};
@@ -15,31 +14,6 @@ pub(crate) fn status_of(refusal: Refusal) -> StatusCode
         Refusal::Conflict | Refusal::BadHistory | Refusal::GenerationLimit => {
             StatusCode::Conflict
         }
-    }
-}
-
-/// The error that a refused write is.
-pub(crate) fn error_of(refusal: Refusal) -> &'static str
-    ensures { result.now ≡ write_error refusal }
-{
-    match refusal {
-        Refusal::Conflict => "conflict",
-        Refusal::BadHistory => "bad_history",
-        Refusal::Missing | Refusal::Deleted => "not_found",
-        Refusal::GenerationLimit => "generation",
-    }
-}
-
-/// Why a write was refused.
-pub(crate) fn reason_of(refusal: Refusal) -> &'static str
-    ensures { result.now ≡ write_reason refusal }
-{
-    match refusal {
-        Refusal::Conflict => "Document update conflict.",
-        Refusal::BadHistory => "A known revision has another parent.",
-        Refusal::Missing => "missing",
-        Refusal::Deleted => "deleted",
-        Refusal::GenerationLimit => "The generation limit is reached.",
     }
 }
 

@@ -1,5 +1,4 @@
 //! What became of a command.
-
 ghost use Rattle.std.specs.Prelude.{◌≡◌, option_map, IfOk};
 ghost use Rattle.commands.specs.Command.{command_of};
 ghost use Rattle.commands.specs.Reply.{reply_of};
@@ -8,13 +7,11 @@ ghost use Rattle.http_response.specs.Texts.{reply_text};
 ghost use Rattle.http_response.specs.Told.{done, reply_told, told_edits, told_local, told_local_one, told_one, told_refused, told_single};
 
 use crate::body::BodyText;
-use crate::bulk::{edits_text, merges_text};
 use crate::connection::Connection;
-use crate::document::written_text;
-use crate::local::local_written_text;
 use crate::problem::{body_of_refusal, status_of};
 use crate::response::Response;
 use crate::status::StatusCode;
+use answer_json::{edits_text, local_written_text, merges_text, written_text};
 use commands::{Command, CommandKind, Edit, Reply, ReplyKind};
 use document_id::DocId;
 use http_request::Form;

@@ -1,5 +1,4 @@
 //! A response: a head, which takes no memory, and a body.
-
 ghost use Rattle.std.specs.Prelude.{◌≡◌, ◌++◌};
 ghost use Rattle.http_response.specs.Response.{bytes_of, response_text};
 

@@ -1,5 +1,4 @@
 //! The statuses of responses.
-
 ghost use Rattle.std.specs.Prelude.{◌≡◌, ◌≤◌, length};
 ghost use Rattle.http_response.specs.Response.{status_text};
 

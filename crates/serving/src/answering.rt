@@ -1,5 +1,4 @@
 //! What answers requests.
-
 ghost use Rattle.std.specs.Prelude.{◌≡◌, ◌++◌, IfOk};
 ghost use Rattle.streams.specs.Counts.{CountsFailure};
 ghost use Rattle.streams.specs.Writes.{Writes};

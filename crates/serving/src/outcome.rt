@@ -1,5 +1,4 @@
 //! How serving ends.
-
 ghost use Rattle.std.specs.Prelude.{◌≡◌};
 
 /// Why serving ended.

@@ -1,5 +1,4 @@
 //! The turns of a connection.
-
 ghost use Rattle.serving.specs.Served.{EndsInput, Served, Streams};
 
 use crate::answering::Service;

@@ -1,5 +1,4 @@
 //! The bytes that have come and were not yet taken.
-
 ghost use Rattle.std.specs.Prelude.{◌≡◌, ℕ, ◌+◌, ◌-◌, ◌<◌, ◌≤◌, List, [], ◌++◌, length};
 ghost use Rattle.std.specs.Prelude.{take, drop, slice_range, Ok, IfOk, OnOk, OnErr, nat_le, true, false};
 ghost use Rattle.std.specs.Io.KnownBytes.{Consumes, Keeps, IsAtEnd};

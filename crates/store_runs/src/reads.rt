@@ -32,21 +32,33 @@ fn print_documents(rt: &HostRuntime, version: &Version) -> io::Result<()> {
 }
 
 fn print_changes(rt: &HostRuntime, version: &Version) -> io::Result<()> {
-    println!(rt; "update seq {}", version.database().documents().update_seq())?;
+    println!(rt;
+        "update seq {}",
+        version.database().documents().update_seq()
+    )?;
     println!(rt; "changes {}", version.database().changed_since(0).count())?;
-    println!(rt; "changes counted {}", version.database().count_changed_since(0))
+    println!(rt;
+        "changes counted {}",
+        version.database().count_changed_since(0)
+    )
 }
 
 fn print_purges(rt: &HostRuntime, version: &Version) -> io::Result<()> {
     println!(rt; "purge seq {}", version.database().purges().purge_seq())?;
     println!(rt; "purges {}", version.database().purges().above(0).count())?;
-    println!(rt; "purges counted {}", version.database().purges().count_above(0))?;
+    println!(rt;
+        "purges counted {}",
+        version.database().purges().count_above(0)
+    )?;
     println!(rt; "touched {}", version.touched_since(0, 0).unwrap_or(0))
 }
 
 fn print_shares(rt: &HostRuntime, version: &Version) -> io::Result<()> {
     println!(rt; "shared {}", is_shared(version))?;
-    println!(rt; "records {}", version.database().documents().share().is_ok())
+    println!(rt;
+        "records {}",
+        version.database().documents().share().is_ok()
+    )
 }
 
 fn is_shared(version: &Version) -> bool {

@@ -1,5 +1,4 @@
 //! Writing to a sink.
-
 ghost use Rattle.std.specs.Prelude.{◌++◌};
 ghost use Rattle.streams.specs.Writes.{Writes};
 ghost use Rattle.streams.specs.Counts.{CountsFailure};

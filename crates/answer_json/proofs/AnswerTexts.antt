@@ -1,0 +1,40 @@
+-- The texts of answers, in parts.
+use Rattle.std.proofs.Common.{◌≡◌, ℕ, List, ◌++◌, append_assoc, map, length, refl, sym, ap, ◌∙◌, decimal, arith}
+use Rattle.std.specs.Prelude.{codes}
+use Rattle.std.proofs.lemmas.Fmt.{decimal_digit}
+use Rattle.serde_json.specs.Data.{array}
+use Rattle.serde_json.specs.View.{items_of}
+use Rattle.serde_json.specs.Written.{compact_text}
+use Rattle.serde_json.proofs.OnLiterals.{serde_json_on_literals}
+use Rattle.model.specs.Command.{Id}
+use Rattle.model.specs.Query.{ChangesPage}
+use Rattle.model.specs.Revision.{Rev}
+use Rattle.answer_json.specs.AllDocs.{all_docs_data, listed_data}
+use Rattle.answer_json.specs.Changes.{page_data, row_data}
+
+joined : (a b c d e f g : List ℕ) → (((a ++ (b ++ (c ++ (d ++ e)))) ++ f) ++ g) ≡ a ++ (b ++ (c ++ (d ++ (e ++ (f ++ g)))))
+joined a b c d e f g = simp append_assoc refl
+
+-- what stands before the rows
+abbrev pub page_front : ChangesPage → List ℕ
+page_front page = codes "{\"last_seq\":" ++ (decimal page.last_seq ++ (codes ",\"pending\":" ++ (decimal page.pending ++ codes ",\"results\":")))
+
+pub page_data-parts : (page : ChangesPage) → ((page_front page ++ compact_text (array (items_of (map row_data page.rows)))) ++ codes "}") ≡ compact_text (page_data page)
+unfolding serde_json_on_literals
+page_data-parts page =
+    joined (codes "{\"last_seq\":") (decimal page.last_seq) (codes ",\"pending\":") (decimal page.pending) (codes ",\"results\":")
+    (compact_text (array (items_of (map row_data page.rows)))) (codes "}")
+
+-- what stands before and behind the documents
+abbrev pub all_docs_front : List ℕ
+all_docs_front = codes "{\"offset\":0,\"rows\":"
+
+abbrev pub all_docs_end : List (Id × Rev) → List ℕ
+all_docs_end documents = codes ",\"total_rows\":" ++ (decimal (length documents) ++ codes "}")
+
+pub all_docs_data-parts : (documents : List (Id × Rev)) → (all_docs_front ++ compact_text (array (items_of (map listed_data documents)))) ++ all_docs_end documents ≡ compact_text (all_docs_data documents)
+unfolding serde_json_on_literals
+all_docs_data-parts documents =
+    let rows = compact_text (array (items_of (map listed_data documents))) in
+    append_assoc all_docs_front rows (all_docs_end documents)
+    ∙ ap (λ zero. codes "{\"offset\":" ++ (zero ++ (codes ",\"rows\":" ++ (rows ++ all_docs_end documents)))) (sym (decimal_digit 0 (omega arith)))

@@ -1,0 +1,47 @@
+//! The revisions that are not known, as an answer writes them.
+ghost use Rattle.std.specs.Prelude.{◌≡◌, map, IfOk, string_bytes};
+ghost use Rattle.serde_json.specs.Data.{object};
+ghost use Rattle.serde_json.specs.View.{view};
+ghost use Rattle.serde_json.specs.Written.{compact_text};
+ghost use Rattle.answer_json.specs.Differences.{difference_data, differences_data, named_difference};
+ghost use Rattle.answer_json.specs.Object.{members_from};
+
+use crate::object::ObjectText;
+use crate::written::revs_value;
+use document_id::DocId;
+use queries::{Difference, Differences};
+use serde_json::{Value, json};
+use std::alloc::{AllocError, Global};
+
+/// The revisions of a document that are not known.
+fn difference_value(alloc: Global, difference: &Difference) -> Result<Value, AllocError>
+    ensures { IfOk result (λ value. view value ≡ difference_data difference.now) }
+{
+    let missing = revs_value(alloc, &difference.missing)?;
+    if difference.possible_ancestors.is_empty() {
+        return json!(in alloc; {"missing": missing});
+    }
+    let ancestors = revs_value(alloc, &difference.possible_ancestors)?;
+    json!(in alloc; {"missing": missing, "possible_ancestors": ancestors})
+}
+
+/// An object of documents with their differences.
+fn object_text(alloc: Global, documents: &[(DocId, Difference)]) -> Result<String, AllocError>
+    ensures { IfOk result (λ text. string_bytes text
+        ≡ compact_text (object (members_from (map named_difference documents.now)))) }
+{
+    let mut object = ObjectText::new(alloc)?;
+    for (id, difference) in documents {
+        let value = difference_value(alloc, difference)?;
+        object.push(alloc, id.as_str(), &value)?;
+    }
+    object.finish()
+}
+
+/// The documents that lack revisions.
+pub fn differences_text(alloc: Global, differences: &Differences) -> Result<String, AllocError>
+    ensures { IfOk result (λ text. string_bytes text
+        ≡ compact_text (differences_data differences.now)) }
+{
+    object_text(alloc, differences.documents())
+}

@@ -1,0 +1,73 @@
+//! JSON lists, written item by item.
+ghost use Rattle.std.specs.Prelude.{◌≡◌, ◌++◌, ℕ, List, [], ◌∷◌, false, IfOk, OnOk, string_bytes};
+ghost use Rattle.serde_json.specs.Data.{Data, array};
+ghost use Rattle.serde_json.specs.View.{items_of, view};
+ghost use Rattle.serde_json.specs.Written.{comma_if, compact_text, has_float};
+ghost use Rattle.answer_json.specs.List.{IsListAfter};
+
+use crate::written::value_text;
+use serde_json::Value;
+use std::alloc::{AllocError, Global};
+
+/// A list whose items stand in the text as soon as they are pushed.
+#[derive(Drop)]
+pub(crate) struct ListText {
+    text: String,
+    has_items: bool,
+}
+
+impl ListText {
+    /// A list with no item yet, behind what stands in the text.
+    pub(crate) fn after(text: String) -> Result<ListText, AllocError>
+        ensures { IfOk result (λ list. IsListAfter (string_bytes text) list []) }
+    {
+        let mut text = text;
+        text.push_str("[")?;
+        Ok(ListText {
+            text,
+            has_items: false,
+        })
+    }
+
+    /// Writes one more item, which has no float.
+    pub(crate) fn push(&mut self, alloc: Global, item: &Value) -> Result<(), AllocError>
+        requires { has_float (view item.now) ≡ false }
+        ensures { OnOk result ((before : List ℕ) (items more : List Data)
+            → IsListAfter before self.old items → more ≡ items ++ view item.now ∷ []
+            → IsListAfter before self.new more) }
+    {
+        let text = value_text(alloc, item)?;
+        self.push_text(text.as_str())?;
+        Ok(())
+    }
+
+    /// Writes the text of one more item.
+    pub(crate) fn push_text(&mut self, item: &str) -> Result<(), AllocError>
+        ensures { OnOk result ((before : List ℕ) (items more : List Data) (d : Data)
+            → IsListAfter before self.old items → item.now ≡ compact_text d → more ≡ items ++ d ∷ []
+            → IsListAfter before self.new more) }
+    {
+        put_comma(&mut self.text, self.has_items)?;
+        self.text.push_str(item)?;
+        self.has_items = true;
+        Ok(())
+    }
+
+    /// The text with the whole list.
+    pub(crate) fn finish(self) -> Result<String, AllocError>
+        ensures { IfOk result (λ text. (before : List ℕ) (items : List Data)
+            → IsListAfter before self items
+            → string_bytes text ≡ before ++ compact_text (array (items_of items))) }
+    {
+        let mut text = self.text;
+        text.push_str("]")?;
+        Ok(text)
+    }
+}
+
+/// Writes a comma, where something stands before.
+pub(crate) fn put_comma(text: &mut String, later: bool) -> Result<(), AllocError>
+    ensures { OnOk result (string_bytes text.new ≡ string_bytes text.old ++ comma_if later) }
+{
+    text.push_str(if later { "," } else { "" })
+}
