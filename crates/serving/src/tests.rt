@@ -1,3 +1,5 @@
+//! Connections of a service that echoes targets, served with ample memory.
+
 use super::*;
 use http_framing::FramingFault;
 use http_framing::request::Request;

@@ -1,4 +1,5 @@
-// Versions, changed one command after another with ample memory.
+//! Versions, changed one command after another with ample memory.
+
 mod documents;
 mod history;
 mod limits;

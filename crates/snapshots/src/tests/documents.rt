@@ -1,4 +1,5 @@
-// Edits, deletions and merges.
+//! Edits, deletions and merges.
+
 use crate::tests::{
     AS, BS, CS, Change, DELETED, DELETION, FIRST, FS, NOTHING, ONE_EDIT, OVER_DELETION, SECOND,
     Stands, TWO_EDITS, ZEROS, at, changed, outcome, refused, revision,

@@ -1,4 +1,5 @@
-// Versions, their entries and what changed between them.
+//! Versions, their entries and what changed between them.
+
 use crate::tests::{
     Answer, Change, DELETED, FIRST, ONE_EDIT, SECOND, Stands, TWO_EDITS, acted, answer_at, changed,
     changed_by, command, edit, first_answer, refused, revision, standing,

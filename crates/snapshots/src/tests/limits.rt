@@ -1,4 +1,5 @@
-// The limit of the revisions that are kept.
+//! The limit of the revisions that are kept.
+
 use crate::tests::{
     Answer, Change, FIRST, NOTHING, ONE_EDIT, SECOND, Stands, THIRD, TWO_EDITS, outcome, refused,
     revision,

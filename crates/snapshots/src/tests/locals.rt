@@ -1,4 +1,5 @@
-// Local documents.
+//! Local documents.
+
 use crate::tests::{Answer, Change, NOTHING, Stands, outcome, refused};
 use model::Refusal;
 use std::test::Fail;

@@ -1,4 +1,5 @@
-// Purges and their log, and what a compaction takes. What stands is compared as texts.
+//! Purges and their log, and what a compaction takes. What stands is compared as texts.
+
 use crate::tests::{AS, BS, Change, FIRST, FS, SECOND, changed, edit, path};
 use crate::{Record, Version};
 use commands::{AskedRevisions, Command, Edit, NamedRevisions, ReplyKind};

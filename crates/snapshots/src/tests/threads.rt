@@ -1,4 +1,5 @@
-// A version on two threads.
+//! A version on two threads.
+
 use crate::Version;
 use crate::tests::{Change, changed};
 use std::alloc::AllocError;
