@@ -18,7 +18,7 @@ HERE = os.path.dirname(os.path.abspath(__file__))
 CRATES = os.path.join(HERE, "..", "..", "crates")
 LISTED = os.path.join(HERE, "places")
 
-WANT = {"AllocError", "AllocFailed", "Memory", "NoMemory", "OutOfMemory", "out_of_memory"}
+WANT = {"AllocError", "AllocFailed", "Memory", "NoMemory", "OutOfMemory", "no_memory"}
 
 SKIPPED = re.compile(
     r"""//[^\n]* | /\*.*?\*/ | b?r(\#*)".*?"\1 | b?"(?:\\.|[^"\\])*" | b?'(?:\\.[^']*|[^'\\])' | \s+ | \#!?\[(?:[^\[\]]|\[[^\]]*\])*\]""",

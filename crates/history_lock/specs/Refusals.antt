@@ -5,4 +5,4 @@ use Rattle.sessions.specs.declared.fault.Fault.TheVariants as fault
 
 -- memory was refused, or a reader
 abbrev pub IsRefusal : Fault → Type 0
-IsRefusal f = (f ≡ fault.OutOfMemory) ⊎ (f ≡ fault.EntryRefused)
+IsRefusal f = (f ≡ fault.Memory) ⊎ (f ≡ fault.EntryRefused)

@@ -60,13 +60,13 @@ fn next_ends<R: Wait + Drop, J: Opening>(
     ensures refused { IfErr result IsRefusal }
 {
     let Ok(latest) = current.share() else {
-        return Err(Fault::OutOfMemory);
+        return Err(Fault::Memory);
     };
     let Ok(lens) = press.lens() else {
         return Err(Fault::EntryRefused);
     };
     let Ok(ticket) = clerk.ticket(line) else {
-        return Err(Fault::OutOfMemory);
+        return Err(Fault::Memory);
     };
     Ok(Ends {
         latest,
@@ -93,12 +93,12 @@ pub(crate) fn all_ends<R: Wait + Drop, J: Opening>(
     ensures made { IfOk result (λ ends. clerk.new.made ≡ count) }
 {
     let Ok(mut ends) = Vec::with_capacity(alloc, count as usize) else {
-        return Err(Fault::OutOfMemory);
+        return Err(Fault::Memory);
     };
     for _number in 0..count {
         let next = next_ends(current, press, clerk, line)?;
         let Ok(()) = ends.push(next) else {
-            return Err(Fault::OutOfMemory);
+            return Err(Fault::Memory);
         };
     }
     Ok(ends)

@@ -38,13 +38,13 @@ fn begin<R: Wait + Drop, J: Opening>(
     let first = Published::new(Version::empty(alloc), front);
     let (press, ends) = connect(alloc, sessions, rt, &first, line, &mut clerk)?;
     let Ok(current) = first.share() else {
-        return Err(Fault::OutOfMemory);
+        return Err(Fault::Memory);
     };
     let Ok(mut core) = Core::new(alloc, config, book, current, clerk, press) else {
-        return Err(Fault::OutOfMemory);
+        return Err(Fault::Memory);
     };
     if !show_twice(&mut core) {
-        return Err(Fault::OutOfMemory);
+        return Err(Fault::Memory);
     }
     Ok((core, first, ends))
 }
@@ -66,7 +66,7 @@ fn connect<R: Wait + Drop, J: Opening>(
     ensures refused { IfErr result IsRefusal }
 {
     let Ok(mut press) = Press::new(alloc, rt, first, sessions as usize) else {
-        return Err(Fault::OutOfMemory);
+        return Err(Fault::Memory);
     };
     let ends = all_ends(alloc, sessions, first, &mut press, clerk, line)?;
     Ok((press, ends))
@@ -122,6 +122,6 @@ pub fn open<R: Wait + Drop, J: Opening, G: Gate + Drop>(
     let shared = Shared::new(line, gate, config.limits().queue, core);
     match share(alloc, config, shared, first, ends) {
         Ok(made) => Ok(made),
-        Err(_) => Err(Fault::OutOfMemory),
+        Err(_) => Err(Fault::Memory),
     }
 }

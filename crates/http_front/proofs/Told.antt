@@ -13,7 +13,7 @@ use Rattle.serving.specs.Served.{Streams, Served}
 use Rattle.serving.specs.declared.outcome.Ended.{Ended}
 use Rattle.serving.specs.declared.outcome.Cause.TheVariants as cause
 use Rattle.http_front.specs.Known.{Known, sees_more}
-use Rattle.http_front.specs.Outcome.{Outcome, Fixed, Wrote, WroteUntold, Read, OutOfMemory, Full, Placed, AsksQuery, IsToldAt, IsWritten, IsRead, NamesSeen, TellsAt, written}
+use Rattle.http_front.specs.Outcome.{Outcome, Fixed, Wrote, WroteUntold, Read, Memory, Full, Placed, AsksQuery, IsToldAt, IsWritten, IsRead, NamesSeen, TellsAt, written}
 use Rattle.http_front.specs.Answers.{Answers, AnswersAlone}
 use Rattle.http_front.specs.Connection.{IsConnection, SeesInTurn, places_named, entries_written}
 use Rattle.http_front.specs.Session.{IsAlone}
@@ -38,7 +38,7 @@ module _ (k : Known) (more : List Entry) where
   TellsAt-append turn place (Wrote form entry) t = (written-append t.0, t.1, t.2)
   TellsAt-append turn place (WroteUntold form entry) t = (written-append t.0, t.1, t.2)
   TellsAt-append turn place (Read query answer) t = (read-append t.0, t.1, t.2)
-  TellsAt-append turn place OutOfMemory t = t
+  TellsAt-append turn place Memory t = t
   TellsAt-append turn place Full t = t
 
   -- what a history tells, a longer one tells too
@@ -95,7 +95,7 @@ own_written k turn place Fixed t = refl
 own_written k turn place (Wrote form entry) t = of_session-own k.number entry t.0.own
 own_written k turn place (WroteUntold form entry) t = of_session-own k.number entry t.0.own
 own_written k turn place (Read query answer) t = refl
-own_written k turn place OutOfMemory t = refl
+own_written k turn place Memory t = refl
 own_written k turn place Full t = refl
 
 names_seen : (outcome : Outcome) (seen : List Entry) → NamesSeen outcome (length seen) seen
@@ -103,7 +103,7 @@ names_seen Fixed seen = refl
 names_seen (Wrote form entry) seen = tt
 names_seen (WroteUntold form entry) seen = tt
 names_seen (Read query answer) seen = tt
-names_seen OutOfMemory seen = refl
+names_seen Memory seen = refl
 names_seen Full seen = refl
 
 answers_alone : (old : Known) (turn : Turn) (new : Known) → AnswersAlone old turn new → Answers old turn new

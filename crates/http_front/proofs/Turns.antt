@@ -13,7 +13,7 @@ use Rattle.http_request.specs.declared.asked.Form.{Form}
 use Rattle.http_response.specs.Texts.{reply_text, answer_text, full_text}
 use Rattle.http_response.specs.declared.lost.Lost.TheVariants as lost
 use Rattle.http_front.specs.Known.{Known, history_of, sees_more}
-use Rattle.http_front.specs.Outcome.{Outcome, Fixed, Wrote, WroteUntold, Read, OutOfMemory, Full, AsksQuery, IsFixedText, HasFixedText, TellsAt, written, after_closing}
+use Rattle.http_front.specs.Outcome.{Outcome, Fixed, Wrote, WroteUntold, Read, Memory, Full, AsksQuery, IsFixedText, HasFixedText, TellsAt, written, after_closing}
 use Rattle.http_front.specs.Session.{WritesCall}
 use Rattle.http_front.specs.Answers.{AnswersAlone}
 use Rattle.http_front.specs.Response.{turn_of, Sends, SaysLost, SendsOrLost}
@@ -30,7 +30,7 @@ module _ (k : Known) (place : ℕ) (place_is : place ≡ length k.seen) (sent : 
 
   -- memory was refused
   pub answers_lost : (request : Request) → SaysLost place lost.Call sent → AnswersAlone k (turn_of (Requested request) sent) k
-  answers_lost request says = unchanged (Requested request) OutOfMemory refl (tt, says.0, says.1)
+  answers_lost request says = unchanged (Requested request) Memory refl (tt, says.0, says.1)
 
   -- the text of a refusal, or of `/`
   pub answers_fixed : (item : Item) (text : List ℕ) → HasFixedText place item text → Sends text (closes_connection item) sent

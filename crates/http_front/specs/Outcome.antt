@@ -31,7 +31,7 @@ pub data Outcome : Type 0 where
   -- the query has this answer
   Read : Query → Answer → Outcome
   -- memory was refused for a request, and no entry was written
-  OutOfMemory : Outcome
+  Memory : Outcome
   -- the history is full, and no entry was written
   Full : Outcome
 
@@ -47,7 +47,7 @@ written Fixed = []
 written (Wrote form entry) = entry ∷ []
 written (WroteUntold form entry) = entry ∷ []
 written (Read query answer) = []
-written OutOfMemory = []
+written Memory = []
 written Full = []
 
 -- a response that speaks of no entry and of no database names the place of what the session had seen
@@ -56,7 +56,7 @@ NamesSeen Fixed place seen = place ≡ length seen
 NamesSeen (Wrote form entry) place seen = ⊤
 NamesSeen (WroteUntold form entry) place seen = ⊤
 NamesSeen (Read query answer) place seen = ⊤
-NamesSeen OutOfMemory place seen = place ≡ length seen
+NamesSeen Memory place seen = place ≡ length seen
 NamesSeen Full place seen = place ≡ length seen
 
 -- the item is a request
@@ -121,7 +121,7 @@ module _ (k : Known) where
       IsRead turn.item place query answer
       × (Some turn.text ≡ answer_text place (after_closing turn.closes) query answer)
       × (turn.closes ≡ closes_connection turn.item)
-  TellsAt turn place OutOfMemory = IsRequest turn.item × (turn.text ≡ no_memory_text place lost.Call) × (turn.closes ≡ true)
+  TellsAt turn place Memory = IsRequest turn.item × (turn.text ≡ no_memory_text place lost.Call) × (turn.closes ≡ true)
   TellsAt turn place Full =
       (form : Form) × (command : Command) × Asks turn.item (asked.Command form command) × (place ≡ k.room)
       × (turn.text ≡ full_text place (after_closing turn.closes)) × (turn.closes ≡ closes_connection turn.item)

@@ -15,7 +15,7 @@ pub(crate) struct Sent {
 
 impl Sent {
     /// Says that memory was refused, after which the connection closes.
-    pub(crate) fn out_of_memory(place: u64, lost: Lost) -> Sent
+    pub(crate) fn no_memory(place: u64, lost: Lost) -> Sent
         ensures { SaysLost place lost result }
     {
         Sent {
@@ -36,7 +36,7 @@ impl Sent {
     {
         match response {
             Ok(response) => Sent { response, closes },
-            Err(_) => Sent::out_of_memory(place, lost),
+            Err(_) => Sent::no_memory(place, lost),
         }
     }
 }

@@ -51,7 +51,7 @@ pub(crate) fn respond(session: &mut Session, setting: &Setting, request: &Reques
     let place = session.place();
     let closes = request.closes();
     let Ok(asked) = read_request(alloc, &setting.routes, request) else {
-        return Sent::out_of_memory(place, Lost::Call);
+        return Sent::no_memory(place, Lost::Call);
     };
     match asked {
         Ok(asked) => carry_out(session, alloc, &asked, closes),
@@ -97,7 +97,7 @@ fn write(session: &mut Session, alloc: Global, form: Form, command: &Command, cl
             let response = reply_to(alloc, connection, form, command, &receipt);
             Sent::made(response, closes, place, Lost::Reply)
         }
-        Err(WriteFault::Memory) => Sent::out_of_memory(session.place(), Lost::Call),
+        Err(WriteFault::Memory) => Sent::no_memory(session.place(), Lost::Call),
         Err(WriteFault::Full) => {
             let response = full(session.place(), connection);
             Sent { response, closes }
@@ -152,7 +152,7 @@ fn read(session: &Session, alloc: Global, query: &Query, closes: bool) -> Sent
 {
     let place = session.place();
     let Ok(found) = answer(alloc, session.look(), query) else {
-        return Sent::out_of_memory(place, Lost::Call);
+        return Sent::no_memory(place, Lost::Call);
     };
     let response = answer_with(alloc, place, connection_after(closes), query, &found);
     Sent::made(response, closes, place, Lost::Call)

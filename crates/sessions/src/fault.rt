@@ -7,7 +7,7 @@ use thiserror::Error;
 pub enum Fault {
     /// Memory was refused. The call left no entry.
     #[error("out of memory")]
-    OutOfMemory,
+    Memory,
     /// The queue was full. The call left no entry, and nothing changed.
     #[error("busy")]
     Busy,

@@ -25,7 +25,7 @@ impl<R: Wait + Drop, J: Opening, G: Gate + Drop> Session<Core<R, J>, J, G> {
     /// After a fault but `Lost` it left no entry: the next receipt has exactly the calls with a receipt.
     pub fn write<W: Wait>(&mut self, rt: &W, command: Command) -> Result<Receipt, Fault>
         ensures receipt { IfOk result (λ receipt. Writes self.old command receipt self.new) }
-        ensures memory { result ≡ Err fault.OutOfMemory → self.new ≡ record self.old { pushes = self.new.pushes } }
+        ensures memory { result ≡ Err fault.Memory → self.new ≡ record self.old { pushes = self.new.pushes } }
         ensures busy { result ≡ Err fault.Busy → self.new ≡ self.old }
         ensures when_busy { result ≡ Err fault.Busy → (J.capacity < J.sessions) ⊎ (2 ^ 62 ≤ self.old.pushes) }
         ensures full { result ≡ Err fault.Full → Looks (record self.old { pushes = self.new.pushes }) self.new }
@@ -39,7 +39,7 @@ impl<R: Wait + Drop, J: Opening, G: Gate + Drop> Session<Core<R, J>, J, G> {
             return Err(Fault::Lost);
         }
         let Ok(asked) = command.copy(self.alloc) else {
-            return Err(Fault::OutOfMemory);
+            return Err(Fault::Memory);
         };
         let seat = self.seat();
         if !self.ask(rt, Job { seat, command }) {
@@ -107,7 +107,7 @@ impl<C: Drop, J: Opening, G: Drop> Session<C, J, G> {
     fn settle(&mut self, outcome: Outcome<J>, asked: &Command, seat: Seat) -> Result<Receipt, Fault>
         requires seat { seat ≡ next_seat self.old }
         ensures receipt { IfOk result (λ receipt. Writes self.old asked.now receipt self.new) }
-        ensures memory { result ≡ Err fault.OutOfMemory → self.new ≡ self.old }
+        ensures memory { result ≡ Err fault.Memory → self.new ≡ self.old }
         ensures full { result ≡ Err fault.Full → Looks self.old self.new }
         ensures when_full { result ≡ Err fault.Full → length (seen self.new) ≡ J.max_places }
         ensures lost { result ≡ Err fault.Lost → self.new ≡ record self.old { lost = true } }
@@ -117,7 +117,7 @@ impl<C: Drop, J: Opening, G: Drop> Session<C, J, G> {
         match outcome.into_kind() {
             OutcomeKind::Stood(answer) => self.receive(answer, asked, seat),
             OutcomeKind::Full(filled) => Err(self.receive_full(filled)),
-            OutcomeKind::Memory => Err(Fault::OutOfMemory),
+            OutcomeKind::Memory => Err(Fault::Memory),
             OutcomeKind::Dropped => Err(self.lose()),
         }
     }
