@@ -49,7 +49,7 @@ fn send<W: Sink>(writer: &mut W, sent: &Sent) -> Result<bool, Failed>
         (W.failed_writes writer.new) result }
 {
     let (head, body) = sent.response.parts();
-    write_response(writer, head.as_bytes(), body.as_bytes(), sent.closes)
+    write_response(writer, head, body, sent.closes)
 }
 
 /// Serves the requests of the reader to the writer, in order, each as soon as it is whole.

@@ -50,8 +50,8 @@ pub trait Service<C> {
 /// Writes a response that is at hand, and passes on whether the connection closes after it.
 pub fn write_response<W: Sink>(
     writer: &mut W,
-    head: &[u8],
-    body: &[u8],
+    head: &str,
+    body: &str,
     closes: bool,
 ) -> Result<bool, Failed>
     ensures written { Writes (W.taken writer.old) (W.taken writer.new) result

@@ -24,7 +24,7 @@ impl Service<()> for Echo {
         request: &Request<'_>,
         writer: &mut W,
     ) -> Result<bool, Failed> {
-        write_response(writer, request.target().as_bytes(), b"", request.closes())
+        write_response(writer, request.target(), "", request.closes())
     }
 
     fn refuse<W: Sink>(

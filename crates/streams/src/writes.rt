@@ -1,9 +1,13 @@
 //! Writing to a sink.
-ghost use Rattle.std.specs.Prelude.{◌++◌};
+ghost use Rattle.std.specs.Prelude.{◌≡◌, ◌++◌, IfSome};
 ghost use Rattle.streams.specs.Writes.{Writes};
 ghost use Rattle.streams.specs.Counts.{CountsFailure};
 
 use crate::traits::{Failed, Sink};
+use arrayvec::ArrayString;
+
+/// Room for a short response, whose copy costs less than a second write.
+const JOINED_ROOM: usize = 1024;
 
 /// Writes all the bytes, or a beginning of them and then fails.
 pub fn write_all<W: Sink>(writer: &mut W, bytes: &[u8]) -> Result<(), Failed>
@@ -18,8 +22,36 @@ pub fn write_all<W: Sink>(writer: &mut W, bytes: &[u8]) -> Result<(), Failed>
     Ok(())
 }
 
-/// Writes a head and what stands behind it as one text.
-pub fn write_both<W: Sink>(writer: &mut W, head: &[u8], body: &[u8]) -> Result<(), Failed>
+/// Writes a head and what stands behind it as one text: in one write where both are short, as most
+/// responses are.
+pub fn write_both<W: Sink>(writer: &mut W, head: &str, body: &str) -> Result<(), Failed>
+    ensures written { Writes (W.taken writer.old) (W.taken writer.new) result
+        (head.now ++ body.now) }
+    ensures failures { CountsFailure (W.failed_writes writer.old)
+        (W.failed_writes writer.new) result }
+{
+    match join(head, body) {
+        Some(text) => write_all(writer, text.as_str().as_bytes()),
+        None => write_apart(writer, head.as_bytes(), body.as_bytes()),
+    }
+}
+
+/// Both as one text, where there is room.
+fn join(head: &str, body: &str) -> Option<ArrayString<JOINED_ROOM>>
+    ensures { IfSome result (λ text. text.bytes ≡ head.now ++ body.now) }
+{
+    let mut text = ArrayString::new();
+    let Ok(()) = text.try_push_str(head) else {
+        return None;
+    };
+    let Ok(()) = text.try_push_str(body) else {
+        return None;
+    };
+    Some(text)
+}
+
+/// Writes a head, and then what stands behind it.
+fn write_apart<W: Sink>(writer: &mut W, head: &[u8], body: &[u8]) -> Result<(), Failed>
     ensures written { Writes (W.taken writer.old) (W.taken writer.new) result
         (head.now ++ body.now) }
     ensures failures { CountsFailure (W.failed_writes writer.old)

@@ -4,7 +4,7 @@ use Rattle.serving.proofs.tests.EchoServiceUnit.answer.Goals as goal
 
 pub returns-clause-turn : goal.returns-clause-turn
 returns-clause-turn g c = (
-  record { item = Requested c.args.request.now; text = c.as_bytes.result.now ++ []; closes = c.closes.result },
+  record { item = Requested c.args.request.now; text = c.target.result.now ++ []; closes = c.closes.result },
   record { of_item = refl; answered = tt; closes = λ asked. c.closes.ensures ∙ asked },
   c.write_response.ensures.written,
   c.write_response.ensures.closes,
