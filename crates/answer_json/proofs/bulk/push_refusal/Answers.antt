@@ -7,5 +7,4 @@ returns c = λ before items h.
     let id = c.args.id.now in
     c.in_ok-push.ensures before items _ h
     (ap (λ o. items ++ refusals_of id o) c.in-Err.is
-    ∙ ap (λ r. items ++ refused_data id r ∷ []) (sym c.kind.ensures.kind)
     ∙ ap (λ d. items ++ d ∷ []) (sym c.in_ok-item.ensures.value))
