@@ -7,10 +7,12 @@ use Rattle.serde_json.specs.View.{items_of}
 use Rattle.serde_json.specs.Written.{compact_text}
 use Rattle.serde_json.proofs.OnLiterals.{serde_json_on_literals}
 use Rattle.model.specs.Command.{Id}
-use Rattle.model.specs.Query.{ChangesPage}
+use Rattle.model.specs.Query.{ChangesPage, Document}
 use Rattle.model.specs.Revision.{Rev}
 use Rattle.answer_json.specs.AllDocs.{all_docs_data, listed_data}
 use Rattle.answer_json.specs.Changes.{page_data, row_data}
+use Rattle.answer_json.specs.Opened.{found_data}
+use Rattle.document_json.specs.Written.{document_data}
 
 joined : (a b c d e f g : List ℕ) → (((a ++ (b ++ (c ++ (d ++ e)))) ++ f) ++ g) ≡ a ++ (b ++ (c ++ (d ++ (e ++ (f ++ g)))))
 joined a b c d e f g = simp append_assoc refl
@@ -38,3 +40,8 @@ all_docs_data-parts documents =
     let rows = compact_text (array (items_of (map listed_data documents))) in
     append_assoc all_docs_front rows (all_docs_end documents)
     ∙ ap (λ zero. codes "{\"offset\":" ++ (zero ++ (codes ",\"rows\":" ++ (rows ++ all_docs_end documents)))) (sym (decimal_digit 0 (omega arith)))
+
+-- a revision that is found
+pub found-text : (d : Document) (text : List ℕ) → text ≡ compact_text (document_data d) → codes "{\"ok\":" ++ (text ++ codes "}") ≡ compact_text (found_data d)
+unfolding serde_json_on_literals
+found-text d text is = ap (λ t. codes "{\"ok\":" ++ (t ++ codes "}")) is

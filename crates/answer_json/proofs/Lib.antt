@@ -1,7 +1,6 @@
 pub mod AnswerTexts
 pub mod BulkLists
-pub mod Floats
 pub mod ListTexts
+pub mod NamedRevisions
 pub mod ObjectTexts
 pub mod PlainRows
-pub mod Specials

@@ -10,7 +10,7 @@ use Rattle.model.specs.Revision.{Rev, rev_text}
 use Rattle.answer_json.specs.AllDocs.{listed_data}
 use Rattle.answer_json.specs.Changes.{named_rev_data, deleted_first, row_data}
 use Rattle.answer_json.specs.Differences.{ancestors_last, difference_data}
-use Rattle.answer_json.proofs.Floats.{neither, no_float-texts}
+use Rattle.document_json.proofs.Floats.{neither, no_float-texts}
 
 no_float-leaves : (revs : List Rev) → items_have_float (items_of (map named_rev_data revs)) ≡ false
 no_float-leaves [] = refl

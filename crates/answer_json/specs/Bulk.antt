@@ -5,7 +5,7 @@ use Rattle.serde_json.specs.Data.{Data, string, object, no_members, member}
 use Rattle.model.specs.Command.{Id, Edit, Merge}
 use Rattle.model.specs.declared.refusal.Refusal.{Refusal}
 use Rattle.model.specs.Revision.{Rev}
-use Rattle.answer_json.specs.Document.{written_data}
+use Rattle.answer_json.specs.Replies.{written_data}
 use Rattle.answer_json.specs.Refusals.{write_error, write_reason}
 
 abbrev pub Outcome : Type 0

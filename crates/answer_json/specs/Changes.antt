@@ -4,7 +4,7 @@ use Rattle.serde_json.specs.Data.{Data, unsigned, number, string, boolean, array
 use Rattle.serde_json.specs.View.{items_of}
 use Rattle.model.specs.Query.{Row, ChangesPage}
 use Rattle.model.specs.Revision.{Rev}
-use Rattle.answer_json.specs.Document.{rev_data}
+use Rattle.document_json.specs.Written.{rev_data}
 
 -- `{"rev":r}`
 -- CouchDB: GET /{db}/_changes, "results"

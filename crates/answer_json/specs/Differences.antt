@@ -5,7 +5,7 @@ use Rattle.model.specs.Command.{Id, names}
 use Rattle.model.specs.Map.{Map, entries}
 use Rattle.model.specs.Query.{Difference}
 use Rattle.model.specs.Revision.{Rev}
-use Rattle.answer_json.specs.Document.{revs_data}
+use Rattle.document_json.specs.Written.{revs_data}
 use Rattle.answer_json.specs.Object.{Named, members_from}
 
 -- the leaves that may be ancestors, unless there are none

@@ -1,4 +1,9 @@
-pub mod Document
+pub mod Limit
+pub mod TextLists
+pub mod NamedRevisions
+pub mod Replies
+pub mod Opened
+pub mod Counts
 pub mod List
 pub mod Object
 pub mod Refusals

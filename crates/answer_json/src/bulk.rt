@@ -6,9 +6,9 @@ ghost use Rattle.serde_json.specs.Written.{compact_text, has_float};
 ghost use Rattle.answer_json.specs.Bulk.{edits_data, merges_data, outcome_data, problem_data, refusals_of, refused_data};
 ghost use Rattle.answer_json.specs.List.{IsListAfter};
 
-use crate::document::written_value;
 use crate::list::ListText;
 use crate::refusal::{error_of, reason_of};
+use crate::reply::written_value;
 use commands::{Edit, Merge};
 use document_id::DocId;
 use model::Refusal;

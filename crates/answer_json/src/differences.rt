@@ -7,8 +7,8 @@ ghost use Rattle.answer_json.specs.Differences.{difference_data, differences_dat
 ghost use Rattle.answer_json.specs.Object.{members_from};
 
 use crate::object::ObjectText;
-use crate::written::revs_value;
 use document_id::DocId;
+use document_json::revs_value;
 use queries::{Difference, Differences};
 use serde_json::{Value, json};
 use std::alloc::{AllocError, Global};

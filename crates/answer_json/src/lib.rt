@@ -1,24 +1,31 @@
-//! JSON of answers: documents, rows, pages, differences, counts, and what became of writes.
+//! JSON of what is asked and told about documents: rows, pages, differences, counts, replies,
+//! opened revisions and the limit.
 //!
-//! Each text is written once, into memory that it may be refused; `specs/` says it byte by byte.
+//! A text is checked as a document's is. Each text is written once, into memory that it may be
+//! refused; `specs/` says it byte by byte.
 #![tactic(auto)]
 
 mod all_docs;
 mod bulk;
 mod changes;
+mod counts;
 mod differences;
-mod document;
+mod limit;
 mod list;
-mod local;
+mod named_revisions;
 mod object;
+mod opened;
 mod refusal;
-mod special;
-mod written;
+mod reply;
+mod text_list;
 
 pub use all_docs::all_docs_text;
 pub use bulk::{edits_text, merges_text};
 pub use changes::page_text;
+pub use counts::counts_text;
 pub use differences::differences_text;
-pub use document::{all_opened_text, document_text, written_text};
-pub use local::{local_text, local_written_text};
-pub use written::{counts_text, number_text};
+pub use limit::{number_text, read_limit};
+pub use named_revisions::read_difference;
+pub use opened::all_opened_text;
+pub use reply::{local_written_text, written_text};
+pub use text_list::{read_revisions, read_text_list};

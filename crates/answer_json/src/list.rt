@@ -2,10 +2,10 @@
 ghost use Rattle.std.specs.Prelude.{◌≡◌, ◌++◌, ℕ, List, [], ◌∷◌, false, IfOk, OnOk, string_bytes};
 ghost use Rattle.serde_json.specs.Data.{Data, array};
 ghost use Rattle.serde_json.specs.View.{items_of, view};
-ghost use Rattle.serde_json.specs.Written.{comma_if, compact_text, has_float};
+ghost use Rattle.serde_json.specs.Written.{compact_text, has_float};
 ghost use Rattle.answer_json.specs.List.{IsListAfter};
 
-use crate::written::value_text;
+use document_json::{put_comma, value_text};
 use serde_json::Value;
 use std::alloc::{AllocError, Global};
 
@@ -63,11 +63,4 @@ impl ListText {
         text.push_str("]")?;
         Ok(text)
     }
-}
-
-/// Writes a comma, where something stands before.
-pub(crate) fn put_comma(text: &mut String, later: bool) -> Result<(), AllocError>
-    ensures { OnOk result (string_bytes text.new ≡ string_bytes text.old ++ comma_if later) }
-{
-    text.push_str(if later { "," } else { "" })
 }

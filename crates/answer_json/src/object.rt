@@ -5,8 +5,7 @@ ghost use Rattle.serde_json.specs.View.{view};
 ghost use Rattle.serde_json.specs.Written.{compact_text, has_float};
 ghost use Rattle.answer_json.specs.Object.{IsObjectOf, Named, member_text, members_from};
 
-use crate::list::put_comma;
-use crate::written::value_text;
+use document_json::{put_comma, value_text};
 use serde_json::Value;
 use std::alloc::{AllocError, Global};
 

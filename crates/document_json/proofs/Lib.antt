@@ -1,5 +1,5 @@
 pub mod Checks
-pub mod Differences
+pub mod Floats
 pub mod JsonTexts
 pub mod Listings
 pub mod Members
@@ -7,3 +7,4 @@ pub mod Parts
 pub mod Passes
 pub mod Paths
 pub mod RevisionTexts
+pub mod Specials

@@ -5,9 +5,8 @@ pub mod Identity
 pub mod Revisions
 pub mod Text
 pub mod Lists
-pub mod Limit
 pub mod Document
 pub mod Path
 pub mod Bulk
-pub mod Difference
 pub mod Local
+pub mod Written

@@ -10,11 +10,11 @@ ghost use Rattle.document_json.specs.Each.{DecidesEach, each as each_of};
 ghost use Rattle.document_json.specs.Steps.{Decides};
 
 use crate::document::{Parts, as_document, read_parts};
-use crate::each::each;
 use crate::fault::{Fault, Reason};
 use crate::identity::read_id;
 use crate::path::Path;
 use crate::text::read_json;
+use crate::values::each;
 use commands::{Command, Edit, MAX_EDITS, Merge};
 use document_id::DocId;
 use json_profile::Json;

@@ -1,32 +1,37 @@
-//! JSON of documents: what a text says, or why it is not taken.
+//! JSON of documents: what a text says, or why it is not taken, and the text of each document.
 //!
 //! A text is checked from its bytes to its revisions: it is JSON, has the form that is asked for,
 //! has no unknown special member, and its ids and revisions are such. Of a list each check is made
-//! of all before the next. What is not taken leaves nothing behind.
+//! of all before the next. What is not taken leaves nothing behind. A document's text is that of its
+//! body with the special members between; `specs/` says it byte by byte.
 #![tactic(auto)]
 
 mod bulk;
 mod counter;
-mod difference;
 mod document;
-mod each;
 mod fault;
 mod identity;
-mod limit;
-mod list;
 mod local;
 mod number;
 mod path;
 mod revision;
+mod revisions_value;
+mod special;
 mod text;
+mod values;
+mod written_document;
+mod written_local;
 
 pub use bulk::read_bulk;
 pub use counter::name_counter;
-pub use difference::read_difference;
 pub use document::read_edit;
 pub use fault::{Fault, Reason};
 pub use identity::read_id;
-pub use limit::read_limit;
-pub use list::{read_revisions, read_text_list};
 pub use local::{local_id_text, read_local_edit};
+pub use number::from_one;
 pub use revision::name_revision;
+pub use revisions_value::revs_value;
+pub use text::{put_comma, read_json, value_text};
+pub use values::each;
+pub use written_document::document_text;
+pub use written_local::{counter_text, local_text};

@@ -6,7 +6,7 @@ ghost use Rattle.document_json.specs.Numbers.{from_one};
 const LAST_NUMBER: u64 = 4_294_967_295;
 
 /// The number, if it is from 1 to 4294967295.
-pub(crate) fn from_one(number: u64) -> Option<u32>
+pub fn from_one(number: u64) -> Option<u32>
     ensures number { result ≡ from_one 4294967295 number }
     ensures in_range { IfSome result (λ n. (1 ≤ n) × (n ≤ 4294967295)) }
 {

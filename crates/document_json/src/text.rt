@@ -1,13 +1,22 @@
-//! The body of a request, as JSON.
+//! JSON as text: the value of a body, and the texts of values.
+ghost use Rattle.std.specs.Prelude.{◌≡◌, ◌++◌, false, IfOk, OnOk, string_bytes};
+ghost use Rattle.serde_json.specs.View.{view};
+ghost use Rattle.serde_json.specs.Written.{comma_if, compact_text, has_float};
 ghost use Rattle.document_json.specs.Steps.{Decides};
 ghost use Rattle.document_json.specs.Text.{json_of};
 
 use crate::fault::{Fault, Reason};
 use json_profile::{Json, JsonFault, MAX_NESTING, read};
-use std::alloc::Global;
+use serde_json::Value;
+use std::alloc::{AllocError, Global};
 
 /// The value of a body.
-pub(crate) fn read_json(alloc: Global, bytes: &[u8]) -> Result<Json, Fault>
+///
+/// # Errors
+///
+/// A body that is no JSON is refused by [`Reason::Json`], one with a number that is no whole number of
+/// `i64` by [`Reason::Number`], and one that nests too deep by [`Reason::Depth`]. Memory may be refused.
+pub fn read_json(alloc: Global, bytes: &[u8]) -> Result<Json, Fault>
     ensures { Decides result (json_of bytes.now) }
 {
     match read(alloc, bytes, MAX_NESTING) {
@@ -18,4 +27,27 @@ pub(crate) fn read_json(alloc: Global, bytes: &[u8]) -> Result<Json, Fault>
         Err(JsonFault::NotAnObject) => unreachable!(),
         Err(JsonFault::Memory) => Err(Fault::Memory),
     }
+}
+
+/// The text of a value with no float.
+///
+/// # Errors
+///
+/// Memory may be refused.
+pub fn value_text(alloc: Global, value: &Value) -> Result<String, AllocError>
+    requires { has_float (view value.now) ≡ false }
+    ensures { IfOk result (λ text. string_bytes text ≡ compact_text (view value.now)) }
+{
+    value.to_string(alloc)
+}
+
+/// Writes a comma, where something stands before.
+///
+/// # Errors
+///
+/// Memory may be refused.
+pub fn put_comma(text: &mut String, later: bool) -> Result<(), AllocError>
+    ensures { OnOk result (string_bytes text.new ≡ string_bytes text.old ++ comma_if later) }
+{
+    text.push_str(if later { "," } else { "" })
 }

@@ -15,13 +15,13 @@ use Rattle.model.specs.declared.style.Style.{Style}
 use Rattle.document_json.specs.Steps.{Checked, and_then, or_refused, check}
 use Rattle.document_json.specs.Each.{each}
 use Rattle.document_json.specs.Text.{json_of}
-use Rattle.document_json.specs.Lists.{text_list_of, rev_in}
+use Rattle.answer_json.specs.TextLists.{text_list_of, rev_in}
 use Rattle.document_json.specs.declared.fault.Reason.TheVariants as reason
 use Rattle.document_json.specs.Bulk.{bulk_of, command_in, documents_in, edit_in, listed_in, merge_in, new_edits_in}
 use Rattle.document_json.specs.Document.{edit_of, parts_in}
-use Rattle.document_json.specs.Limit.{limit_of}
+use Rattle.answer_json.specs.Limit.{limit_of}
 use Rattle.document_json.specs.Local.{counter_in, counter_over, local_document_of, local_edit_of}
-use Rattle.document_json.specs.Difference.{difference_of}
+use Rattle.answer_json.specs.NamedRevisions.{difference_of}
 use Rattle.http_request.specs.Decide.{decide, route_in, method_in, asked_of, get_document, opened_or_got, put_document, post_bulk}
 use Rattle.http_request.specs.Feeds.{all_docs_of, asks_for_keys, asks_for_other_changes, asks_for_range, changes_of, changes_since, is_normal, style_in}
 use Rattle.http_request.specs.Forms.{IsFormOf, HasForm}

@@ -17,12 +17,12 @@ use Rattle.document_json.specs.Steps.{Checked, and_then}
 use Rattle.http_request.specs.Identity.{path_id}
 use Rattle.http_request.specs.Parameters.{options_of, rev_parameter, no_replication}
 use Rattle.document_json.specs.Document.{edit_of}
-use Rattle.document_json.specs.Limit.{limit_of}
+use Rattle.answer_json.specs.Limit.{limit_of}
 use Rattle.document_json.specs.Bulk.{bulk_of}
 use Rattle.http_request.specs.Feeds.{all_docs_of, changes_of}
 use Rattle.http_request.specs.Opened.{open_revs_of}
 use Rattle.http_request.specs.Local.{delete_local, get_local, put_local}
-use Rattle.document_json.specs.Difference.{difference_of}
+use Rattle.answer_json.specs.NamedRevisions.{difference_of}
 use Rattle.http_request.specs.declared.asked.Asked.{Asked}
 use Rattle.http_request.specs.declared.asked.Asked.TheVariants as asked
 use Rattle.http_request.specs.declared.asked.Form.TheVariants as form

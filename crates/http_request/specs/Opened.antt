@@ -6,7 +6,7 @@ use Rattle.model.specs.Command.{Id}
 use Rattle.model.specs.Query.{OpenRevs, Options}
 use Rattle.document_json.specs.Steps.{Checked, and_then, or_refused}
 use Rattle.document_json.specs.Each.{each}
-use Rattle.document_json.specs.Lists.{rev_in, text_list_of}
+use Rattle.answer_json.specs.TextLists.{rev_in, text_list_of}
 use Rattle.document_json.specs.declared.fault.Reason.TheVariants as reason
 use Rattle.http_request.specs.Parameters.{rev_parameter}
 use Rattle.http_request.specs.declared.asked.Asked.{Asked}

@@ -12,7 +12,10 @@ use Rattle.model.specs.Revision.{Rev}
 use Rattle.http_request.specs.declared.asked.Form.{Form}
 use Rattle.http_request.specs.declared.asked.Form.TheVariants as form
 use Rattle.answer_json.specs.Bulk.{edits_data, merges_data}
-use Rattle.answer_json.specs.Document.{counts_data, written_data, local_written_data, document_data, all_opened_data, local_data}
+use Rattle.answer_json.specs.Counts.{counts_data}
+use Rattle.answer_json.specs.Replies.{written_data, local_written_data}
+use Rattle.document_json.specs.Written.{document_data, local_data}
+use Rattle.answer_json.specs.Opened.{all_opened_data}
 use Rattle.model.specs.Body.{Body}
 use Rattle.answer_json.specs.AllDocs.{all_docs_data}
 use Rattle.answer_json.specs.Changes.{page_data}

@@ -13,10 +13,10 @@ use crate::problem::body_of_absent;
 use crate::response::Response;
 use crate::status::StatusCode;
 use answer_json::{
-    all_docs_text, all_opened_text, counts_text, differences_text, document_text, local_text,
-    number_text, page_text,
+    all_docs_text, all_opened_text, counts_text, differences_text, number_text, page_text,
 };
 use document_id::DocId;
+use document_json::{document_text, local_text};
 use json_profile::Body;
 use model::Absent;
 use queries::{Answer, AnswerKind, Document, Query, QueryKind};

@@ -1,0 +1,153 @@
+-- What is put beside a body goes between its members.
+use Rattle.std.proofs.Common.{◌≡◌, ◌==◌, ℕ, List, [], ◌∷◌, ◌++◌, length, Option, Some, None, Bool, true, false, ◌&&◌, Ordering, Less, Equal, Greater, nat_cmp, append_assoc, refl, sym, ap, ◌∙◌}
+use Rattle.std.specs.Prelude.{codes, not}
+use Rattle.std.specs.Cmp.Lexicographic.{slice_cmp}
+use Rattle.std.specs.Ordering.{match_ordering}
+use Rattle.serde_json.specs.Data.{Data, boolean, string, object, Members, no_members, member, put}
+use Rattle.serde_json.specs.Written.{comma_if, compact_text, members_have_float}
+use Rattle.json_profile.specs.Joined.{bare_text, between, front_of, back_of, has_member}
+use Rattle.json_profile.specs.Profiled.{ArePlain}
+use Rattle.json_profile.proofs.Joined.{put-between, between-none, between-text, has_member-length}
+use Rattle.model.specs.Body.{Body, IsBody}
+use Rattle.model.specs.Profile.{is_special}
+use Rattle.model.specs.Query.{Document}
+use Rattle.model.specs.declared.status.Status.{Status}
+use Rattle.model.specs.Revision.{Rev}
+use Rattle.document_json.specs.Local.{local_id}
+use Rattle.document_json.specs.Written.{counter_text, document_data, local_data, named_members, rev_data, revs_data, infos_data, revisions_data, with_flag, with_revs, with_revisions, with_infos, told_members}
+use Rattle.document_json.proofs.Floats.{no_float-named, no_float-put, no_float-told}
+
+plain_of : (body : Body) → IsBody body → ArePlain body
+plain_of body is = record { whole = is.whole; utf8 = is.utf8; ordered = is.ordered; plain = is.plain }
+
+-- ---- each that is put goes to the special ones
+
+with_flag-between : (n : List ℕ) (flag : Bool) (body special : Members) → ArePlain body → is_special n ≡ true → with_flag n flag (between body special) ≡ between body (with_flag n flag special)
+with_flag-between n true body special plain is = put-between n (boolean true) body special plain is
+with_flag-between n false body special plain is = refl
+
+with_revs-between : (n : List ℕ) (revs : List Rev) (body special : Members) → ArePlain body → is_special n ≡ true → with_revs n revs (between body special) ≡ between body (with_revs n revs special)
+with_revs-between n [] body special plain is = refl
+with_revs-between n (rev ∷ revs) body special plain is = put-between n (revs_data (rev ∷ revs)) body special plain is
+
+with_revisions-between : (revs : Option (List Rev)) (body special : Members) → ArePlain body → with_revisions revs (between body special) ≡ between body (with_revisions revs special)
+with_revisions-between None body special plain = refl
+with_revisions-between (Some revs) body special plain = put-between (codes "_revisions") (revisions_data revs) body special plain refl
+
+with_infos-between : (infos : Option (List (Rev × Status))) (body special : Members) → ArePlain body → with_infos infos (between body special) ≡ between body (with_infos infos special)
+with_infos-between None body special plain = refl
+with_infos-between (Some infos) body special plain = put-between (codes "_revs_info") (infos_data infos) body special plain refl
+
+told-between : (d : Document) (body special : Members) → ArePlain body → told_members d (between body special) ≡ between body (told_members d special)
+told-between d body special plain =
+    let revisions = with_revisions d.revisions special in
+    let infos = with_infos d.revs_info revisions in
+    let conflicts = with_revs (codes "_conflicts") d.conflicts infos in
+    ap (λ ms. with_revs (codes "_deleted_conflicts") d.deleted_conflicts (with_revs (codes "_conflicts") d.conflicts (with_infos d.revs_info ms))) (with_revisions-between d.revisions body special plain)
+    ∙ ap (λ ms. with_revs (codes "_deleted_conflicts") d.deleted_conflicts (with_revs (codes "_conflicts") d.conflicts ms)) (with_infos-between d.revs_info body revisions plain)
+    ∙ ap (λ ms. with_revs (codes "_deleted_conflicts") d.deleted_conflicts ms) (with_revs-between (codes "_conflicts") d.conflicts body infos plain refl)
+    ∙ with_revs-between (codes "_deleted_conflicts") d.deleted_conflicts body conflicts plain refl
+
+two-between : (m n : List ℕ) (v w : Data) (body : Members) → ArePlain body → is_special m ≡ true → is_special n ≡ true → put n w (put m v body) ≡ between body (put n w (put m v no_members))
+two-between m n v w body plain is js =
+    ap (λ ms. put n w (put m v ms)) (sym (between-none body))
+    ∙ ap (put n w) (put-between m v body no_members plain is)
+    ∙ put-between n w body (put m v no_members) plain js
+
+named-between : (id : List ℕ) (rev : Rev) (deleted : Bool) (body : Members) → ArePlain body → named_members id rev deleted body ≡ between body (named_members id rev deleted no_members)
+named-between id rev deleted body plain =
+    ap (with_flag (codes "_deleted") deleted) (two-between (codes "_id") (codes "_rev") (string id) (rev_data rev) body plain refl refl)
+    ∙ with_flag-between (codes "_deleted") deleted body (put (codes "_rev") (rev_data rev) (put (codes "_id") (string id) no_members)) plain refl
+
+-- what stands beside the body of a document
+abbrev pub special_of : Document → Members
+special_of d = told_members d (named_members d.id d.rev d.deleted no_members)
+
+pub document-between : (d : Document) → IsBody d.body → object (between d.body (special_of d)) ≡ document_data d
+document-between d is =
+    let plain = plain_of d.body is in
+    let named = named_members d.id d.rev d.deleted no_members in
+    ap object (sym (ap (told_members d) (named-between d.id d.rev d.deleted d.body plain) ∙ told-between d d.body named plain))
+
+-- and of a local one
+abbrev pub local_special : List ℕ → ℕ → Members
+local_special id counter = put (codes "_rev") (string (counter_text counter)) (put (codes "_id") (string (local_id id)) no_members)
+
+pub local-between : (id : List ℕ) (counter : ℕ) (body : Members) → IsBody body → object (between body (local_special id counter)) ≡ local_data id (counter, body)
+local-between id counter body is = ap object (sym (two-between (codes "_id") (codes "_rev") (string (local_id id)) (string (counter_text counter)) body (plain_of body is) refl refl))
+
+-- ---- there are some, and none has a float
+
+pub has_member-put : (k : List ℕ) (d : Data) (ms : Members) → has_member (put k d ms) ≡ true
+has_member-put k d no_members = refl
+has_member-put k d (member l e ms) = at (slice_cmp nat_cmp k l)
+  where
+    at : (o : Ordering) → has_member (match_ordering o (member k d (member l e ms)) (member l d ms) (member l e (put k d ms))) ≡ true
+    at Less = refl
+    at Equal = refl
+    at Greater = refl
+
+has_member-flag : (n : List ℕ) (flag : Bool) (ms : Members) → has_member ms ≡ true → has_member (with_flag n flag ms) ≡ true
+has_member-flag n true ms some = has_member-put n (boolean true) ms
+has_member-flag n false ms some = some
+
+has_member-revs : (n : List ℕ) (revs : List Rev) (ms : Members) → has_member ms ≡ true → has_member (with_revs n revs ms) ≡ true
+has_member-revs n [] ms some = some
+has_member-revs n (rev ∷ revs) ms some = has_member-put n (revs_data (rev ∷ revs)) ms
+
+has_member-revisions : (revs : Option (List Rev)) (ms : Members) → has_member ms ≡ true → has_member (with_revisions revs ms) ≡ true
+has_member-revisions None ms some = some
+has_member-revisions (Some revs) ms some = has_member-put (codes "_revisions") (revisions_data revs) ms
+
+has_member-infos : (infos : Option (List (Rev × Status))) (ms : Members) → has_member ms ≡ true → has_member (with_infos infos ms) ≡ true
+has_member-infos None ms some = some
+has_member-infos (Some infos) ms some = has_member-put (codes "_revs_info") (infos_data infos) ms
+
+pub has_member-special : (d : Document) → has_member (special_of d) ≡ true
+has_member-special d =
+    let revised = put (codes "_rev") (rev_data d.rev) (put (codes "_id") (string d.id) no_members) in
+    let named = with_flag (codes "_deleted") d.deleted revised in
+    let revisions = with_revisions d.revisions named in
+    let infos = with_infos d.revs_info revisions in
+    let conflicts = with_revs (codes "_conflicts") d.conflicts infos in
+    let first : has_member named ≡ true = has_member-flag (codes "_deleted") d.deleted revised (has_member-put (codes "_rev") (rev_data d.rev) (put (codes "_id") (string d.id) no_members)) in
+    let second : has_member revisions ≡ true = has_member-revisions d.revisions named first in
+    let third : has_member infos ≡ true = has_member-infos d.revs_info revisions second in
+    let fourth : has_member conflicts ≡ true = has_member-revs (codes "_conflicts") d.conflicts infos third in
+    has_member-revs (codes "_deleted_conflicts") d.deleted_conflicts conflicts fourth
+
+pub no_float-special : (d : Document) → members_have_float (special_of d) ≡ false
+no_float-special d = no_float-told d (named_members d.id d.rev d.deleted no_members) (no_float-named d.id d.rev d.deleted no_members refl)
+
+pub no_float-local : (id : List ℕ) (counter : ℕ) → members_have_float (local_special id counter) ≡ false
+no_float-local id counter =
+    no_float-put (codes "_rev") (string (counter_text counter)) (put (codes "_id") (string (local_id id)) no_members) refl (no_float-put (codes "_id") (string (local_id id)) no_members refl refl)
+
+-- ---- the text in its parts
+
+assembled : (f c s e b : List ℕ) → ((((((123 ∷ []) ++ f) ++ c) ++ s) ++ e) ++ b) ++ 125 ∷ [] ≡ 123 ∷ (f ++ ((c ++ s) ++ ((e ++ b) ++ 125 ∷ [])))
+assembled f c s e b = simp append_assoc refl
+
+-- the commas, by whether the parts have text
+pub text-between : (body special : Members) (f b : List ℕ) → has_member special ≡ true
+    → f ≡ bare_text false (front_of body) → b ≡ bare_text (has_member (front_of body)) (back_of body)
+    → ((((((123 ∷ []) ++ f) ++ comma_if (not (length f == 0))) ++ bare_text false special) ++ comma_if ((length f == 0) && not (length b == 0))) ++ b) ++ 125 ∷ []
+    ≡ compact_text (object (between body special))
+text-between body special f b some is js =
+    assembled f _ (bare_text false special) _ b
+    ∙ ap (λ x. 123 ∷ (x ++ ((comma_if (not (length x == 0)) ++ bare_text false special) ++ ((comma_if ((length x == 0) && not (length b == 0)) ++ b) ++ 125 ∷ [])))) is
+    ∙ ap (λ x. 123 ∷ (front ++ ((comma_if (not (length front == 0)) ++ bare_text false special) ++ ((comma_if ((length front == 0) && not (length x == 0)) ++ x) ++ 125 ∷ [])))) js
+    ∙ ap (λ h. 123 ∷ (front ++ ((comma_if h ++ bare_text false special) ++ ((comma_if ((length front == 0) && not (length back == 0)) ++ back) ++ 125 ∷ [])))) (has_member-length false (front_of body))
+    ∙ ap (λ h. 123 ∷ (front ++ ((comma_if (has_member (front_of body)) ++ bare_text false special) ++ ((comma_if (h && not (length back == 0)) ++ back) ++ 125 ∷ [])))) (turned (length front == 0) ∙ ap not (has_member-length false (front_of body)))
+    ∙ ap (λ h. 123 ∷ (front ++ ((comma_if (has_member (front_of body)) ++ bare_text false special) ++ ((comma_if (not (has_member (front_of body)) && h) ++ back) ++ 125 ∷ [])))) (has_member-length (has_member (front_of body)) (back_of body))
+    ∙ sym (between-text body special some)
+  where
+    turned : (b : Bool) → b ≡ not (not b)
+    turned true = refl
+    turned false = refl
+
+    front : List ℕ
+    front = bare_text false (front_of body)
+
+    back : List ℕ
+    back = bare_text (has_member (front_of body)) (back_of body)
