@@ -6,12 +6,14 @@ use Rattle.serde_json.specs.Data.{array}
 use Rattle.serde_json.specs.View.{items_of}
 use Rattle.serde_json.specs.Written.{compact_text}
 use Rattle.serde_json.proofs.OnLiterals.{serde_json_on_literals}
+use Rattle.json.specs.Print.{quoted}
 use Rattle.model.specs.Command.{Id}
 use Rattle.model.specs.Query.{ChangesPage, Document}
 use Rattle.model.specs.Revision.{Rev}
 use Rattle.answer_json.specs.AllDocs.{all_docs_data, listed_data}
 use Rattle.answer_json.specs.Changes.{page_data, row_data}
 use Rattle.answer_json.specs.Opened.{found_data}
+use Rattle.answer_json.specs.Replies.{write_data}
 use Rattle.document_json.specs.Written.{document_data}
 
 joined : (a b c d e f g : List ℕ) → (((a ++ (b ++ (c ++ (d ++ e)))) ++ f) ++ g) ≡ a ++ (b ++ (c ++ (d ++ (e ++ (f ++ g)))))
@@ -45,3 +47,13 @@ all_docs_data-parts documents =
 pub found-text : (d : Document) (text : List ℕ) → text ≡ compact_text (document_data d) → codes "{\"ok\":" ++ (text ++ codes "}") ≡ compact_text (found_data d)
 unfolding serde_json_on_literals
 found-text d text is = ap (λ t. codes "{\"ok\":" ++ (t ++ codes "}")) is
+
+-- what is told of a write
+pub write_data-parts : (id rev : List ℕ) → (((codes "{\"id\":" ++ quoted id) ++ codes ",\"ok\":true,\"rev\":") ++ quoted rev) ++ codes "}" ≡ compact_text (write_data id rev)
+unfolding serde_json_on_literals
+write_data-parts id rev =
+    let front = codes "{\"id\":" in
+    let middle = codes ",\"ok\":true,\"rev\":" in
+    append_assoc ((front ++ quoted id) ++ middle) (quoted rev) (codes "}")
+    ∙ append_assoc (front ++ quoted id) middle (quoted rev ++ codes "}")
+    ∙ append_assoc front (quoted id) (middle ++ (quoted rev ++ codes "}"))

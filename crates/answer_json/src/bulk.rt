@@ -8,9 +8,10 @@ ghost use Rattle.answer_json.specs.List.{IsListAfter};
 
 use crate::list::ListText;
 use crate::refusal::{error_of, reason_of};
-use crate::reply::written_value;
+use crate::reply::written_text;
 use commands::{Edit, Merge};
 use document_id::DocId;
+use document_json::value_text;
 use model::Refusal;
 use revision_id::RevId;
 use serde_json::{Value, json};
@@ -42,23 +43,29 @@ fn push_outcome(
         → IsListAfter before list.old items
         → IsListAfter before list.new (items ++ outcome_data id.now outcome.now ∷ [])) }
 {
-    let item = outcome_value(alloc, id, outcome)?;
-    list.push(alloc, &item)?;
+    let item = outcome_text(alloc, id, outcome)?;
+    list.push_text(item.as_str())?;
     Ok(())
 }
 
-fn outcome_value(
+fn outcome_text(
     alloc: Global,
     id: &DocId,
     outcome: &Result<RevId, Refusal>,
-) -> Result<Value, AllocError>
-    ensures value { IfOk result (λ value. view value ≡ outcome_data id.now outcome.now) }
-    ensures plain { IfOk result (λ value. has_float (view value) ≡ false) }
+) -> Result<String, AllocError>
+    ensures { IfOk result (λ text. string_bytes text ≡ compact_text (outcome_data id.now outcome.now)) }
 {
     match outcome {
-        Ok(rev) => written_value(alloc, id, rev),
-        Err(refusal) => refused_value(alloc, id, *refusal),
+        Ok(rev) => written_text(alloc, id, rev),
+        Err(refusal) => refused_text(alloc, id, *refusal),
     }
+}
+
+fn refused_text(alloc: Global, id: &DocId, refusal: Refusal) -> Result<String, AllocError>
+    ensures { IfOk result (λ text. string_bytes text ≡ compact_text (refused_data id.now refusal)) }
+{
+    let refused = refused_value(alloc, id, refusal)?;
+    value_text(alloc, &refused)
 }
 
 fn refused_value(alloc: Global, id: &DocId, refusal: Refusal) -> Result<Value, AllocError>
@@ -105,7 +112,7 @@ fn push_refusal(
     let Err(refusal) = outcome else {
         return Ok(());
     };
-    let item = refused_value(alloc, id, *refusal)?;
-    list.push(alloc, &item)?;
+    let item = refused_text(alloc, id, *refusal)?;
+    list.push_text(item.as_str())?;
     Ok(())
 }

@@ -8,3 +8,4 @@ pub mod Passes
 pub mod Paths
 pub mod RevisionTexts
 pub mod Specials
+pub mod Strings

@@ -1,6 +1,11 @@
 -- What is put beside a body goes between its members.
 use Rattle.std.proofs.Common.{◌≡◌, ◌==◌, ℕ, List, [], ◌∷◌, ◌++◌, length, Option, Some, None, Bool, true, false, ◌&&◌, Ordering, Less, Equal, Greater, nat_cmp, append_assoc, refl, sym, ap, ◌∙◌}
-use Rattle.std.specs.Prelude.{codes, not}
+use Rattle.std.specs.Prelude.{codes, is_some, not, ◌||◌}
+use Rattle.std.proofs.Math.Dec.{eqb-suc-zero}
+use Rattle.std.proofs.lemmas.Bool.{true≢false}
+use Rattle.std.proofs.lemmas.List.{append-nil}
+use Rattle.json.specs.Print.{quoted}
+use Rattle.serde_json.proofs.OnLiterals.{serde_json_on_literals}
 use Rattle.std.specs.Cmp.Lexicographic.{slice_cmp}
 use Rattle.std.specs.Ordering.{match_ordering}
 use Rattle.serde_json.specs.Data.{Data, boolean, string, object, Members, no_members, member, put}
@@ -12,9 +17,9 @@ use Rattle.model.specs.Body.{Body, IsBody}
 use Rattle.model.specs.Profile.{is_special}
 use Rattle.model.specs.Query.{Document}
 use Rattle.model.specs.declared.status.Status.{Status}
-use Rattle.model.specs.Revision.{Rev}
+use Rattle.model.specs.Revision.{Rev, rev_text}
 use Rattle.document_json.specs.Local.{local_id}
-use Rattle.document_json.specs.Written.{counter_text, document_data, local_data, named_members, rev_data, revs_data, infos_data, revisions_data, with_flag, with_revs, with_revisions, with_infos, told_members}
+use Rattle.document_json.specs.Written.{before_id, counter_text, document_data, local_data, named_members, rev_data, revs_data, infos_data, revisions_data, with_flag, with_revs, with_revisions, with_infos, tells_more, told_members}
 use Rattle.document_json.proofs.Floats.{no_float-named, no_float-put, no_float-told}
 
 plain_of : (body : Body) → IsBody body → ArePlain body
@@ -69,6 +74,34 @@ document-between d is =
     let named = named_members d.id d.rev d.deleted no_members in
     ap object (sym (ap (told_members d) (named-between d.id d.rev d.deleted d.body plain) ∙ told-between d d.body named plain))
 
+-- where nothing more is asked, only what names the revision
+nothing_told : (revisions : Option (List Rev)) (infos : Option (List (Rev × Status))) (conflicts deleted : List Rev) (ms : Members)
+    → (is_some revisions || (is_some infos || (not (length conflicts == 0) || not (length deleted == 0)))) ≡ false
+    → with_revs (codes "_deleted_conflicts") deleted (with_revs (codes "_conflicts") conflicts (with_infos infos (with_revisions revisions ms))) ≡ ms
+nothing_told (Some revs) infos conflicts deleted ms h = absurd (true≢false h)
+nothing_told None (Some infos) conflicts deleted ms h = absurd (true≢false h)
+nothing_told None None (rev ∷ revs) deleted ms h =
+    absurd (true≢false (sym (ap (λ b. not b || not (length deleted == 0)) (eqb-suc-zero (length revs))) ∙ h))
+nothing_told None None [] (rev ∷ revs) ms h = absurd (true≢false (sym (ap not (eqb-suc-zero (length revs))) ∙ h))
+nothing_told None None [] [] ms h = refl
+
+pub document-named : (d : Document) → IsBody d.body → tells_more d ≡ false → object (between d.body (named_members d.id d.rev d.deleted no_members)) ≡ document_data d
+document-named d is h =
+    let named = named_members d.id d.rev d.deleted no_members in
+    ap (λ ms. object (between d.body ms)) (sym (nothing_told d.revisions d.revs_info d.conflicts d.deleted_conflicts named h))
+    ∙ document-between d is
+
+-- the text of that
+named_parts : (b q r v : List ℕ) → ((b ++ q) ++ r) ++ v ≡ b ++ (q ++ (r ++ (v ++ [])))
+named_parts b q r v =
+    append_assoc (b ++ q) r v ∙ append_assoc b q (r ++ v) ∙ ap (λ t. b ++ (q ++ (r ++ t))) (sym (append-nil v))
+
+pub named-text : (id : List ℕ) (rev : Rev) (deleted : Bool)
+    → ((before_id deleted ++ quoted id) ++ codes ",\"_rev\":") ++ quoted (rev_text rev) ≡ bare_text false (named_members id rev deleted no_members)
+unfolding serde_json_on_literals
+named-text id rev true = named_parts (before_id true) (quoted id) (codes ",\"_rev\":") (quoted (rev_text rev))
+named-text id rev false = named_parts (before_id false) (quoted id) (codes ",\"_rev\":") (quoted (rev_text rev))
+
 -- and of a local one
 abbrev pub local_special : List ℕ → ℕ → Members
 local_special id counter = put (codes "_rev") (string (counter_text counter)) (put (codes "_id") (string (local_id id)) no_members)
@@ -102,6 +135,11 @@ has_member-revisions (Some revs) ms some = has_member-put (codes "_revisions") (
 has_member-infos : (infos : Option (List (Rev × Status))) (ms : Members) → has_member ms ≡ true → has_member (with_infos infos ms) ≡ true
 has_member-infos None ms some = some
 has_member-infos (Some infos) ms some = has_member-put (codes "_revs_info") (infos_data infos) ms
+
+pub has_member-named : (id : List ℕ) (rev : Rev) (deleted : Bool) → has_member (named_members id rev deleted no_members) ≡ true
+has_member-named id rev deleted =
+    let revised = put (codes "_rev") (rev_data rev) (put (codes "_id") (string id) no_members) in
+    has_member-flag (codes "_deleted") deleted revised (has_member-put (codes "_rev") (rev_data rev) (put (codes "_id") (string id) no_members))
 
 pub has_member-special : (d : Document) → has_member (special_of d) ≡ true
 has_member-special d =

@@ -1,5 +1,5 @@
 -- The body of a request, as JSON.
-use Rattle.std.specs.Prelude.{ℕ, List, Option, None, Ok, nat_le, if◌then◌else◌}
+use Rattle.std.specs.Prelude.{ℕ, Bool, List, Option, None, Ok, nat_le, ◌==◌, ◌&&◌, not, if◌then◌else◌}
 use Rattle.std.specs.Str.{is_utf8}
 use Rattle.serde_json.specs.Data.{Data, depth}
 use Rattle.serde_json.specs.Read.{read}
@@ -23,3 +23,8 @@ in_profile value =
 -- the value of a body
 unfoldable pub json_of : List ℕ → Checked Data
 json_of bytes = and_then (or_refused (value_of bytes) reason.Json) in_profile
+
+-- JSON lets the byte stand in a string
+-- RFC 8259, 7 "Strings"
+abbrev pub is_unescaped : ℕ → Bool
+is_unescaped byte = (nat_le 32 byte && not (byte == 34)) && not (byte == 92)

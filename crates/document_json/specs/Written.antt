@@ -1,5 +1,5 @@
 -- Documents and revisions, as they are written.
-use Rattle.std.specs.Prelude.{ℕ, Bool, true, List, [], ◌∷◌, ◌++◌, map, Option, Some, None, codes, decimal, if◌then◌else◌}
+use Rattle.std.specs.Prelude.{ℕ, Bool, true, List, [], ◌∷◌, ◌++◌, map, Option, Some, None, codes, decimal, length, is_some, not, ◌||◌, ◌==◌, if◌then◌else◌}
 use Rattle.hex.specs.Hex.{encode_lower}
 use Rattle.serde_json.specs.Data.{Data, unsigned, number, string, boolean, array, object, Members, no_members, member, put}
 use Rattle.serde_json.specs.View.{items_of}
@@ -70,12 +70,21 @@ with_infos (Some infos) members = put (codes "_revs_info") (infos_data infos) me
 abbrev pub named_members : Id → Rev → Bool → Members → Members
 named_members id rev deleted body = with_flag (codes "_deleted") deleted (put (codes "_rev") (rev_data rev) (put (codes "_id") (string id) body))
 
+-- what of that stands before the id in a text
+abbrev pub before_id : Bool → List ℕ
+before_id deleted = if deleted then codes "\"_deleted\":true,\"_id\":" else codes "\"_id\":"
+
 -- what was asked beside the body
 -- CouchDB: GET /{db}/{docid}, "_revisions", "_revs_info", "_conflicts", "_deleted_conflicts"
 abbrev pub told_members : Document → Members → Members
 told_members d members =
     with_revs (codes "_deleted_conflicts") d.deleted_conflicts (with_revs (codes "_conflicts") d.conflicts
     (with_infos d.revs_info (with_revisions d.revisions members)))
+
+-- something is
+abbrev pub tells_more : Document → Bool
+tells_more d =
+    is_some d.revisions || (is_some d.revs_info || (not (length d.conflicts == 0) || not (length d.deleted_conflicts == 0)))
 
 -- CouchDB: GET /{db}/{docid}
 abbrev pub document_data : Document → Data

@@ -31,7 +31,7 @@ pub use local::{local_id_text, read_local_edit};
 pub use number::from_one;
 pub use revision::name_revision;
 pub use revisions_value::revs_value;
-pub use text::{put_comma, read_json, value_text};
+pub use text::{put_comma, put_string, read_json, value_text};
 pub use values::each;
 pub use written_document::document_text;
 pub use written_local::{counter_text, local_text};

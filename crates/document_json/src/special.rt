@@ -1,11 +1,11 @@
 //! A body's text with special members in it, and none of the others copied.
 ghost use Rattle.std.specs.Prelude.{◌≡◌, ◌==◌, ◌&&◌, ◌≤◌, ◌-◌, not, length, take, drop, true, false, IfOk, string_bytes};
 ghost use Rattle.std.specs.Str.{IsCharBoundary};
-ghost use Rattle.serde_json.specs.Data.{object};
+ghost use Rattle.serde_json.specs.Data.{Members, object};
 ghost use Rattle.serde_json.specs.View.{members_view};
 ghost use Rattle.serde_json.specs.Written.{compact_text, members_have_float};
 ghost use Rattle.model.specs.Body.{IsBody};
-ghost use Rattle.json_profile.specs.Joined.{between, has_member};
+ghost use Rattle.json_profile.specs.Joined.{bare_text, between, has_member};
 
 use crate::text::put_comma;
 use json_profile::Body;
@@ -25,13 +25,23 @@ pub(crate) fn text_with(
     ensures body { IfOk result (λ _. IsBody body.now) }
 {
     let special = object_text(alloc, special)?;
+    text_around(alloc, body, inside(special.as_str()))
+}
+
+/// The text of a body's members with the text of special ones between them.
+pub(crate) fn text_around(alloc: Global, body: &Body, special: &str) -> Result<String, AllocError>
+    ensures text { IfOk result (λ text. (members : Members) → has_member members ≡ true
+        → special.now ≡ bare_text false members
+        → string_bytes text ≡ compact_text (object (between body.now members))) }
+    ensures body { IfOk result (λ _. IsBody body.now) }
+{
     let room = body.text().len().saturating_add(special.len());
-    let mut text = String::with_capacity(alloc, room)?;
+    let mut text = String::with_capacity(alloc, room.saturating_add(2))?;
     let (front, back) = (body.front(), body.back());
     text.push_str("{")?;
     text.push_str(front)?;
     put_comma(&mut text, !front.is_empty())?;
-    text.push_str(inside(special.as_str()))?;
+    text.push_str(special)?;
     put_comma(&mut text, stands_first(front, back))?;
     text.push_str(back)?;
     text.push_str("}")?;

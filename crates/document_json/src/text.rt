@@ -1,9 +1,11 @@
 //! JSON as text: the value of a body, and the texts of values.
 ghost use Rattle.std.specs.Prelude.{◌≡◌, ◌++◌, false, IfOk, OnOk, string_bytes};
+ghost use Rattle.std.specs.List.{list_all};
+ghost use Rattle.json.specs.Print.{quoted};
 ghost use Rattle.serde_json.specs.View.{view};
 ghost use Rattle.serde_json.specs.Written.{comma_if, compact_text, has_float};
 ghost use Rattle.document_json.specs.Steps.{Decides};
-ghost use Rattle.document_json.specs.Text.{json_of};
+ghost use Rattle.document_json.specs.Text.{json_of, is_unescaped};
 
 use crate::fault::{Fault, Reason};
 use json_profile::{Json, JsonFault, MAX_NESTING, read};
@@ -50,4 +52,38 @@ pub fn put_comma(text: &mut String, later: bool) -> Result<(), AllocError>
     ensures { OnOk result (string_bytes text.new ≡ string_bytes text.old ++ comma_if later) }
 {
     text.push_str(if later { "," } else { "" })
+}
+
+/// Writes a string with its quotes. One with nothing to escape is written as it stands, and takes
+/// no memory of its own.
+///
+/// # Errors
+///
+/// Memory may be refused.
+pub fn put_string(text: &mut String, alloc: Global, string: &str) -> Result<(), AllocError>
+    ensures { OnOk result (string_bytes text.new ≡ string_bytes text.old ++ quoted string.now) }
+{
+    if !is_all_unescaped(string) {
+        let value = Value::try_from_str(alloc, string)?;
+        let written = value_text(alloc, &value)?;
+        return text.push_str(written.as_str());
+    }
+    text.push_str("\"")?;
+    text.push_str(string)?;
+    text.push_str("\"")?;
+    Ok(())
+}
+
+/// Whether no byte of a string is escaped.
+fn is_all_unescaped(string: &str) -> bool
+    ensures { result ≡ list_all is_unescaped string.now }
+{
+    string.as_bytes().iter().all(|byte| is_unescaped(*byte))
+}
+
+/// Whether JSON lets a byte stand in a string.
+fn is_unescaped(byte: u8) -> bool
+    ensures { result ≡ is_unescaped byte }
+{
+    byte >= b' ' && byte != b'"' && byte != b'\\'
 }

@@ -1,12 +1,14 @@
 //! Documents, as they are written.
-ghost use Rattle.std.specs.Prelude.{◌≡◌, codes, option_map, IfOk, OnOk, string_bytes};
+ghost use Rattle.std.specs.Prelude.{◌≡◌, codes, false, option_map, IfOk, OnOk, string_bytes};
 ghost use Rattle.serde_json.specs.Data.{no_members, string, put as with_member};
 ghost use Rattle.serde_json.specs.View.{members_view};
 ghost use Rattle.serde_json.specs.Written.{compact_text};
-ghost use Rattle.document_json.specs.Written.{document_data, named_members, rev_data, told_members, with_flag, with_infos, with_revisions, with_revs};
+ghost use Rattle.json_profile.specs.Joined.{bare_text};
+ghost use Rattle.document_json.specs.Written.{before_id, document_data, named_members, rev_data, tells_more, told_members, with_flag, with_infos, with_revisions, with_revs};
 
 use crate::revisions_value::{infos_value, revisions_value, revs_value};
-use crate::special::text_with;
+use crate::special::{text_around, text_with};
+use crate::text::put_string;
 use document_id::DocId;
 use model::Status;
 use queries::Document;
@@ -45,6 +47,9 @@ fn put_flag(
         Ok(())
     }
 }
+
+/// Room for the names and the marks of what names the revision.
+const NAMES_ROOM: usize = 40;
 
 /// What names the revision.
 fn name_members(alloc: Global, document: &Document) -> Result<Map<String, Value>, AllocError>
@@ -135,11 +140,64 @@ fn special_members(alloc: Global, document: &Document) -> Result<Map<String, Val
     Ok(members)
 }
 
-/// The text of a document.
-pub fn document_text(alloc: Global, document: &Document) -> Result<String, AllocError>
+/// Whether more is asked than what names the revision.
+fn tells_more(document: &Document) -> bool
+    ensures { result ≡ tells_more document.now }
+{
+    document.revisions.is_some()
+        || document.revs_info.is_some()
+        || !document.conflicts.is_empty()
+        || !document.deleted_conflicts.is_empty()
+}
+
+/// What stands before the id.
+fn before_id(deleted: bool) -> &'static str
+    ensures { result.now ≡ before_id deleted }
+{
+    if deleted {
+        r#""_deleted":true,"_id":"#
+    } else {
+        r#""_id":"#
+    }
+}
+
+/// The text of what names the revision, with no bracket.
+fn named_text(alloc: Global, id: &DocId, rev: &RevId, deleted: bool) -> Result<String, AllocError>
+    ensures { IfOk result (λ text. string_bytes text
+        ≡ bare_text false (named_members id.now rev.now deleted no_members)) }
+{
+    let rev = rev.text(alloc)?;
+    let id = id.as_str();
+    let room = id.len().saturating_add(rev.len());
+    let mut text = String::with_capacity(alloc, room.saturating_add(NAMES_ROOM))?;
+    text.push_str(before_id(deleted))?;
+    put_string(&mut text, alloc, id)?;
+    text.push_str(r#","_rev":"#)?;
+    put_string(&mut text, alloc, rev.as_str())?;
+    Ok(text)
+}
+
+/// The text of a document, with what was asked of it.
+fn told_text(alloc: Global, document: &Document) -> Result<String, AllocError>
     ensures { IfOk result (λ text. string_bytes text ≡ compact_text (document_data document.now)) }
 {
     let special = special_members(alloc, document)?;
     let text = text_with(alloc, &document.body, special)?;
+    Ok(text)
+}
+
+/// The text of a document.
+///
+/// # Errors
+///
+/// Memory may be refused.
+pub fn document_text(alloc: Global, document: &Document) -> Result<String, AllocError>
+    ensures { IfOk result (λ text. string_bytes text ≡ compact_text (document_data document.now)) }
+{
+    if tells_more(document) {
+        return told_text(alloc, document);
+    }
+    let named = named_text(alloc, &document.id, &document.rev, document.deleted)?;
+    let text = text_around(alloc, &document.body, named.as_str())?;
     Ok(text)
 }

@@ -1,5 +1,5 @@
 //! Writing to a sink.
-ghost use Rattle.std.specs.Prelude.{◌≡◌, ◌++◌, IfSome};
+ghost use Rattle.std.specs.Prelude.{◌≡◌, ◌++◌, ◌+◌, ◌≤◌, length};
 ghost use Rattle.streams.specs.Writes.{Writes};
 ghost use Rattle.streams.specs.Counts.{CountsFailure};
 
@@ -30,24 +30,24 @@ pub fn write_both<W: Sink>(writer: &mut W, head: &str, body: &str) -> Result<(),
     ensures failures { CountsFailure (W.failed_writes writer.old)
         (W.failed_writes writer.new) result }
 {
-    match join(head, body) {
-        Some(text) => write_all(writer, text.as_str().as_bytes()),
-        None => write_apart(writer, head.as_bytes(), body.as_bytes()),
+    if head.len().saturating_add(body.len()) > JOINED_ROOM {
+        return write_apart(writer, head.as_bytes(), body.as_bytes());
     }
+    write_joined(writer, head, body)
 }
 
-/// Both as one text, where there is room.
-fn join(head: &str, body: &str) -> Option<ArrayString<JOINED_ROOM>>
-    ensures { IfSome result (λ text. text.bytes ≡ head.now ++ body.now) }
+/// Writes both as one text, for which there is room.
+fn write_joined<W: Sink>(writer: &mut W, head: &str, body: &str) -> Result<(), Failed>
+    requires { length head.now + length body.now ≤ 1024 }
+    ensures written { Writes (W.taken writer.old) (W.taken writer.new) result
+        (head.now ++ body.now) }
+    ensures failures { CountsFailure (W.failed_writes writer.old)
+        (W.failed_writes writer.new) result }
 {
-    let mut text = ArrayString::new();
-    let Ok(()) = text.try_push_str(head) else {
-        return None;
-    };
-    let Ok(()) = text.try_push_str(body) else {
-        return None;
-    };
-    Some(text)
+    let mut text = ArrayString::<JOINED_ROOM>::new();
+    text.push_str(head);
+    text.push_str(body);
+    write_all(writer, text.as_str().as_bytes())
 }
 
 /// Writes a head, and then what stands behind it.
