@@ -85,10 +85,10 @@ abbrev pub names_no_other : Id → Option (List ℕ) → Bool
 names_no_other id text = option_map_or (bytes_eq id) text true
 
 -- the revision that is named in two places
-abbrev pub named_twice : Option Rev → Option Rev → Checked (Option Rev)
-named_twice first None = Ok first
-named_twice None second = Ok second
-named_twice (Some first) (Some second) = and_then (check (same_rev first second) reason.Revision) (λ _. Ok (Some first))
+abbrev pub named_once : {A : Type 0} → (A → A → Bool) → Option A → Option A → Checked (Option A)
+named_once same first None = Ok first
+named_once same None second = Ok second
+named_once same (Some first) (Some second) = and_then (check (same first second) reason.Revision) (λ _. Ok (Some first))
 
 abbrev pub flag_in : Option Data → Bool
 flag_in value = unwrap_or (option_and_then as_bool value) false
@@ -107,7 +107,7 @@ abbrev pub revision_of : Id → Option Rev → Parts → Checked (Option Rev)
 revision_of id rev parts =
     and_then (check (names_no_other id (text_of parts.id)) reason.Id) (λ _.
     and_then (rev_of (text_of parts.rev)) (λ own.
-    named_twice rev own))
+    named_once same_rev rev own))
 
 -- the edit of the document that the path and the parameters name
 -- CouchDB: PUT /{db}/{docid}

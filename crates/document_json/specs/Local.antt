@@ -9,7 +9,7 @@ use Rattle.json_profile.specs.Objects.{without, has_special}
 use Rattle.model.specs.Command.{Command, Id, PutLocal, last_counter}
 use Rattle.model.specs.Profile.{without_specials}
 use Rattle.document_json.specs.Steps.{Checked, and_then, or_refused, check}
-use Rattle.document_json.specs.Document.{known_document_in, names_no_other, nesting_parts, text_of}
+use Rattle.document_json.specs.Document.{known_document_in, named_once, names_no_other, nesting_parts, text_of}
 use Rattle.document_json.specs.Numbers.{from_one}
 use Rattle.document_json.specs.Revisions.{is_dash}
 use Rattle.document_json.specs.Text.{json_of}
@@ -35,12 +35,6 @@ counter_named text = if bytes_eq (before_first is_dash text) (codes "0") then co
 abbrev pub counter_in : Option (List ℕ) → Checked (Option ℕ)
 counter_in None = Ok None
 counter_in (Some text) = and_then (or_refused (counter_named text) reason.Revision) (λ counter. Ok (Some counter))
-
--- the revision that is named in two places
-abbrev pub counter_twice : Option ℕ → Option ℕ → Checked (Option ℕ)
-counter_twice first None = Ok first
-counter_twice None second = Ok second
-counter_twice (Some first) (Some second) = and_then (check (first == second) reason.Revision) (λ _. Ok (Some first))
 
 -- ---- bodies
 
@@ -79,7 +73,7 @@ abbrev pub counter_over : Id → Option ℕ → Parts → Checked (Option ℕ)
 counter_over id counter parts =
     and_then (check (names_no_other (local_id id) (text_of parts.id)) reason.Id) (λ _.
     and_then (counter_in (text_of parts.rev)) (λ own.
-    counter_twice counter own))
+    named_once (◌==◌) counter own))
 
 -- the write of a body over a revision, where one is named
 -- CouchDB: PUT /{db}/_local/{docid}

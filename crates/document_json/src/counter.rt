@@ -1,7 +1,7 @@
 //! Revisions of local documents, as requests write them.
 ghost use Rattle.std.specs.Prelude.{◌≡◌, IfOk, IfSome, option_map};
 ghost use Rattle.model.specs.Command.{IsCounter};
-ghost use Rattle.document_json.specs.Local.{counter_in, counter_named, counter_of, counter_twice};
+ghost use Rattle.document_json.specs.Local.{counter_in, counter_named, counter_of};
 
 use crate::fault::Reason;
 use crate::number::from_one;
@@ -49,26 +49,4 @@ pub fn name_counter(text: Option<&str>) -> Result<Option<u32>, Reason>
         Some(counter) => Ok(Some(counter)),
         None => Err(Reason::Revision),
     }
-}
-
-/// The one revision that is named in two places.
-pub(crate) fn counter_twice(
-    parameter: Option<u32>,
-    member: Option<u32>,
-) -> Result<Option<u32>, Reason>
-    requires parameter { IfSome parameter IsCounter }
-    requires member { IfSome member IsCounter }
-    ensures decides { result ≡ counter_twice parameter member }
-    ensures is_counter { IfOk result (λ counter. IfSome counter IsCounter) }
-{
-    let Some(member) = member else {
-        return Ok(parameter);
-    };
-    let Some(parameter) = parameter else {
-        return Ok(Some(member));
-    };
-    if parameter != member {
-        return Err(Reason::Revision);
-    }
-    Ok(Some(parameter))
 }

@@ -1,10 +1,11 @@
 //! A document as the body of a request writes it.
 ghost use Rattle.std.specs.Prelude.{◌≡◌, Ok, option_map};
-ghost use Rattle.document_json.specs.Document.{document_in, document_of, edit_of, flag_in, has_shape, is_flag, is_text, known_document_in, named_twice, names_no_other, nesting_parts, parts_in, parts_of, revision_of, text_of, without_ignored};
+ghost use Rattle.document_json.specs.Document.{document_in, document_of, edit_of, flag_in, has_shape, is_flag, is_text, known_document_in, names_no_other, nesting_parts, parts_in, parts_of, revision_of, text_of, without_ignored};
 ghost use Rattle.document_json.specs.Revisions.{rev_of};
 ghost use Rattle.document_json.specs.Steps.{Decides};
 
 use crate::fault::{Fault, Reason};
+use crate::named::named_once;
 use crate::revision::name_revision;
 use crate::text::read_json;
 use commands::Edit;
@@ -143,7 +144,7 @@ impl Parts {
             return Err(Reason::Id);
         }
         let own = self.own_revision()?;
-        named_in_either(parameter, own)
+        named_once(parameter, own)
     }
 
     /// Whether this is a deletion.
@@ -204,22 +205,6 @@ pub(crate) fn as_known_document(parts: Option<Parts>) -> Result<Parts, Reason>
         return Err(Reason::Member);
     }
     Ok(parts)
-}
-
-/// The one revision that is named in two places.
-fn named_in_either(parameter: Option<RevId>, member: Option<RevId>) -> Result<Option<RevId>, Reason>
-    ensures { result ≡ named_twice parameter member }
-{
-    let Some(member) = member else {
-        return Ok(parameter);
-    };
-    let Some(parameter) = parameter else {
-        return Ok(Some(member));
-    };
-    if parameter != member {
-        return Err(Reason::Revision);
-    }
-    Ok(Some(parameter))
 }
 
 /// The document of a body, with no special member that is unknown.

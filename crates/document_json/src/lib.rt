@@ -12,6 +12,7 @@ mod document;
 mod fault;
 mod identity;
 mod local;
+mod named;
 mod number;
 mod path;
 mod revision;

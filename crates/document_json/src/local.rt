@@ -6,9 +6,10 @@ ghost use Rattle.document_json.specs.Document.{names_no_other, nesting_parts, te
 ghost use Rattle.document_json.specs.Local.{counter_in, counter_over, local_document_of, local_edit_of, local_id, local_parts_found, local_parts_of};
 ghost use Rattle.document_json.specs.Steps.{Decides};
 
-use crate::counter::{counter_twice, name_counter};
+use crate::counter::name_counter;
 use crate::document::{Parts, as_known_document};
 use crate::fault::{Fault, Reason};
+use crate::named::named_once;
 use crate::text::read_json;
 use commands::Command;
 use document_id::DocId;
@@ -108,7 +109,7 @@ fn counter_over(
         return Err(Fault::Refused(Reason::Id));
     }
     let own = own_counter(parts)?;
-    Ok(counter_twice(counter, own)?)
+    Ok(named_once(counter, own)?)
 }
 
 /// The write of a local document over a revision, where one is named, as a body writes it.

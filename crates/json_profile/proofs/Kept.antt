@@ -46,6 +46,10 @@ pub nothing : (es : List Entry) → members_view es ≡ no_members → length es
 nothing [] is = refl
 nothing (e ∷ es) is = absurd (cc)
 
+pub emptied : (es : List Entry) → length es ≡ 0 → members_view es ≡ no_members
+emptied [] is = refl
+emptied (e ∷ es) is = absurd (cc)
+
 -- no text is kept where there are no members alone
 pub none_kept : (ms : Members) → [] ≡ kept_text ms → ms ≡ no_members
 none_kept no_members is = refl

@@ -19,8 +19,11 @@ use serde_json::{Map, Value};
 use std::alloc::{AllocError, Global};
 use std::marker::Model;
 
-/// The members of a document: no name begins with `_`, and the object nests at most 64 deep. They
-/// are kept as their compact text, and `{}` as no byte.
+/// The most arrays and objects round one another in a body.
+const MAX_BODY_NESTING: u8 = 64;
+
+/// The members of a document: no name begins with `_`, and the object nests at most
+/// [`MAX_BODY_NESTING`] deep. They are kept as their compact text, and `{}` as no byte.
 #[derive(Drop)]
 pub struct Body {
     text: String,
@@ -64,7 +67,7 @@ impl Body {
         if members.is_empty() {
             return Ok(Body::empty(alloc));
         }
-        if !members_nest_within(&members, 63) {
+        if !members_nest_within(&members, MAX_BODY_NESTING - 1) {
             return Err(JsonFault::Depth);
         }
         let object = Value::Object(members);
@@ -146,6 +149,9 @@ fn end_of_front(alloc: Global, members: Map<String, Value>) -> Result<usize, All
 {
     let mut members = members;
     keep_front(&mut members);
+    if members.is_empty() {
+        return Ok(1);
+    }
     let text = Value::Object(members).to_string(alloc)?;
     Ok(text.as_bytes().len() - 1)
 }

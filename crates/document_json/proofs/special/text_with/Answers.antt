@@ -1,4 +1,4 @@
-use Rattle.std.proofs.Common.{◌≡◌, false, take, drop, length, ◌-◌, string_bytes, ap, ◌∙◌}
+use Rattle.std.proofs.Common.{◌≡◌, false, take, drop, length, ◌-◌, ap, ◌∙◌}
 use Rattle.std.proofs.lemmas.Result.{IfOk-weaker}
 use Rattle.serde_json.specs.Data.{object}
 use Rattle.serde_json.specs.View.{members_view}
