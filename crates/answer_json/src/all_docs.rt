@@ -6,8 +6,9 @@ ghost use Rattle.serde_json.specs.Written.{compact_text};
 ghost use Rattle.answer_json.specs.AllDocs.{all_docs_data, listed_data};
 
 use crate::changes::named_rev_value;
-use crate::list::ListText;
+use crate::list::append_list;
 use document_id::DocId;
+use document_json::value_text;
 use revision_id::RevId;
 use serde_json::{Value, json};
 use std::alloc::{AllocError, Global};
@@ -21,6 +22,13 @@ fn listed_value(alloc: Global, listed: &(DocId, RevId)) -> Result<Value, AllocEr
     json!(in alloc; {"id": id, "key": id, "value": winner})
 }
 
+fn listed_text(alloc: Global, listed: &(DocId, RevId)) -> Result<String, AllocError>
+    ensures { IfOk result (λ text. string_bytes text ≡ compact_text (listed_data listed.now)) }
+{
+    let value = listed_value(alloc, listed)?;
+    value_text(alloc, &value)
+}
+
 /// Writes the list of the documents behind a text.
 fn append_listed(
     alloc: Global,
@@ -30,12 +38,7 @@ fn append_listed(
     ensures { IfOk result (λ longer. string_bytes longer
         ≡ string_bytes text ++ compact_text (array (items_of (map listed_data documents.now)))) }
 {
-    let mut list = ListText::after(text)?;
-    for document in documents {
-        let value = listed_value(alloc, document)?;
-        list.push(alloc, &value)?;
-    }
-    list.finish()
+    append_list(text, documents, |listed| listed_text(alloc, listed))
 }
 
 /// All documents, with how many they are.

@@ -5,7 +5,8 @@ ghost use Rattle.serde_json.specs.View.{items_of, view};
 ghost use Rattle.serde_json.specs.Written.{compact_text, has_float};
 ghost use Rattle.answer_json.specs.Changes.{leaves_data, named_rev_data, page_data, row_data};
 
-use crate::list::ListText;
+use crate::list::append_list;
+use document_json::value_text;
 use queries::{ChangesPage, Row};
 use revision_id::RevId;
 use serde_json::{Value, json};
@@ -41,17 +42,19 @@ fn row_value(alloc: Global, row: &Row) -> Result<Value, AllocError>
     json!(in alloc; {"changes": changes, "id": id, "seq": row.seq})
 }
 
+fn row_text(alloc: Global, row: &Row) -> Result<String, AllocError>
+    ensures { IfOk result (λ text. string_bytes text ≡ compact_text (row_data row.now)) }
+{
+    let value = row_value(alloc, row)?;
+    value_text(alloc, &value)
+}
+
 /// Writes the list of the rows behind a text.
 fn append_rows(alloc: Global, text: String, rows: &[Row]) -> Result<String, AllocError>
     ensures { IfOk result (λ longer. string_bytes longer
         ≡ string_bytes text ++ compact_text (array (items_of (map row_data rows.now)))) }
 {
-    let mut list = ListText::after(text)?;
-    for row in rows {
-        let value = row_value(alloc, row)?;
-        list.push(alloc, &value)?;
-    }
-    list.finish()
+    append_list(text, rows, |row| row_text(alloc, row))
 }
 
 /// The rows, with the number to go on from and how many are left.

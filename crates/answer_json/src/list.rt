@@ -1,5 +1,5 @@
 //! JSON lists, written item by item.
-ghost use Rattle.std.specs.Prelude.{◌≡◌, ◌++◌, ℕ, List, [], ◌∷◌, false, IfOk, OnOk, string_bytes};
+ghost use Rattle.std.specs.Prelude.{◌≡◌, ◌++◌, ℕ, List, [], ◌∷◌, map, false, IfOk, OnOk, string_bytes};
 ghost use Rattle.serde_json.specs.Data.{Data, array};
 ghost use Rattle.serde_json.specs.View.{items_of, view};
 ghost use Rattle.serde_json.specs.Written.{compact_text, has_float};
@@ -63,4 +63,25 @@ impl ListText {
         text.push_str("]")?;
         Ok(text)
     }
+}
+
+/// Writes a list behind a text: of each item the text that stands for it.
+pub(crate) fn append_list<X, F: Fn(&X) -> Result<String, AllocError> + Drop>(
+    text: String,
+    items: &[X],
+    item_text: F,
+) -> Result<String, AllocError>
+    requires callable { F.IsAlwaysCallable item_text }
+    ensures { (of : X → Data)
+        → ((item : _) (told : _) → F.post item_text item told
+        → IfOk told (λ t. string_bytes t ≡ compact_text (of item.now)))
+        → IfOk result (λ longer. string_bytes longer
+        ≡ string_bytes text ++ compact_text (array (items_of (map of items.now)))) }
+{
+    let mut list = ListText::after(text)?;
+    for item in items {
+        let told = item_text(item)?;
+        list.push_text(told.as_str())?;
+    }
+    list.finish()
 }
