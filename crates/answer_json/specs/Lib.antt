@@ -5,7 +5,6 @@ pub mod Replies
 pub mod Opened
 pub mod Counts
 pub mod List
-pub mod Object
 pub mod Refusals
 pub mod Bulk
 pub mod Changes

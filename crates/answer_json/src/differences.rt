@@ -3,12 +3,10 @@ ghost use Rattle.std.specs.Prelude.{◌≡◌, map, IfOk, string_bytes};
 ghost use Rattle.serde_json.specs.Data.{object};
 ghost use Rattle.serde_json.specs.View.{view};
 ghost use Rattle.serde_json.specs.Written.{compact_text};
-ghost use Rattle.answer_json.specs.Differences.{difference_data, differences_data, named_difference};
-ghost use Rattle.answer_json.specs.Object.{members_from};
+ghost use Rattle.answer_json.specs.Differences.{difference_data, differences_data, members_from, named_difference};
 
-use crate::object::ObjectText;
 use document_id::DocId;
-use document_json::revs_value;
+use document_json::{MembersText, revs_value};
 use queries::{Difference, Differences};
 use serde_json::{Value, json};
 use std::alloc::{AllocError, Global};
@@ -30,12 +28,14 @@ fn object_text(alloc: Global, documents: &[(DocId, Difference)]) -> Result<Strin
     ensures { IfOk result (λ text. string_bytes text
         ≡ compact_text (object (members_from (map named_difference documents.now)))) }
 {
-    let mut object = ObjectText::new(alloc)?;
+    let mut members = MembersText::after(String::from_str(alloc, "{")?);
     for (id, difference) in documents {
         let value = difference_value(alloc, difference)?;
-        object.push(alloc, id.as_str(), &value)?;
+        members.push(alloc, id.as_str(), &value)?;
     }
-    object.finish()
+    let mut text = members.finish();
+    text.push_str("}")?;
+    Ok(text)
 }
 
 /// The documents that lack revisions.

@@ -13,7 +13,6 @@ mod differences;
 mod limit;
 mod list;
 mod named_revisions;
-mod object;
 mod opened;
 mod refusal;
 mod reply;

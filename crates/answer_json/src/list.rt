@@ -1,12 +1,11 @@
 //! JSON lists, written item by item.
-ghost use Rattle.std.specs.Prelude.{◌≡◌, ◌++◌, ℕ, List, [], ◌∷◌, map, false, IfOk, OnOk, string_bytes};
+ghost use Rattle.std.specs.Prelude.{◌≡◌, ◌++◌, ℕ, List, [], ◌∷◌, map, IfOk, OnOk, string_bytes};
 ghost use Rattle.serde_json.specs.Data.{Data, array};
-ghost use Rattle.serde_json.specs.View.{items_of, view};
-ghost use Rattle.serde_json.specs.Written.{compact_text, has_float};
+ghost use Rattle.serde_json.specs.View.{items_of};
+ghost use Rattle.serde_json.specs.Written.{compact_text};
 ghost use Rattle.answer_json.specs.List.{IsListAfter};
 
-use document_json::{put_comma, value_text};
-use serde_json::Value;
+use document_json::put_comma;
 use std::alloc::{AllocError, Global};
 
 /// A list whose items stand in the text as soon as they are pushed.
@@ -27,18 +26,6 @@ impl ListText {
             text,
             has_items: false,
         })
-    }
-
-    /// Writes one more item, which has no float.
-    pub(crate) fn push(&mut self, alloc: Global, item: &Value) -> Result<(), AllocError>
-        requires { has_float (view item.now) ≡ false }
-        ensures { OnOk result ((before : List ℕ) (items more : List Data)
-            → IsListAfter before self.old items → more ≡ items ++ view item.now ∷ []
-            → IsListAfter before self.new more) }
-    {
-        let text = value_text(alloc, item)?;
-        self.push_text(text.as_str())?;
-        Ok(())
     }
 
     /// Writes the text of one more item.

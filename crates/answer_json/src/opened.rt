@@ -4,7 +4,7 @@ ghost use Rattle.serde_json.specs.View.{view};
 ghost use Rattle.serde_json.specs.Written.{compact_text, has_float};
 ghost use Rattle.answer_json.specs.Opened.{all_opened_data, found_data, missing_data, opened_data};
 
-use crate::list::ListText;
+use crate::list::append_list;
 use document_json::{document_text, value_text};
 use queries::Document;
 use revision_id::RevId;
@@ -50,10 +50,5 @@ pub fn all_opened_text(
 ) -> Result<String, AllocError>
     ensures { IfOk result (λ text. string_bytes text ≡ compact_text (all_opened_data opened.now)) }
 {
-    let mut list = ListText::after(String::new(alloc))?;
-    for one in opened {
-        let text = opened_text(alloc, one)?;
-        list.push_text(text.as_str())?;
-    }
-    list.finish()
+    append_list(String::new(alloc), opened, |one| opened_text(alloc, one))
 }

@@ -2,6 +2,7 @@ pub mod Checks
 pub mod Floats
 pub mod JsonTexts
 pub mod Listings
+pub mod MemberTexts
 pub mod Members
 pub mod Parts
 pub mod Passes

@@ -10,7 +10,7 @@ use Rattle.std.specs.Cmp.Lexicographic.{slice_cmp}
 use Rattle.std.specs.Ordering.{match_ordering}
 use Rattle.serde_json.specs.Data.{Data, boolean, string, object, Members, no_members, member, put}
 use Rattle.serde_json.specs.Written.{comma_if, compact_text, members_have_float}
-use Rattle.json_profile.specs.Joined.{bare_text, between, front_of, back_of, has_member}
+use Rattle.json_profile.specs.Joined.{bare_text, between, front_of, back_of, has_member, join}
 use Rattle.json_profile.specs.Profiled.{ArePlain}
 use Rattle.json_profile.proofs.Joined.{put-between, between-none, between-text, has_member-length}
 use Rattle.model.specs.Body.{Body, IsBody}
@@ -19,8 +19,7 @@ use Rattle.model.specs.Query.{Document}
 use Rattle.model.specs.declared.status.Status.{Status}
 use Rattle.model.specs.Revision.{Rev, rev_text}
 use Rattle.document_json.specs.Local.{local_id}
-use Rattle.document_json.specs.Written.{before_id, counter_text, document_data, local_data, named_members, rev_data, revs_data, infos_data, revisions_data, with_flag, with_revs, with_revisions, with_infos, tells_more, told_members}
-use Rattle.document_json.proofs.Floats.{no_float-named, no_float-put, no_float-told}
+use Rattle.document_json.specs.Written.{counter_text, document_data, flag_member, front_text, infos_data, infos_member, local_data, named_members, rev_data, revisions_data, revisions_member, revs_data, revs_member, special_members, told_members, with_flag, with_infos, with_revisions, with_revs}
 
 plain_of : (body : Body) → IsBody body → ArePlain body
 plain_of body is = record { whole = is.whole; utf8 = is.utf8; ordered = is.ordered; plain = is.plain }
@@ -65,101 +64,66 @@ named-between id rev deleted body plain =
     ∙ with_flag-between (codes "_deleted") deleted body (put (codes "_rev") (rev_data rev) (put (codes "_id") (string id) no_members)) plain refl
 
 -- what stands beside the body of a document
-abbrev pub special_of : Document → Members
+abbrev special_of : Document → Members
 special_of d = told_members d (named_members d.id d.rev d.deleted no_members)
 
-pub document-between : (d : Document) → IsBody d.body → object (between d.body (special_of d)) ≡ document_data d
+document-between : (d : Document) → IsBody d.body → object (between d.body (special_of d)) ≡ document_data d
 document-between d is =
     let plain = plain_of d.body is in
     let named = named_members d.id d.rev d.deleted no_members in
     ap object (sym (ap (told_members d) (named-between d.id d.rev d.deleted d.body plain) ∙ told-between d d.body named plain))
 
--- where nothing more is asked, only what names the revision
-nothing_told : (revisions : Option (List Rev)) (infos : Option (List (Rev × Status))) (conflicts deleted : List Rev) (ms : Members)
-    → (is_some revisions || (is_some infos || (not (length conflicts == 0) || not (length deleted == 0)))) ≡ false
-    → with_revs (codes "_deleted_conflicts") deleted (with_revs (codes "_conflicts") conflicts (with_infos infos (with_revisions revisions ms))) ≡ ms
-nothing_told (Some revs) infos conflicts deleted ms h = absurd (true≢false h)
-nothing_told None (Some infos) conflicts deleted ms h = absurd (true≢false h)
-nothing_told None None (rev ∷ revs) deleted ms h =
-    absurd (true≢false (sym (ap (λ b. not b || not (length deleted == 0)) (eqb-suc-zero (length revs))) ∙ h))
-nothing_told None None [] (rev ∷ revs) ms h = absurd (true≢false (sym (ap not (eqb-suc-zero (length revs))) ∙ h))
-nothing_told None None [] [] ms h = refl
+-- what comes behind `_id`, put one by one
+behind_id : (id : List ℕ) (rev : Rev) (deleted : Bool) (revisions : Option (List Rev)) (infos : Option (List (Rev × Status)))
+    → with_infos infos (with_revisions revisions (named_members id rev deleted no_members))
+    ≡ join (flag_member deleted) (member (codes "_id") (string id) (member (codes "_rev") (rev_data rev) (join (revisions_member revisions) (infos_member infos))))
+behind_id id rev true (Some revs) (Some infos) = refl
+behind_id id rev true (Some revs) None = refl
+behind_id id rev true None (Some infos) = refl
+behind_id id rev true None None = refl
+behind_id id rev false (Some revs) (Some infos) = refl
+behind_id id rev false (Some revs) None = refl
+behind_id id rev false None (Some infos) = refl
+behind_id id rev false None None = refl
 
-pub document-named : (d : Document) → IsBody d.body → tells_more d ≡ false → object (between d.body (named_members d.id d.rev d.deleted no_members)) ≡ document_data d
-document-named d is h =
-    let named = named_members d.id d.rev d.deleted no_members in
-    ap (λ ms. object (between d.body ms)) (sym (nothing_told d.revisions d.revs_info d.conflicts d.deleted_conflicts named h))
-    ∙ document-between d is
+-- and what comes before it
+before_id : (deleted : Bool) (conflicts deleted_conflicts : List Rev) (id : Data) (ms : Members)
+    → with_revs (codes "_deleted_conflicts") deleted_conflicts (with_revs (codes "_conflicts") conflicts (join (flag_member deleted) (member (codes "_id") id ms)))
+    ≡ join (revs_member (codes "_conflicts") conflicts) (join (flag_member deleted) (join (revs_member (codes "_deleted_conflicts") deleted_conflicts) (member (codes "_id") id ms)))
+before_id true (r ∷ rs) (q ∷ qs) id ms = refl
+before_id true (r ∷ rs) [] id ms = refl
+before_id true [] (q ∷ qs) id ms = refl
+before_id true [] [] id ms = refl
+before_id false (r ∷ rs) (q ∷ qs) id ms = refl
+before_id false (r ∷ rs) [] id ms = refl
+before_id false [] (q ∷ qs) id ms = refl
+before_id false [] [] id ms = refl
 
--- the text of that
-named_parts : (b q r v : List ℕ) → ((b ++ q) ++ r) ++ v ≡ b ++ (q ++ (r ++ (v ++ [])))
-named_parts b q r v =
-    append_assoc (b ++ q) r v ∙ append_assoc b q (r ++ v) ∙ ap (λ t. b ++ (q ++ (r ++ t))) (sym (append-nil v))
+special-ordered : (d : Document) → special_of d ≡ special_members d
+special-ordered d =
+    ap (λ ms. with_revs (codes "_deleted_conflicts") d.deleted_conflicts (with_revs (codes "_conflicts") d.conflicts ms)) (behind_id d.id d.rev d.deleted d.revisions d.revs_info)
+    ∙ before_id d.deleted d.conflicts d.deleted_conflicts (string d.id) (member (codes "_rev") (rev_data d.rev) (join (revisions_member d.revisions) (infos_member d.revs_info)))
 
-pub named-text : (id : List ℕ) (rev : Rev) (deleted : Bool)
-    → ((before_id deleted ++ quoted id) ++ codes ",\"_rev\":") ++ quoted (rev_text rev) ≡ bare_text false (named_members id rev deleted no_members)
-unfolding serde_json_on_literals
-named-text id rev true = named_parts (before_id true) (quoted id) (codes ",\"_rev\":") (quoted (rev_text rev))
-named-text id rev false = named_parts (before_id false) (quoted id) (codes ",\"_rev\":") (quoted (rev_text rev))
+pub document-special : (d : Document) → IsBody d.body → object (between d.body (special_members d)) ≡ document_data d
+document-special d is = ap (λ ms. object (between d.body ms)) (sym (special-ordered d)) ∙ document-between d is
 
--- and of a local one
+pub has_member-special : (d : Document) → has_member (special_members d) ≡ true
+has_member-special d = some d.deleted d.conflicts d.deleted_conflicts
+  where
+    some : (deleted : Bool) (conflicts deleted_conflicts : List Rev)
+        → has_member (join (revs_member (codes "_conflicts") conflicts) (join (flag_member deleted) (join (revs_member (codes "_deleted_conflicts") deleted_conflicts)
+        (member (codes "_id") (string d.id) (member (codes "_rev") (rev_data d.rev) (join (revisions_member d.revisions) (infos_member d.revs_info))))))) ≡ true
+    some deleted (r ∷ rs) qs = refl
+    some true [] qs = refl
+    some false [] (q ∷ qs) = refl
+    some false [] [] = refl
+
+-- what stands beside the body of a local one
 abbrev pub local_special : List ℕ → ℕ → Members
-local_special id counter = put (codes "_rev") (string (counter_text counter)) (put (codes "_id") (string (local_id id)) no_members)
+local_special id counter = member (codes "_id") (string (local_id id)) (member (codes "_rev") (string (counter_text counter)) no_members)
 
 pub local-between : (id : List ℕ) (counter : ℕ) (body : Members) → IsBody body → object (between body (local_special id counter)) ≡ local_data id (counter, body)
 local-between id counter body is = ap object (sym (two-between (codes "_id") (codes "_rev") (string (local_id id)) (string (counter_text counter)) body (plain_of body is) refl refl))
-
--- ---- there are some, and none has a float
-
-pub has_member-put : (k : List ℕ) (d : Data) (ms : Members) → has_member (put k d ms) ≡ true
-has_member-put k d no_members = refl
-has_member-put k d (member l e ms) = at (slice_cmp nat_cmp k l)
-  where
-    at : (o : Ordering) → has_member (match_ordering o (member k d (member l e ms)) (member l d ms) (member l e (put k d ms))) ≡ true
-    at Less = refl
-    at Equal = refl
-    at Greater = refl
-
-has_member-flag : (n : List ℕ) (flag : Bool) (ms : Members) → has_member ms ≡ true → has_member (with_flag n flag ms) ≡ true
-has_member-flag n true ms some = has_member-put n (boolean true) ms
-has_member-flag n false ms some = some
-
-has_member-revs : (n : List ℕ) (revs : List Rev) (ms : Members) → has_member ms ≡ true → has_member (with_revs n revs ms) ≡ true
-has_member-revs n [] ms some = some
-has_member-revs n (rev ∷ revs) ms some = has_member-put n (revs_data (rev ∷ revs)) ms
-
-has_member-revisions : (revs : Option (List Rev)) (ms : Members) → has_member ms ≡ true → has_member (with_revisions revs ms) ≡ true
-has_member-revisions None ms some = some
-has_member-revisions (Some revs) ms some = has_member-put (codes "_revisions") (revisions_data revs) ms
-
-has_member-infos : (infos : Option (List (Rev × Status))) (ms : Members) → has_member ms ≡ true → has_member (with_infos infos ms) ≡ true
-has_member-infos None ms some = some
-has_member-infos (Some infos) ms some = has_member-put (codes "_revs_info") (infos_data infos) ms
-
-pub has_member-named : (id : List ℕ) (rev : Rev) (deleted : Bool) → has_member (named_members id rev deleted no_members) ≡ true
-has_member-named id rev deleted =
-    let revised = put (codes "_rev") (rev_data rev) (put (codes "_id") (string id) no_members) in
-    has_member-flag (codes "_deleted") deleted revised (has_member-put (codes "_rev") (rev_data rev) (put (codes "_id") (string id) no_members))
-
-pub has_member-special : (d : Document) → has_member (special_of d) ≡ true
-has_member-special d =
-    let revised = put (codes "_rev") (rev_data d.rev) (put (codes "_id") (string d.id) no_members) in
-    let named = with_flag (codes "_deleted") d.deleted revised in
-    let revisions = with_revisions d.revisions named in
-    let infos = with_infos d.revs_info revisions in
-    let conflicts = with_revs (codes "_conflicts") d.conflicts infos in
-    let first : has_member named ≡ true = has_member-flag (codes "_deleted") d.deleted revised (has_member-put (codes "_rev") (rev_data d.rev) (put (codes "_id") (string d.id) no_members)) in
-    let second : has_member revisions ≡ true = has_member-revisions d.revisions named first in
-    let third : has_member infos ≡ true = has_member-infos d.revs_info revisions second in
-    let fourth : has_member conflicts ≡ true = has_member-revs (codes "_conflicts") d.conflicts infos third in
-    has_member-revs (codes "_deleted_conflicts") d.deleted_conflicts conflicts fourth
-
-pub no_float-special : (d : Document) → members_have_float (special_of d) ≡ false
-no_float-special d = no_float-told d (named_members d.id d.rev d.deleted no_members) (no_float-named d.id d.rev d.deleted no_members refl)
-
-pub no_float-local : (id : List ℕ) (counter : ℕ) → members_have_float (local_special id counter) ≡ false
-no_float-local id counter =
-    no_float-put (codes "_rev") (string (counter_text counter)) (put (codes "_id") (string (local_id id)) no_members) refl (no_float-put (codes "_id") (string (local_id id)) no_members refl refl)
 
 -- ---- the text in its parts
 

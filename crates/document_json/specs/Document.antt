@@ -84,7 +84,7 @@ text_of value = option_and_then as_str value
 abbrev pub names_no_other : Id → Option (List ℕ) → Bool
 names_no_other id text = option_map_or (bytes_eq id) text true
 
--- the revision that is named in two places
+-- what is named in two places, where both name the same
 abbrev pub named_once : {A : Type 0} → (A → A → Bool) → Option A → Option A → Checked (Option A)
 named_once same first None = Ok first
 named_once same None second = Ok second

@@ -9,4 +9,5 @@ pub mod Document
 pub mod Path
 pub mod Bulk
 pub mod Local
+pub mod MembersText
 pub mod Written

@@ -1,8 +1,10 @@
 -- Documents and revisions, as they are written.
-use Rattle.std.specs.Prelude.{ℕ, Bool, true, List, [], ◌∷◌, ◌++◌, map, Option, Some, None, codes, decimal, length, is_some, not, ◌||◌, ◌==◌, if◌then◌else◌}
+use Rattle.std.specs.Prelude.{ℕ, Bool, true, false, List, [], ◌∷◌, ◌++◌, map, Option, Some, None, codes, decimal, length, not, ◌==◌, if◌then◌else◌}
 use Rattle.hex.specs.Hex.{encode_lower}
 use Rattle.serde_json.specs.Data.{Data, unsigned, number, string, boolean, array, object, Members, no_members, member, put}
 use Rattle.serde_json.specs.View.{items_of}
+use Rattle.serde_json.specs.Written.{comma_if}
+use Rattle.json_profile.specs.Joined.{bare_text, front_of, join}
 use Rattle.model.specs.Body.{Body}
 use Rattle.model.specs.Command.{Id}
 use Rattle.model.specs.Query.{Document}
@@ -70,10 +72,6 @@ with_infos (Some infos) members = put (codes "_revs_info") (infos_data infos) me
 abbrev pub named_members : Id → Rev → Bool → Members → Members
 named_members id rev deleted body = with_flag (codes "_deleted") deleted (put (codes "_rev") (rev_data rev) (put (codes "_id") (string id) body))
 
--- what of that stands before the id in a text
-abbrev pub before_id : Bool → List ℕ
-before_id deleted = if deleted then codes "\"_deleted\":true,\"_id\":" else codes "\"_id\":"
-
 -- what was asked beside the body
 -- CouchDB: GET /{db}/{docid}, "_revisions", "_revs_info", "_conflicts", "_deleted_conflicts"
 abbrev pub told_members : Document → Members → Members
@@ -81,14 +79,39 @@ told_members d members =
     with_revs (codes "_deleted_conflicts") d.deleted_conflicts (with_revs (codes "_conflicts") d.conflicts
     (with_infos d.revs_info (with_revisions d.revisions members)))
 
--- something is
-abbrev pub tells_more : Document → Bool
-tells_more d =
-    is_some d.revisions || (is_some d.revs_info || (not (length d.conflicts == 0) || not (length d.deleted_conflicts == 0)))
-
 -- CouchDB: GET /{db}/{docid}
 abbrev pub document_data : Document → Data
 document_data d = object (told_members d (named_members d.id d.rev d.deleted d.body))
+
+-- ---- the special members alone, as they are written
+
+abbrev pub flag_member : Bool → Members
+flag_member deleted = if deleted then member (codes "_deleted") (boolean true) no_members else no_members
+
+abbrev pub revs_member : List ℕ → List Rev → Members
+revs_member name [] = no_members
+revs_member name (rev ∷ revs) = member name (revs_data (rev ∷ revs)) no_members
+
+abbrev pub revisions_member : Option (List Rev) → Members
+revisions_member None = no_members
+revisions_member (Some revs) = member (codes "_revisions") (revisions_data revs) no_members
+
+abbrev pub infos_member : Option (List (Rev × Status)) → Members
+infos_member None = no_members
+infos_member (Some infos) = member (codes "_revs_info") (infos_data infos) no_members
+
+-- in the order of their names
+abbrev pub special_members : Document → Members
+special_members d =
+    join (revs_member (codes "_conflicts") d.conflicts) (join (flag_member d.deleted) (join (revs_member (codes "_deleted_conflicts") d.deleted_conflicts)
+    (member (codes "_id") (string d.id) (member (codes "_rev") (rev_data d.rev)
+    (join (revisions_member d.revisions) (infos_member d.revs_info))))))
+
+-- a body's text up to where they go
+abbrev pub front_text : Members → List ℕ
+front_text body =
+    let front : List ℕ = bare_text false (front_of body) in
+    (123 ∷ front) ++ comma_if (not (length front == 0))
 
 -- ---- a local document
 

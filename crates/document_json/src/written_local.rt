@@ -1,17 +1,16 @@
 //! Local documents, as they are written.
-ghost use Rattle.std.specs.Prelude.{◌≡◌, codes, IfOk, OnOk, string_bytes};
-ghost use Rattle.serde_json.specs.Data.{no_members, string, put as with_member};
-ghost use Rattle.serde_json.specs.View.{members_view};
+ghost use Rattle.std.specs.Prelude.{◌≡◌, IfOk, string_bytes};
 ghost use Rattle.serde_json.specs.Written.{compact_text};
-ghost use Rattle.document_json.specs.Local.{local_id};
 ghost use Rattle.document_json.specs.Written.{counter_text, local_data};
 
 use crate::local::local_id_text;
-use crate::special::text_with;
+use crate::special::{text_around, text_before};
 use document_id::DocId;
 use json_profile::Body;
-use serde_json::{Map, Value, put};
 use std::alloc::{AllocError, Global};
+
+/// Room for the names of `_id` and `_rev`, the marks of JSON, `_local/` and a revision.
+const SPECIAL_ROOM: usize = 40;
 
 /// The revision of a local document, `0-k`.
 ///
@@ -24,44 +23,11 @@ pub fn counter_text(alloc: Global, counter: u32) -> Result<String, AllocError>
     format!(in alloc; "0-{counter}")
 }
 
-/// Puts `_local/ID`.
-fn put_local_id(
-    members: &mut Map<String, Value>,
-    alloc: Global,
-    id: &DocId,
-) -> Result<(), AllocError>
-    ensures { OnOk result (members_view members.new.entries
-        ≡ with_member (codes "_id") (string (local_id id.now)) (members_view members.old.entries)) }
-{
-    let text = local_id_text(alloc, id)?;
-    put(members, alloc, "_id", Value::String(text))
-}
-
-/// Puts `0-k`.
-fn put_counter(
-    members: &mut Map<String, Value>,
-    alloc: Global,
-    counter: u32,
-) -> Result<(), AllocError>
-    ensures { OnOk result (members_view members.new.entries
-        ≡ with_member (codes "_rev") (string (counter_text counter)) (members_view members.old.entries)) }
-{
-    let text = counter_text(alloc, counter)?;
-    put(members, alloc, "_rev", Value::String(text))
-}
-
-/// The special members of a local document.
-fn local_members(alloc: Global, id: &DocId, counter: u32) -> Result<Map<String, Value>, AllocError>
-    ensures { IfOk result (λ members. members_view members.entries
-        ≡ with_member (codes "_rev") (string (counter_text counter)) (with_member (codes "_id") (string (local_id id.now)) no_members)) }
-{
-    let mut members = Map::new(alloc);
-    put_local_id(&mut members, alloc, id)?;
-    put_counter(&mut members, alloc, counter)?;
-    Ok(members)
-}
-
 /// The text of a local document.
+///
+/// # Errors
+///
+/// Memory may be refused.
 pub fn local_text(
     alloc: Global,
     id: &DocId,
@@ -71,7 +37,10 @@ pub fn local_text(
     ensures { IfOk result (λ text. string_bytes text
         ≡ compact_text (local_data id.now (counter, body.now))) }
 {
-    let special = local_members(alloc, id, counter)?;
-    let text = text_with(alloc, body, special)?;
-    Ok(text)
+    let id = local_id_text(alloc, id)?;
+    let rev = counter_text(alloc, counter)?;
+    let mut special = text_before(alloc, body, id.len().saturating_add(SPECIAL_ROOM))?;
+    special.push_string(alloc, "_id", id.as_str())?;
+    special.push_string(alloc, "_rev", rev.as_str())?;
+    text_around(special, body)
 }

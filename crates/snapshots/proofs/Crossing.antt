@@ -6,6 +6,7 @@ use Rattle.document_id.proofs.Crossing as ids
 use Rattle.local_docs.proofs.Crossing as locals
 use Rattle.purge.proofs.Crossing as purges
 use Rattle.revision_tree.proofs.Crossing as trees
+use Rattle.shared_list.proofs.Crossing as lists
 use Rattle.snapshots.specs.contracts.base.Base as Base
 use Rattle.snapshots.specs.contracts.database.Database as Database
 use Rattle.snapshots.specs.contracts.record.Record as Record
@@ -40,10 +41,10 @@ base-sync : IsSync Base.the_row
 base-sync = search (database-send, database-sync, std.crosses, sendable) depth 60
 
 pub version-send : IsSend Version.the_row
-version-send = search (base-send, database-send, commands.crosses, maps.crosses, std.crosses, sendable) depth 60
+version-send = search (base-send, database-send, commands.crosses, lists.crosses, std.crosses, sendable) depth 60
 
 pub version-sync : IsSync Version.the_row
-version-sync = search (base-sync, database-sync, commands.crosses, maps.crosses, std.crosses, sendable) depth 60
+version-sync = search (base-sync, database-sync, commands.crosses, lists.crosses, std.crosses, sendable) depth 60
 
 -- for a search: what crosses, with Rust's own types
 pub ruleset crosses = (version-send, version-sync, std.crosses, sendable)

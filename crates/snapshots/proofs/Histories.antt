@@ -14,9 +14,8 @@ use Rattle.model.proofs.HistoryLaws.{replay-push, IsLegal-push, IsNext-entry_of}
 use Rattle.model.proofs.RestLaws.{rest_of_edits, rest_of_merges}
 use Rattle.model.proofs.KeptLaws.{IsDatabase-act}
 use Rattle.model.proofs.ReplyLaws.{FitsReply-reply_to}
-use Rattle.snapshots.specs.Version.{IsHistory, IsVersion, chronicle_of, entries_of, placed_from}
+use Rattle.snapshots.specs.Version.{IsHistory, IsVersion, chronicle_of}
 use Rattle.snapshots.proofs.Bulks.{few-after_edits, few-after_merges}
-use Rattle.snapshots.proofs.Places.{entries_of-placed_from}
 
 few-leave : (d : Database) (id : Id) (o : Option Tree) → (leave d id o).update_seq ≤ d.update_seq + 1
 few-leave d id (Some t) = omega arith
@@ -102,21 +101,15 @@ module _ (h : Chronicle) (seat : Seat) (c : Command) (is : IsHistory h) (is_seat
     purges = omega (arith, length-append h.entries (entry ∷ []), ap (λ (d : Database). d.purges.purge_seq) acts, logged-act (now h) seat c is_command, is.purges);
   }
 
-  module _ (placed : List (ℕ × Entry)) (is_placed : placed ≡ placed_from 1 longer.entries) where
-    same : entries_of placed ≡ longer.entries
-    same = ap entries_of is_placed ∙ entries_of-placed_from 1 longer.entries
+  module _ (base : Database) (entries : List Entry) (of_base : base ≡ h.base) (pushed : entries ≡ longer.entries) where
+    pub view-pushed : chronicle_of base entries ≡ longer
+    view-pushed i = record { base = of_base i; entries = pushed i }
 
-    pub view-pushed : (base : Database) → base ≡ h.base → chronicle_of base placed ≡ longer
-    view-pushed base of_base i = record { base = of_base i; entries = same i }
-
-    pub IsVersion-pushed : (base database : Database) → base ≡ h.base → database ≡ act (now h) seat c → IsVersion base database placed
-    IsVersion-pushed base database of_base acted =
-        let view = view-pushed base of_base in
-        record {
-          places = is_placed ∙ ap (placed_from 1) (sym same);
-          history = subst IsHistory (sym view) IsHistory-pushed;
-          replayed = acted ∙ sym acts ∙ ap now (sym view);
-        }
+    pub IsVersion-pushed : (database : Database) → database ≡ act (now h) seat c → IsVersion base database entries
+    IsVersion-pushed database acted = record {
+      history = subst IsHistory (sym view-pushed) IsHistory-pushed;
+      replayed = acted ∙ sym acts ∙ ap now (sym view-pushed);
+    }
 
 -- the entry of a compaction
 pub compact_entry-is : (d : Database) (seat : Seat) (copy : Command) (r : Reply) → copy ≡ Compact → r ≡ Done → ◌≡◌ {A = Entry} (record { seat = seat; command = copy; reply = r }) (entry_of d seat Compact)

@@ -6,7 +6,6 @@ pub mod Taken
 pub mod Indexed
 pub mod Bulks
 pub mod Calls
-pub mod Places
 pub mod Histories
 pub mod Purges
 pub mod Shown

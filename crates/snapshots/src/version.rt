@@ -1,17 +1,17 @@
 //! A version of the database.
-ghost use Rattle.std.specs.Prelude.{◌≡◌, ◌≤◌, ◌<◌, ◌+◌, ◌∷◌, ◌++◌, [], Some, None, length, IfOk, option_copied, if◌then◌else◌};
+ghost use Rattle.std.specs.Prelude.{◌≡◌, ◌≤◌, ◌<◌, ◌+◌, ◌∷◌, [], Some, None, length, IfOk, option_copied, if◌then◌else◌};
 ghost use Rattle.model.specs.PurgeLog.{is_overrun};
 ghost use Rattle.model.specs.Compaction.{touched};
 ghost use Rattle.model.specs.Command.{Compact};
 ghost use Rattle.model.specs.Database.{empty_database, calls_of, compacted};
 ghost use Rattle.model.specs.History.{now, extended, entry_of};
-ghost use Rattle.snapshots.specs.Version.{IsHistory, entry_at, placed_from};
+ghost use Rattle.snapshots.specs.Version.{IsHistory, entry_at};
 
 use crate::base::Base;
 use crate::database::Database;
 use crate::records::Records;
 use commands::{Command, Copied, Entry, Reply, ReplyKind, Seat};
-use cow_index::CowMap;
+use shared_list::SharedList;
 use std::alloc::{AllocError, Global};
 use std::marker::Model;
 
@@ -25,8 +25,7 @@ pub struct Version {
     alloc: Global,
     base: Base,
     database: Database,
-    /// By place, from 1.
-    history: CowMap<u64, Entry>,
+    history: SharedList<Entry>,
 }
 
 impl Model for Version {
@@ -39,9 +38,9 @@ impl Model for Version {
 
     ghost coded = { Prim.hlevel (codes, coded_members) };
 
-    ghost view = { λ v. chronicle_of v.base v.history.entries };
+    ghost view = { λ v. chronicle_of v.base v.history.values };
 
-    ghost invariant = { λ v. IsVersion v.base v.database v.history.entries };
+    ghost invariant = { λ v. IsVersion v.base v.database v.history.values };
 }
 
 impl Version {
@@ -53,7 +52,7 @@ impl Version {
             alloc,
             base: Base::empty(),
             database: Database::new(alloc),
-            history: CowMap::new(alloc),
+            history: SharedList::new(alloc),
         }
     }
 
@@ -85,7 +84,7 @@ impl Version {
         let mut database = self.database.share()?;
         let reply = database.act(seat, command)?;
         let command = command.copy(self.alloc)?;
-        let history = self.pushed(Entry {
+        let history = self.history.push(Entry {
             seat,
             command,
             reply,
@@ -107,7 +106,7 @@ impl Version {
     {
         let mut database = self.database.share()?;
         database.compact_with(seat, records)?;
-        let history = self.pushed(Entry {
+        let history = self.history.push(Entry {
             seat,
             command: Command::compact(),
             reply: Reply::new(ReplyKind::Done),
@@ -135,15 +134,6 @@ impl Version {
         Some(purges + updates)
     }
 
-    /// The history with one more entry, at the next place.
-    fn pushed(&self, entry: Entry) -> Result<CowMap<u64, Entry>, AllocError>
-        ensures { IfOk result (λ m. m.entries ≡ placed_from 1 (self.now.entries ++ entry ∷ [])) }
-    {
-        let place = self.place() + 1;
-        let history = self.history.insert(place, entry)?;
-        Ok(history)
-    }
-
     /// The number of entries, which is the place of the last.
     pub fn place(&self) -> u64
         ensures place { result ≡ length self.now.entries }
@@ -156,7 +146,7 @@ impl Version {
     pub fn entry(&self, place: u64) -> Option<&Entry>
         ensures { option_copied result ≡ entry_at self.now.entries place }
     {
-        self.history.get(&place)
+        self.history.get(place.checked_sub(1)?)
     }
 
     /// The number that the session's next command takes.

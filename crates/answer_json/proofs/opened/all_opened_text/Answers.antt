@@ -1,12 +1,11 @@
-use Rattle.std.proofs.Common.{[], ◌∷◌, ◌++◌, map, take, ap, sym, ◌∙◌, arith}
-use Rattle.std.proofs.lemmas.List.{map_more}
-use Rattle.answer_json.specs.Opened.{opened_data}
+use Rattle.std.proofs.Common.{rules, ◌++◌, map, ap, ◌∙◌}
+use Rattle.std.proofs.lemmas.Result.{IfOk-weaker}
+use Rattle.serde_json.specs.Written.{compact_text}
+use Rattle.answer_json.specs.Opened.{all_opened_data, opened_data}
 use Rattle.answer_json.proofs.opened.all_opened_text.Goals as goal
 
-pub loop-one-preserved : goal.loop-one-preserved
-loop-one-preserved c =
-    let opened = c.args.opened.now in
-    let written = c.as_str.ensures.value ∙ c.in_ok-text.ensures in
-    let more = map_more opened_data opened c.loop-one.one-index c.one-item.result (omega arith)
-    ∙ ap (λ o. map opened_data (take c.loop-one.one-index opened) ++ opened_data o ∷ []) (sym c.one-item.is) in
-    c.in_ok-push_text.ensures _ _ _ (opened_data c.one-item.result) c.loop-one.invariant written more
+pub returns : goal.returns
+returns c =
+    IfOk-weaker c.append_list.result _ _
+    (λ text told. told ∙ ap (λ before. before ++ compact_text (all_opened_data c.args.opened.now)) c.new.ensures.bytes)
+    (c.append_list.ensures opened_data (λ item told h. search rules))

@@ -1,23 +1,26 @@
-use Rattle.std.proofs.Common.{ap, ◌∙◌}
+use Rattle.std.proofs.Common.{◌≡◌, List, ℕ, refl, ap, subst, ◌∙◌}
 use Rattle.std.specs.Prelude.{codes}
-use Rattle.serde_json.specs.Data.{object, string, put, no_members}
-use Rattle.serde_json.specs.Written.{compact_text, members_have_float}
-use Rattle.json_profile.specs.Joined.{between, has_member}
-use Rattle.document_json.specs.Local.{local_id}
-use Rattle.document_json.specs.Written.{counter_text}
-use Rattle.document_json.proofs.Specials.{has_member-put, local-between, no_float-local}
+use Rattle.std.proofs.lemmas.Result.{IfOk-weaker}
+use Rattle.serde_json.specs.Data.{Members, object, member, no_members, string}
+use Rattle.serde_json.specs.Written.{compact_text}
+use Rattle.document_json.specs.MembersText.{IsMembersAfter}
+use Rattle.document_json.specs.Written.{front_text}
+use Rattle.document_json.proofs.Specials.{local-between, local_special}
 use Rattle.document_json.proofs.written_local.local_text.Goals as goal
 
-pub text_with-requires-clause-some : goal.text_with-requires-clause-some
-text_with-requires-clause-some c =
-    ap has_member c.in_ok-special.ensures
-    ∙ has_member-put (codes "_rev") (string (counter_text c.args.counter)) (put (codes "_id") (string (local_id c.args.id.now)) no_members)
-
-pub text_with-requires-clause-plain : goal.text_with-requires-clause-plain
-text_with-requires-clause-plain c = ap members_have_float c.in_ok-special.ensures ∙ no_float-local c.args.id.now c.args.counter
+abbrev named : List ℕ → List ℕ → Members
+named id rev = member (codes "_id") (string id) (member (codes "_rev") (string rev) no_members)
 
 pub returns : goal.returns
 returns c =
-    c.in_ok-text.ensures.text
-    ∙ ap (λ ms. compact_text (object (between c.args.body.now ms))) c.in_ok-special.ensures
-    ∙ ap compact_text (local-between c.args.id.now c.args.counter c.args.body.now c.in_ok-text.ensures.body)
+    let front = front_text c.args.body.now in
+    let id = c.as_str.result.now in
+    let first = c.in_ok-push_string.ensures front no_members c.in_ok-special.ensures.special in
+    let second = c.in_ok-push_string-2.ensures front (member (codes "_id") (string id) no_members) first in
+    let same : named id c.as_str-2.result.now ≡ local_special c.args.id.now c.args.counter =
+    λ i. named ((c.as_str.ensures.value ∙ c.in_ok-id.ensures) i) ((c.as_str-2.ensures.value ∙ c.in_ok-rev.ensures) i) in
+    let written = subst (λ members. IsMembersAfter front c.push_string-2.new.self members) same second in
+    IfOk-weaker c.text_around.result _ _
+    (λ text told. told (local_special c.args.id.now c.args.counter) refl written
+    ∙ ap compact_text (local-between c.args.id.now c.args.counter c.args.body.now c.in_ok-special.ensures.body))
+    c.text_around.ensures

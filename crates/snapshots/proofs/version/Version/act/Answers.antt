@@ -3,7 +3,7 @@ use Rattle.std.proofs.Common.{ap, sym, subst, ◌∙◌, arith}
 use Rattle.model.specs.Command.{Entry}
 use Rattle.model.specs.Database.{Database, act, reply_to, calls_of}
 use Rattle.model.specs.History.{Chronicle, now}
-use Rattle.snapshots.specs.Version.{IsHistory, placed_from}
+use Rattle.snapshots.specs.Version.{IsHistory}
 use Rattle.snapshots.proofs.Histories.{IsVersion-pushed, view-pushed, entry_of-is}
 use Rattle.snapshots.proofs.version.Version.act.Goals as goal
 
@@ -24,10 +24,10 @@ invariant_of-result c =
     let history : IsHistory h = subst IsHistory c.self.view_is c.self.invariant.history in
     let entry = entry_of-is (now h) c.args.seat c.args.command.now c.in_ok-command.command c.in_ok-reply.reply c.in_ok-command.ensures.same (c.in_ok-reply.ensures.reply ∙ ap (λ (d : Database). reply_to d c.args.command.now) database) in
     IsVersion-pushed h c.args.seat c.args.command.now history c.in_ok-reply.ensures.limits.0 c.in_ok-reply.ensures.limits.1 c.requires.next c.requires.room
-    c.in_ok-history.history.entries (c.in_ok-history.ensures ∙ ap (λ (e : Entry). placed_from 1 (h.entries ++ e ∷ [])) entry)
-    c.in_ok-share.field-0 c.act.new.self
+    c.in_ok-share.field-0 c.in_ok-history.history.values
     (c.in_ok-share.ensures ∙ ap (λ (k : Chronicle). k.base) c.self.view_is)
-    (c.in_ok-reply.ensures.after ∙ ap (λ (d : Database). act d c.args.seat c.args.command.now) database)
+    (c.in_ok-history.ensures.values ∙ (λ i. (c.self.view_is i).entries ++ entry i ∷ []))
+    c.act.new.self (c.in_ok-reply.ensures.after ∙ ap (λ (d : Database). act d c.args.seat c.args.command.now) database)
 
 pub returns : goal.returns
 returns c =
@@ -37,6 +37,5 @@ returns c =
     let entry = entry_of-is (now h) c.args.seat c.args.command.now c.in_ok-command.command c.in_ok-reply.reply c.in_ok-command.ensures.same (c.in_ok-reply.ensures.reply ∙ ap (λ (d : Database). reply_to d c.args.command.now) database) in
     record {
       pushed = view-pushed h c.args.seat c.args.command.now history c.in_ok-reply.ensures.limits.0 c.in_ok-reply.ensures.limits.1 c.requires.next c.requires.room
-          c.in_ok-history.history.entries (c.in_ok-history.ensures ∙ ap (λ (e : Entry). placed_from 1 (h.entries ++ e ∷ [])) entry)
-          c.in_ok-share.field-0 (c.in_ok-share.ensures ∙ ap (λ (k : Chronicle). k.base) c.self.view_is);
+          c.in_ok-share.field-0 c.in_ok-history.history.values (c.in_ok-share.ensures ∙ ap (λ (k : Chronicle). k.base) c.self.view_is) (c.in_ok-history.ensures.values ∙ (λ i. (c.self.view_is i).entries ++ entry i ∷ []));
     }

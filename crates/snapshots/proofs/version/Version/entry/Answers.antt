@@ -1,10 +1,16 @@
-use Rattle.std.specs.Ordering.{nat_cmp}
-use Rattle.std.specs.FinMap.Entries.{find}
-use Rattle.std.proofs.Common.{ap, ◌∙◌}
+use Rattle.std.proofs.Common.{◌≡◌, ◌≤◌, ◌-◌, ℕ, zero, suc, List, slice_get, refl, ap, ◌∙◌, arith}
+use Rattle.model.specs.Command.{Entry}
 use Rattle.model.specs.History.{Chronicle}
-use Rattle.snapshots.specs.Version.{entries_of, entry_at}
-use Rattle.snapshots.proofs.Places.{find-placed_from}
+use Rattle.snapshots.specs.Version.{entry_at}
 use Rattle.snapshots.proofs.version.Version.entry.Goals as goal
 
+before : (entries : List Entry) (place n : ℕ) → 1 ≤ place → n ≡ place - 1 → slice_get entries n ≡ entry_at entries place
+before entries zero n some is = absurd (omega arith)
+before entries (suc k) n some is = let same : n ≡ k = omega (arith, is) in ap (slice_get entries) same
+
 pub returns : goal.returns
-returns c = c.get.ensures ∙ ap (find nat_cmp c.args.place) c.self.invariant.places ∙ find-placed_from c.args.place (entries_of c.self.inside.history.entries) ∙ ap (λ (h : Chronicle). entry_at h.entries c.args.place) c.self.view_is
+returns c =
+    let place = c.in_ok-checked_sub.ensures in
+    c.get.ensures
+    ∙ before c.self.inside.history.values c.args.place c.in_ok-checked_sub.field-0 place.0 place.1
+    ∙ ap (λ (h : Chronicle). entry_at h.entries c.args.place) c.self.view_is

@@ -3,7 +3,7 @@ use Rattle.std.proofs.Common.{ap, subst, ◌∙◌}
 use Rattle.model.specs.Command.{Entry, Compact}
 use Rattle.model.specs.Database.{Database, act}
 use Rattle.model.specs.History.{Chronicle, now}
-use Rattle.snapshots.specs.Version.{IsHistory, placed_from}
+use Rattle.snapshots.specs.Version.{IsHistory}
 use Rattle.snapshots.proofs.Histories.{IsVersion-pushed, view-pushed, compact_entry-is}
 use Rattle.snapshots.proofs.version.Version.with_records.Goals as goal
 
@@ -14,10 +14,10 @@ invariant_of-result c =
     let history : IsHistory h = subst IsHistory c.self.view_is c.self.invariant.history in
     let entry = compact_entry-is (now h) c.args.seat c.compact.result c.new.result c.compact.ensures c.new.ensures.reply in
     IsVersion-pushed h c.args.seat Compact history c.in_ok-compact_with.ensures.limits tt c.requires.next c.requires.room
-    c.in_ok-history.history.entries (c.in_ok-history.ensures ∙ ap (λ (e : Entry). placed_from 1 (h.entries ++ e ∷ [])) entry)
-    c.in_ok-share.field-0 c.compact_with.new.self
+    c.in_ok-share.field-0 c.in_ok-history.history.values
     (c.in_ok-share.ensures ∙ ap (λ (k : Chronicle). k.base) c.self.view_is)
-    (c.in_ok-compact_with.ensures.after ∙ ap (λ (d : Database). act d c.args.seat Compact) database)
+    (c.in_ok-history.ensures.values ∙ (λ i. (c.self.view_is i).entries ++ entry i ∷ []))
+    c.compact_with.new.self (c.in_ok-compact_with.ensures.after ∙ ap (λ (d : Database). act d c.args.seat Compact) database)
 
 pub returns : goal.returns
 returns c =
@@ -26,6 +26,5 @@ returns c =
     let entry = compact_entry-is (now h) c.args.seat c.compact.result c.new.result c.compact.ensures c.new.ensures.reply in
     record {
       pushed = view-pushed h c.args.seat Compact history c.in_ok-compact_with.ensures.limits tt c.requires.next c.requires.room
-          c.in_ok-history.history.entries (c.in_ok-history.ensures ∙ ap (λ (e : Entry). placed_from 1 (h.entries ++ e ∷ [])) entry)
-          c.in_ok-share.field-0 (c.in_ok-share.ensures ∙ ap (λ (k : Chronicle). k.base) c.self.view_is);
+          c.in_ok-share.field-0 c.in_ok-history.history.values (c.in_ok-share.ensures ∙ ap (λ (k : Chronicle). k.base) c.self.view_is) (c.in_ok-history.ensures.values ∙ (λ i. (c.self.view_is i).entries ++ entry i ∷ []));
     }

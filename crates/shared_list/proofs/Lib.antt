@@ -1,0 +1,5 @@
+pub mod Crossing
+pub mod Dues
+pub mod Levels
+pub mod Paths
+pub mod Runs

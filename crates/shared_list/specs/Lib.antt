@@ -1,0 +1,4 @@
+pub mod Path
+pub mod SharedList
+pub mod Spine
+pub mod Tree
