@@ -10,7 +10,7 @@ use serving::Cause;
 use streams::{Sink, Source};
 
 /// The most entries of the history.
-const MAX_PLACES: u32 = 1_000_000;
+const MAX_ENTRIES: u32 = 1_000_000;
 
 /// The exit status after a connection that ended so.
 fn exit_status(cause: Cause) -> u8
@@ -43,7 +43,7 @@ pub fn run_once<R: Source, W: Sink, A: AllocGlobal>(reader: &mut R, writer: &mut
     let Ok(setting) = Setting::new(rt.alloc()) else {
         return exit_status(Cause::Memory);
     };
-    let mut session = Session::new(rt.alloc(), MAX_PLACES);
+    let mut session = Session::new(rt.alloc(), MAX_ENTRIES);
     let ended = serve(rt.alloc(), reader, writer, &mut session, &setting);
     exit_status(ended.cause)
 }

@@ -2,6 +2,7 @@
 ghost use Rattle.std.specs.Prelude.{◌≡◌, ◌++◌, ◌+◌, ◌*◌, ◌≤◌, [], length, decimal};
 ghost use Rattle.std.specs.List.{flat_map};
 ghost use Rattle.arrayvec.specs.ArrayString.{array_string_len};
+ghost use Rattle.http_response.specs.declared.head.TheConstants.{HEAD_ROOM};
 ghost use Rattle.http_response.specs.Response.{allow_line, head_text, listed, next_listed};
 
 use crate::connection::Connection;
@@ -46,7 +47,7 @@ pub(crate) fn head(
 
 /// Writes a number, of at most 20 digits.
 fn push_number(head: &mut ArrayString<HEAD_ROOM>, number: u64)
-    requires { array_string_len head.old + 20 ≤ 224 }
+    requires { array_string_len head.old + 20 ≤ HEAD_ROOM }
     ensures digits { head.new.bytes ≡ head.old.bytes ++ decimal number }
     ensures short { array_string_len head.new ≤ array_string_len head.old + 20 }
 {
@@ -57,7 +58,7 @@ fn push_number(head: &mut ArrayString<HEAD_ROOM>, number: u64)
 /// Writes the line of the methods, if there is one.
 #[tactic(auto, using(crate::proofs::Heads::few_methods))]
 fn push_allow(head: &mut ArrayString<HEAD_ROOM>, allow: Allow)
-    requires { array_string_len head.old + 33 ≤ 224 }
+    requires { array_string_len head.old + 33 ≤ HEAD_ROOM }
     ensures line { head.new.bytes ≡ head.old.bytes ++ allow_line allow }
     ensures short { array_string_len head.new ≤ array_string_len head.old + 33 }
 {
@@ -72,7 +73,7 @@ fn push_allow(head: &mut ArrayString<HEAD_ROOM>, allow: Allow)
 /// Writes the names of methods, of at most 8 bytes each with what stands between them.
 #[tactic(auto, using(crate::proofs::Heads::short_name))]
 fn push_methods(head: &mut ArrayString<HEAD_ROOM>, methods: &[Method])
-    requires { array_string_len head.old + 8 * length methods.now ≤ 224 }
+    requires { array_string_len head.old + 8 * length methods.now ≤ HEAD_ROOM }
     ensures names { head.new.bytes ≡ head.old.bytes ++ listed methods.now }
     ensures short { array_string_len head.new ≤ array_string_len head.old + 8 * length methods.now }
 {
@@ -86,7 +87,7 @@ fn push_methods(head: &mut ArrayString<HEAD_ROOM>, methods: &[Method])
 /// Writes the names of more methods, each behind another.
 #[tactic(auto, using(crate::proofs::Heads::short_name))]
 fn push_more(head: &mut ArrayString<HEAD_ROOM>, methods: &[Method])
-    requires { array_string_len head.old + 8 * length methods.now ≤ 224 }
+    requires { array_string_len head.old + 8 * length methods.now ≤ HEAD_ROOM }
     ensures names { head.new.bytes ≡ head.old.bytes ++ flat_map next_listed methods.now }
     ensures short { array_string_len head.new ≤ array_string_len head.old + 8 * length methods.now }
 {

@@ -21,6 +21,9 @@ use purge::PurgeLog;
 use std::alloc::{AllocError, Global};
 use std::marker::Model;
 
+/// How many revisions of a path a new database keeps.
+const DEFAULT_REVS_LIMIT: u32 = 1000;
+
 /// The documents with their numbers, the local documents, the log of purges, the limit of
 /// revisions, and how many commands each session has made.
 ///
@@ -60,7 +63,7 @@ impl Database {
             documents: Records::new(alloc),
             locals: Locals::new(alloc),
             purges: PurgeLog::new(alloc),
-            revs_limit: 1000,
+            revs_limit: DEFAULT_REVS_LIMIT,
             calls: CowMap::new(alloc),
         }
     }
