@@ -1,16 +1,12 @@
 -- A document with no float in its body has none.
-use Rattle.std.proofs.Common.{◌≡◌, ℕ, List, [], ◌∷◌, map, Option, Some, None, Bool, true, false, true≢false, ◌||◌, Ordering, Less, Equal, Greater, nat_cmp, refl}
-use Rattle.std.specs.Prelude.{codes}
-use Rattle.std.specs.Cmp.Lexicographic.{slice_cmp}
-use Rattle.std.specs.Ordering.{match_ordering}
-use Rattle.serde_json.specs.Data.{Data, boolean, string, Members, no_members, member, put}
+use Rattle.std.proofs.Common.{◌≡◌, ℕ, List, [], ◌∷◌, map, Bool, true, false, true≢false, ◌||◌, refl}
+use Rattle.serde_json.specs.Data.{string}
 use Rattle.serde_json.specs.View.{items_of}
-use Rattle.serde_json.specs.Written.{has_float, items_have_float, members_have_float}
-use Rattle.model.specs.Query.{Document}
+use Rattle.serde_json.specs.Written.{has_float, items_have_float}
 use Rattle.model.specs.declared.status.Status.{Status}
 use Rattle.hex.specs.Hex.{encode_lower}
 use Rattle.model.specs.Revision.{Rev, rev_text}
-use Rattle.document_json.specs.Written.{named_members, rev_data, revs_data, info_data, infos_data, revisions_data, with_flag, with_revs, with_revisions, with_infos, told_members}
+use Rattle.document_json.specs.Written.{revs_data, info_data, infos_data, revisions_data}
 
 pub neither : (a b : Bool) → a ≡ false → b ≡ false → (a || b) ≡ false
 neither false b p q = q

@@ -11,7 +11,7 @@ use Rattle.model.specs.Query.{Document}
 use Rattle.model.specs.Revision.{Rev, rev_text}
 use Rattle.model.specs.declared.status.Status.{Status}
 use Rattle.document_json.specs.Written.{flag_member, infos_member, revisions_member, revs_data, revs_member, special_members}
-use Rattle.document_json.specs.MembersText.{MembersView, IsMembersAfter, Writes}
+use Rattle.document_json.specs.MembersText.{MembersView, Writes}
 
 join-none : (ms : Members) → join ms no_members ≡ ms
 join-none no_members = refl

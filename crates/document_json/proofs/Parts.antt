@@ -1,5 +1,5 @@
 -- A document that was taken apart.
-use Rattle.std.proofs.Common.{◌≡◌, ℕ, ◌<◌, ◌≤◌, List, [], ◌∷◌, Ok, Bool, true, false, refl, ap, ◌∙◌, arith}
+use Rattle.std.proofs.Common.{◌≡◌, ◌≢◌, ℕ, ◌<◌, ◌≤◌, List, [], ◌∷◌, Result, Ok, Err, Bool, true, false, refl, ap, ◌∙◌, arith}
 use Rattle.std.specs.Prelude.{codes, nat_le}
 use Rattle.std.proofs.lemmas.Bool.{and_parts, le-leb, leb-true}
 use Rattle.std.specs.List.{list_all}
@@ -7,7 +7,10 @@ use Rattle.serde_json.specs.Data.{object, depth, Members}
 use Rattle.serde_json.specs.Find.{get_member}
 use Rattle.json_profile.specs.Objects.{without}
 use Rattle.model.specs.Profile.{is_special, without_specials, max_body_nesting}
-use Rattle.document_json.specs.Steps.{Checked, and_then, check, refused}
+use Rattle.json_profile.specs.declared.fault.JsonFault.{JsonFault}
+use Rattle.json_profile.specs.declared.fault.JsonFault.TheVariants as json
+use Rattle.document_json.specs.Steps.{Checked, Decides, and_then, check, refused}
+use Rattle.document_json.specs.Text.{fault_of}
 use Rattle.document_json.specs.Document.{nesting_parts, without_ignored, without_all, listed_members}
 use Rattle.document_json.specs.declared.document.Parts.{Parts}
 use Rattle.document_json.specs.declared.fault.Reason.TheVariants as reason
@@ -27,9 +30,20 @@ unfolding if_nests
 refuses parts false n most is lt = refl
 refuses parts true n most is lt = let le = leb-true n most is in absurd (omega arith)
 
-pub nesting_parts-depth : (parts : Parts) → max_body_nesting < depth (object parts.body) → nesting_parts parts ≡ refused reason.Depth
+nesting_parts-depth : (parts : Parts) → max_body_nesting < depth (object parts.body) → nesting_parts parts ≡ refused reason.Depth
 unfolding if_nests
 nesting_parts-depth parts lt = refuses parts _ (depth (object parts.body)) max_body_nesting refl lt
+
+-- what a body is refused by
+pub nesting_parts-fault : {B : Type 0} (parts : Parts) (told : Result B JsonFault) (f : JsonFault) → told ≡ Err f
+    → (told ≡ Err json.Depth → max_body_nesting < depth (object parts.body))
+    → (told ≢ Err json.Malformed) × (told ≢ Err json.Number) × (told ≢ Err json.NotAnObject)
+    → Decides {X = Parts} (Err (fault_of f)) (nesting_parts parts)
+nesting_parts-fault parts told json.Malformed is deep none = absurd (none.0 is)
+nesting_parts-fault parts told json.Number is deep none = absurd (none.1 is)
+nesting_parts-fault parts told json.Depth is deep none = nesting_parts-depth parts (deep is)
+nesting_parts-fault parts told json.NotAnObject is deep none = absurd (none.2 is)
+nesting_parts-fault parts told json.Memory is deep none = tt
 
 -- ---- what is left of an object
 

@@ -1,15 +1,8 @@
 -- What is put beside a body goes between its members.
-use Rattle.std.proofs.Common.{◌≡◌, ◌==◌, ℕ, List, [], ◌∷◌, ◌++◌, length, Option, Some, None, Bool, true, false, ◌&&◌, Ordering, Less, Equal, Greater, nat_cmp, append_assoc, refl, sym, ap, ◌∙◌}
-use Rattle.std.specs.Prelude.{codes, is_some, not, ◌||◌}
-use Rattle.std.proofs.Math.Dec.{eqb-suc-zero}
-use Rattle.std.proofs.lemmas.Bool.{true≢false}
-use Rattle.std.proofs.lemmas.List.{append-nil}
-use Rattle.json.specs.Print.{quoted}
-use Rattle.serde_json.proofs.OnLiterals.{serde_json_on_literals}
-use Rattle.std.specs.Cmp.Lexicographic.{slice_cmp}
-use Rattle.std.specs.Ordering.{match_ordering}
+use Rattle.std.proofs.Common.{◌≡◌, ◌==◌, ℕ, List, [], ◌∷◌, ◌++◌, length, Option, Some, None, Bool, true, false, ◌&&◌, append_assoc, refl, sym, ap, ◌∙◌}
+use Rattle.std.specs.Prelude.{codes, not}
 use Rattle.serde_json.specs.Data.{Data, boolean, string, object, Members, no_members, member, put}
-use Rattle.serde_json.specs.Written.{comma_if, compact_text, members_have_float}
+use Rattle.serde_json.specs.Written.{comma_if, compact_text}
 use Rattle.json_profile.specs.Joined.{bare_text, between, front_of, back_of, has_member, join}
 use Rattle.json_profile.specs.Profiled.{ArePlain}
 use Rattle.json_profile.proofs.Joined.{put-between, between-none, between-text, has_member-length}
@@ -17,9 +10,9 @@ use Rattle.model.specs.Body.{Body, IsBody}
 use Rattle.model.specs.Profile.{is_special}
 use Rattle.model.specs.Query.{Document}
 use Rattle.model.specs.declared.status.Status.{Status}
-use Rattle.model.specs.Revision.{Rev, rev_text}
+use Rattle.model.specs.Revision.{Rev}
 use Rattle.document_json.specs.Local.{local_id}
-use Rattle.document_json.specs.Written.{counter_text, document_data, flag_member, front_text, infos_data, infos_member, local_data, named_members, rev_data, revisions_data, revisions_member, revs_data, revs_member, special_members, told_members, with_flag, with_infos, with_revisions, with_revs}
+use Rattle.document_json.specs.Written.{counter_text, document_data, flag_member, infos_data, infos_member, local_data, named_members, rev_data, revisions_data, revisions_member, revs_data, revs_member, special_members, told_members, with_flag, with_infos, with_revisions, with_revs}
 
 plain_of : (body : Body) → IsBody body → ArePlain body
 plain_of body is = record { whole = is.whole; utf8 = is.utf8; ordered = is.ordered; plain = is.plain }

@@ -9,6 +9,7 @@ pub record MembersView : Type 0 where
   pub has_members : Bool
 
 -- these members stand behind that text
+-- RFC 8259, 4 "Objects"
 pub record IsMembersAfter (before : List ℕ) (written : MembersView) (members : Members) : Type 0 where
   pub text : written.text ≡ before ++ bare_text false members
   pub later : written.has_members ≡ has_member members

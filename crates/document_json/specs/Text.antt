@@ -5,7 +5,19 @@ use Rattle.serde_json.specs.Data.{Data, depth}
 use Rattle.serde_json.specs.Read.{read}
 use Rattle.model.specs.Profile.{is_whole, max_nesting}
 use Rattle.document_json.specs.Steps.{Checked, and_then, or_refused, check}
+use Rattle.json_profile.specs.declared.fault.JsonFault.{JsonFault}
+use Rattle.json_profile.specs.declared.fault.JsonFault.TheVariants as json
+use Rattle.document_json.specs.declared.fault.Fault.{Fault}
+use Rattle.document_json.specs.declared.fault.Fault.TheVariants.{Refused, Memory}
 use Rattle.document_json.specs.declared.fault.Reason.TheVariants as reason
+
+-- what a text, or the value of one, is refused by
+abbrev pub fault_of : JsonFault → Fault
+fault_of json.Malformed = Refused reason.Json
+fault_of json.Number = Refused reason.Number
+fault_of json.Depth = Refused reason.Depth
+fault_of json.NotAnObject = Refused reason.Shape
+fault_of json.Memory = Memory
 
 -- the value of a text
 -- RFC 8259, 2 "JSON Grammar", 8.1 "Character Encoding"

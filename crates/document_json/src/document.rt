@@ -10,7 +10,7 @@ use crate::revision::name_revision;
 use crate::text::read_json;
 use commands::Edit;
 use document_id::DocId;
-use json_profile::{Body, Json, JsonFault, Object};
+use json_profile::{Body, Json, Object};
 use revision_id::RevId;
 use std::alloc::Global;
 use std::sync::Arc;
@@ -47,19 +47,15 @@ fn take_parts(alloc: Global, mut object: Object) -> Result<Parts, Fault>
     let revisions = object.take("_revisions");
     drop_ignored(&mut object);
     let has_other = object.has_special();
-    match object.into_body(alloc) {
-        Ok(body) => Ok(Parts {
-            id,
-            rev,
-            deleted,
-            revisions,
-            has_other,
-            body,
-        }),
-        Err(JsonFault::Depth) => Err(Fault::Refused(Reason::Depth)),
-        Err(JsonFault::Memory) => Err(Fault::Memory),
-        Err(_) => unreachable!(),
-    }
+    let body = object.into_body(alloc)?;
+    Ok(Parts {
+        id,
+        rev,
+        deleted,
+        revisions,
+        has_other,
+        body,
+    })
 }
 
 /// The parts of a document, if the value is an object.

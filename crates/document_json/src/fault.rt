@@ -1,5 +1,6 @@
 //! Why a text is not taken.
 
+use json_profile::JsonFault;
 use std::alloc::{AllocError, AllocFailed};
 
 /// What of a text is not as its form asks.
@@ -40,6 +41,23 @@ impl From<Reason> for Fault {
 
     fn from(reason: Reason) -> Fault {
         Fault::Refused(reason)
+    }
+}
+
+impl From<JsonFault> for Fault {
+    ghost use Rattle.std.specs.Prelude.{◌≡◌};
+    ghost use Rattle.document_json.specs.Text.{fault_of};
+
+    ghost from_gives = { λ json fault. fault ≡ fault_of json };
+
+    fn from(fault: JsonFault) -> Fault {
+        match fault {
+            JsonFault::Malformed => Fault::Refused(Reason::Json),
+            JsonFault::Number => Fault::Refused(Reason::Number),
+            JsonFault::Depth => Fault::Refused(Reason::Depth),
+            JsonFault::NotAnObject => Fault::Refused(Reason::Shape),
+            JsonFault::Memory => Fault::Memory,
+        }
     }
 }
 

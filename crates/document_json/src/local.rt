@@ -13,7 +13,7 @@ use crate::named::named_once;
 use crate::text::read_json;
 use commands::Command;
 use document_id::DocId;
-use json_profile::{Json, JsonFault, Object};
+use json_profile::{Json, Object};
 use std::alloc::{AllocError, Global};
 use std::sync::Arc;
 
@@ -24,19 +24,15 @@ fn take_local_parts(alloc: Global, mut object: Object) -> Result<Parts, Fault>
     let id = object.take("_id");
     let rev = object.take("_rev");
     let has_other = object.has_special();
-    match object.into_body(alloc) {
-        Ok(body) => Ok(Parts {
-            id,
-            rev,
-            deleted: None,
-            revisions: None,
-            has_other,
-            body,
-        }),
-        Err(JsonFault::Depth) => Err(Fault::Refused(Reason::Depth)),
-        Err(JsonFault::Memory) => Err(Fault::Memory),
-        Err(_) => unreachable!(),
-    }
+    let body = object.into_body(alloc)?;
+    Ok(Parts {
+        id,
+        rev,
+        deleted: None,
+        revisions: None,
+        has_other,
+        body,
+    })
 }
 
 /// The parts of a value, if it is an object.

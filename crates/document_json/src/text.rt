@@ -8,7 +8,7 @@ ghost use Rattle.document_json.specs.Steps.{Decides};
 ghost use Rattle.document_json.specs.Text.{json_of, is_unescaped};
 
 use crate::fault::{Fault, Reason};
-use json_profile::{Json, JsonFault, MAX_NESTING, read};
+use json_profile::{Json, MAX_NESTING, read};
 use serde_json::Value;
 use std::alloc::{AllocError, Global};
 
@@ -21,14 +21,7 @@ use std::alloc::{AllocError, Global};
 pub fn read_json(alloc: Global, bytes: &[u8]) -> Result<Json, Fault>
     ensures { Decides result (json_of bytes.now) }
 {
-    match read(alloc, bytes, MAX_NESTING) {
-        Ok(json) => Ok(json),
-        Err(JsonFault::Malformed) => Err(Fault::Refused(Reason::Json)),
-        Err(JsonFault::Number) => Err(Fault::Refused(Reason::Number)),
-        Err(JsonFault::Depth) => Err(Fault::Refused(Reason::Depth)),
-        Err(JsonFault::NotAnObject) => unreachable!(),
-        Err(JsonFault::Memory) => Err(Fault::Memory),
-    }
+    Ok(read(alloc, bytes, MAX_NESTING)?)
 }
 
 /// The text of a value with no float.

@@ -1,7 +1,7 @@
 use Rattle.std.proofs.Common.{◌≡◌, List, ℕ, refl, ap, subst, ◌∙◌}
 use Rattle.std.specs.Prelude.{codes}
 use Rattle.std.proofs.lemmas.Result.{IfOk-weaker}
-use Rattle.serde_json.specs.Data.{Members, object, member, no_members, string}
+use Rattle.serde_json.specs.Data.{Members, member, no_members, string}
 use Rattle.serde_json.specs.Written.{compact_text}
 use Rattle.document_json.specs.MembersText.{IsMembersAfter}
 use Rattle.document_json.specs.Written.{front_text}
