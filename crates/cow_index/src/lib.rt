@@ -6,6 +6,7 @@ mod key;
 mod map;
 mod nodes;
 mod shared;
+mod sole;
 #[cfg(test)]
 mod tests;
 mod tree;

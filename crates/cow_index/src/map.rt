@@ -145,7 +145,7 @@ impl<K: IndexKey, V: Drop> CowMap<K, V> {
         prove!(self.tree.height() <= MAX_HEIGHT as u64);
         let entry = Arc::new(self.alloc, Entry { key, value })?;
         let mut nodes = NodeMaker::new(self.alloc);
-        let tree = self.tree.insert(&entry, &mut nodes)?;
+        let tree = self.tree.insert(entry, &mut nodes)?;
         Ok(CowMap::of_tree(self.alloc, tree, nodes.made))
     }
 
@@ -161,6 +161,38 @@ impl<K: IndexKey, V: Drop> CowMap<K, V> {
         prove!(self.tree.height() <= MAX_HEIGHT as u64);
         let mut nodes = NodeMaker::new(self.alloc);
         let tree = self.tree.remove(key, &mut nodes)?;
+        Ok(CowMap::of_tree(self.alloc, tree, nodes.made))
+    }
+
+    /// As [`insert`](CowMap::insert), of a map that is given up. The nodes that no other map holds
+    /// are taken apart, and nothing is counted for them.
+    pub fn into_with(self, key: K, value: V) -> Result<Self, AllocError>
+        ensures entries { IfOk result (λ m. m.entries ≡ put K.cmp key value self.entries) }
+        ensures some_nodes { IfOk result (λ m. 0 < m.nodes_made) }
+        ensures few_nodes { IfOk result (λ m. m.nodes_made ≤ 4 * (max self.height m.height + 1)) }
+    {
+        if self.len() == u64::MAX {
+            return Err(AllocError);
+        }
+        prove!(self.tree.height() <= MAX_HEIGHT as u64);
+        let entry = Arc::new(self.alloc, Entry { key, value })?;
+        let mut nodes = NodeMaker::new(self.alloc);
+        let tree = self.tree.into_with(entry, &mut nodes)?;
+        Ok(CowMap::of_tree(self.alloc, tree, nodes.made))
+    }
+
+    /// As [`remove`](CowMap::remove), of a map that is given up.
+    pub fn into_without(self, key: &K) -> Result<Self, AllocError>
+        ensures entries { IfOk result (λ m. m.entries ≡ without K.cmp key.now self.entries) }
+        ensures no_nodes { find K.cmp key.now self.entries ≡ None → IfOk result (λ m. m.nodes_made ≡ 0) }
+        ensures few_nodes { IfOk result (λ m. m.nodes_made ≤ 4 * (max self.height m.height + 1)) }
+    {
+        if self.get(key).is_none() {
+            return self.share();
+        }
+        prove!(self.tree.height() <= MAX_HEIGHT as u64);
+        let mut nodes = NodeMaker::new(self.alloc);
+        let tree = self.tree.into_without(key, &mut nodes)?;
         Ok(CowMap::of_tree(self.alloc, tree, nodes.made))
     }
 }

@@ -22,8 +22,35 @@ impl NodeMaker {
         NodeMaker { alloc, made: 0 }
     }
 
-    /// The one function that makes a node: the two sides are shared, and so is the entry.
+    /// The one function that makes a node: it takes over the two sides and the entry.
     pub(crate) fn make<K: Drop, V: Drop>(
+        &mut self,
+        left: Tree<K, V>,
+        entry: Arc<Entry<K, V>>,
+        right: Tree<K, V>,
+    ) -> Result<Tree<K, V>, AllocError>
+        requires level { DifferByAtMost 1 left.1 right.1 }
+        requires fits { length left.0 + length right.0 + 1 < 2 ^ 64 }
+        requires counts { self.old.made + 1 < 2 ^ 64 }
+        ensures entries { IfOk result (λ t. t.0 ≡ left.0 ++ pair_of entry ∷ right.0) }
+        ensures height { IfOk result (λ t. t.1 ≡ max left.1 right.1 + 1) }
+        ensures counted { OnOk result (self.new.made ≡ self.old.made + 1) }
+        ensures few { MakesAtMost 1 self.old self.new }
+    {
+        let node = Node {
+            height: left.height().max(right.height()) + 1,
+            len: left.len() + right.len() + 1,
+            left,
+            entry,
+            right,
+        };
+        let root = Arc::new(self.alloc, node)?;
+        self.made += 1;
+        Ok(Tree { root: Some(root) })
+    }
+
+    /// The same over sides that other nodes hold, as they do the entry.
+    fn make_shared<K: Drop, V: Drop>(
         &mut self,
         left: &Tree<K, V>,
         entry: &Arc<Entry<K, V>>,
@@ -37,16 +64,7 @@ impl NodeMaker {
         ensures counted { OnOk result (self.new.made ≡ self.old.made + 1) }
         ensures few { MakesAtMost 1 self.old self.new }
     {
-        let node = Node {
-            left: left.share()?,
-            entry: Arc::try_clone(entry)?,
-            right: right.share()?,
-            height: left.height().max(right.height()) + 1,
-            len: left.len() + right.len() + 1,
-        };
-        let root = Arc::new(self.alloc, node)?;
-        self.made += 1;
-        Ok(Tree { root: Some(root) })
+        self.make(left.share()?, Arc::try_clone(entry)?, right.share()?)
     }
 
     // The left side is two levels higher.
@@ -68,15 +86,15 @@ impl NodeMaker {
             unreachable!()
         };
         if node.left.height() >= node.right.height() {
-            let right = self.make(&node.right, entry, right)?;
-            return self.make(&node.left, &node.entry, &right);
+            let right = self.make_shared(&node.right, entry, right)?;
+            return self.make_shared(&node.left, &node.entry, &right);
         }
         let Some(middle) = node.right.node() else {
             unreachable!()
         };
-        let left = self.make(&node.left, &node.entry, &middle.left)?;
-        let right = self.make(&middle.right, entry, right)?;
-        self.make(&left, &middle.entry, &right)
+        let left = self.make_shared(&node.left, &node.entry, &middle.left)?;
+        let right = self.make_shared(&middle.right, entry, right)?;
+        self.make_shared(&left, &middle.entry, &right)
     }
 
     // The right side is two levels higher.
@@ -98,37 +116,37 @@ impl NodeMaker {
             unreachable!()
         };
         if node.right.height() >= node.left.height() {
-            let left = self.make(left, entry, &node.left)?;
-            return self.make(&left, &node.entry, &node.right);
+            let left = self.make_shared(left, entry, &node.left)?;
+            return self.make_shared(&left, &node.entry, &node.right);
         }
         let Some(middle) = node.left.node() else {
             unreachable!()
         };
-        let left = self.make(left, entry, &middle.left)?;
-        let right = self.make(&middle.right, &node.entry, &node.right)?;
-        self.make(&left, &middle.entry, &right)
+        let left = self.make_shared(left, entry, &middle.left)?;
+        let right = self.make_shared(&middle.right, &node.entry, &node.right)?;
+        self.make_shared(&left, &middle.entry, &right)
     }
 
     /// A tree over sides whose heights differ by at most two.
     pub(crate) fn balance<K: Drop, V: Drop>(
         &mut self,
-        left: &Tree<K, V>,
-        entry: &Arc<Entry<K, V>>,
-        right: &Tree<K, V>,
+        left: Tree<K, V>,
+        entry: Arc<Entry<K, V>>,
+        right: Tree<K, V>,
     ) -> Result<Tree<K, V>, AllocError>
-        requires level { DifferByAtMost 2 left.now.1 right.now.1 }
-        requires fits { length left.now.0 + length right.now.0 + 1 < 2 ^ 64 }
+        requires level { DifferByAtMost 2 left.1 right.1 }
+        requires fits { length left.0 + length right.0 + 1 < 2 ^ 64 }
         requires counts { self.old.made + 3 < 2 ^ 64 }
-        ensures entries { IfOk result (λ t. t.0 ≡ left.now.0 ++ pair_of entry.now ∷ right.now.0) }
-        ensures height { IfOk result (λ t. IsHeightAfterRebalance left.now.1 right.now.1 t.1) }
+        ensures entries { IfOk result (λ t. t.0 ≡ left.0 ++ pair_of entry ∷ right.0) }
+        ensures height { IfOk result (λ t. IsHeightAfterRebalance left.1 right.1 t.1) }
         ensures some { OnOk result (self.old.made < self.new.made) }
         ensures few { MakesAtMost 3 self.old self.new }
     {
         let (left_height, right_height) = (left.height(), right.height());
         if left_height > right_height.saturating_add(1) {
-            self.lean_left(left, entry, right)
+            self.lean_left(&left, &entry, &right)
         } else if right_height > left_height.saturating_add(1) {
-            self.lean_right(left, entry, right)
+            self.lean_right(&left, &entry, &right)
         } else {
             self.make(left, entry, right)
         }
@@ -151,7 +169,7 @@ impl NodeMaker {
             return node.right.share();
         }
         let left = self.without_first(&node.left)?;
-        self.balance(&left, &node.entry, &node.right)
+        self.balance(left, Arc::try_clone(&node.entry)?, node.right.share()?)
     }
 
     /// The entries of both sides, whose heights differ by at most one.
@@ -171,6 +189,6 @@ impl NodeMaker {
             return left.share();
         };
         let rest = self.without_first(right)?;
-        self.balance(left, first, &rest)
+        self.balance(left.share()?, Arc::try_clone(first)?, rest)
     }
 }

@@ -72,3 +72,22 @@ fn calls_answer(rt: HostRuntime) -> Result<(), AllocError> {
     assert!(&rt; same.nodes_made() == 0);
     Ok(())
 }
+
+#[test]
+fn maps_are_given_up(rt: HostRuntime) -> Result<(), AllocError> {
+    let mut map = CowMap::new(rt.alloc());
+    let mut half = map.share()?;
+    for key in 0..1000u64 {
+        map = map.into_with(key, key)?;
+        if key == 499 {
+            half = map.share()?;
+        }
+    }
+    assert_holds_below(&rt, &map, 1000);
+    for key in 0..1000u64 {
+        map = map.into_without(&key)?;
+    }
+    assert!(&rt; map.is_empty());
+    assert_holds_below(&rt, &half, 500);
+    Ok(())
+}

@@ -179,31 +179,31 @@ impl<K: IndexKey, V: Drop> Tree<K, V> {
     /// The tree with the entry in its place: at a key that ties, the new one stands in for the old.
     pub(crate) fn insert(
         &self,
-        entry: &Arc<Entry<K, V>>,
+        entry: Arc<Entry<K, V>>,
         nodes: &mut NodeMaker,
     ) -> Result<Self, AllocError>
         requires sorted { T (is_sorted K.cmp self.now.0) }
         requires fits { length self.now.0 + 1 < 2 ^ 64 }
         requires counts { nodes.old.made + 3 * self.now.1 + 1 < 2 ^ 64 }
-        ensures entries { IfOk result (λ t. t.0 ≡ put K.cmp (pair_of entry.now).0 (pair_of entry.now).1 self.now.0) }
+        ensures entries { IfOk result (λ t. t.0 ≡ put K.cmp (pair_of entry).0 (pair_of entry).1 self.now.0) }
         ensures height { IfOk result (λ t. (self.now.1 ≤ t.1) × (t.1 ≤ self.now.1 + 1)) }
         ensures some { OnOk result (nodes.old.made < nodes.new.made) }
         ensures few { MakesAtMost (3 * self.now.1 + 1) nodes.old nodes.new }
     {
         let Some(node) = self.node() else {
-            return nodes.make(&Tree::new(), entry, &Tree::new());
+            return nodes.make(Tree::new(), entry, Tree::new());
         };
-        let new: &Entry<K, V> = entry;
+        let new: &Entry<K, V> = &entry;
         match node.compare(&new.key) {
             Ordering::Less => {
                 let left = node.left.insert(entry, nodes)?;
-                nodes.balance(&left, &node.entry, &node.right)
+                nodes.balance(left, Arc::try_clone(&node.entry)?, node.right.share()?)
             }
             Ordering::Greater => {
                 let right = node.right.insert(entry, nodes)?;
-                nodes.balance(&node.left, &node.entry, &right)
+                nodes.balance(node.left.share()?, Arc::try_clone(&node.entry)?, right)
             }
-            Ordering::Equal => nodes.make(&node.left, entry, &node.right),
+            Ordering::Equal => nodes.make(node.left.share()?, entry, node.right.share()?),
         }
     }
 
@@ -221,11 +221,11 @@ impl<K: IndexKey, V: Drop> Tree<K, V> {
         match node.compare(key) {
             Ordering::Less => {
                 let left = node.left.remove(key, nodes)?;
-                nodes.balance(&left, &node.entry, &node.right)
+                nodes.balance(left, Arc::try_clone(&node.entry)?, node.right.share()?)
             }
             Ordering::Greater => {
                 let right = node.right.remove(key, nodes)?;
-                nodes.balance(&node.left, &node.entry, &right)
+                nodes.balance(node.left.share()?, Arc::try_clone(&node.entry)?, right)
             }
             Ordering::Equal => nodes.join(&node.left, &node.right),
         }

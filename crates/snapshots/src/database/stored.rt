@@ -6,12 +6,14 @@ ghost use Rattle.model.specs.Database.{same_tree, tree_at};
 
 use crate::database::Database;
 use crate::record::Record;
+use crate::records::Records;
 use crate::written::Written;
 use document_id::DocId;
 use model::Refusal;
 use revision_id::RevId;
 use revision_tree::RevTree;
 use std::alloc::AllocError;
+use std::mem;
 use tree_merge::is_same;
 
 impl Database {
@@ -30,12 +32,14 @@ impl Database {
         }
     }
 
-    /// Gives the document this tree, at the next update number.
+    /// Gives the document this tree, at the next update number. Where memory is refused, no
+    /// documents are left.
     pub(super) fn update(&mut self, id: &DocId, tree: RevTree) -> Result<(), AllocError>
         requires room { self.old.update_seq + 1 < u64.MAX }
         ensures updated { IfOk result (λ _. self.new ≡ model.with_tree self.old id.now tree) }
     {
-        self.documents = self.documents.update(self.alloc, id, tree)?;
+        let documents = mem::replace(&mut self.documents, Records::new(self.alloc));
+        self.documents = documents.update(self.alloc, id, tree)?;
         Ok(())
     }
 

@@ -36,18 +36,18 @@ impl Records {
         ensures { IfOk result (λ d. d ≡ record self.now { docs = put_in self.now.docs id.now stored }) }
     {
         let update_seq = self.update_seq();
-        self.placed(alloc, id, stored, update_seq)
+        self.share()?.placed(alloc, id, stored, update_seq)
     }
 
     /// With this tree of the document, at the next update number.
     pub(crate) fn update(
-        &self,
+        self,
         alloc: Global,
         id: &DocId,
         tree: RevTree,
     ) -> Result<Records, AllocError>
-        requires { self.now.update_seq < u64.MAX }
-        ensures { IfOk result (λ d. d ≡ updated self.now id.now tree) }
+        requires { self.update_seq < u64.MAX }
+        ensures { IfOk result (λ d. d ≡ updated self id.now tree) }
     {
         let _index = &self.by_id;
         let seq = self.update_seq + 1;
@@ -56,24 +56,25 @@ impl Records {
     }
 
     fn placed(
-        &self,
+        self,
         alloc: Global,
         id: &DocId,
         stored: Record,
         update_seq: u64,
     ) -> Result<Records, AllocError>
-        requires more { self.now.update_seq ≤ update_seq }
+        requires more { self.update_seq ≤ update_seq }
         requires number { (0 < stored.seq) × (stored.seq ≤ update_seq) }
-        requires free { IsFree self.now.docs id.now stored.seq }
-        ensures { IfOk result (λ d. d ≡ placed self.now id.now stored update_seq) }
+        requires free { IsFree self.docs id.now stored.seq }
+        ensures { IfOk result (λ d. d ≡ placed self id.now stored update_seq) }
     {
         let seq = stored.seq();
+        let numbers = self.by_number;
         let old = found(&self.by_id, id);
         let live = self.live - live_count(old) + live_count(Some(&stored));
         let stored = Shared::new(alloc, stored)?;
         Ok(Records {
-            by_number: renumbered(&self.by_number, old, id, seq, &stored)?,
-            by_id: with_record(&self.by_id, id, stored)?,
+            by_number: renumbered(numbers, old, id, seq, &stored)?,
+            by_id: with_record(self.by_id, id, stored)?,
             live,
             update_seq,
         })
@@ -98,7 +99,7 @@ impl Records {
         let old = found(&self.by_id, id);
         Ok(Records {
             by_id: self.by_id.remove(id)?,
-            by_number: without_old(&self.by_number, old)?,
+            by_number: without_old(self.by_number.share()?, old)?,
             live: self.live - live_count(old),
             update_seq: self.update_seq,
         })
@@ -106,13 +107,13 @@ impl Records {
 }
 
 fn with_record(
-    by_id: &CowMap<DocId, Shared<Record>>,
+    by_id: CowMap<DocId, Shared<Record>>,
     id: &DocId,
     stored: Shared<Record>,
 ) -> Result<CowMap<DocId, Shared<Record>>, AllocError>
-    ensures { IfOk result (λ m. m.entries ≡ put_entry (slice_cmp nat_cmp) id.now stored by_id.now.entries) }
+    ensures { IfOk result (λ m. m.entries ≡ put_entry (slice_cmp nat_cmp) id.now stored by_id.entries) }
 {
-    by_id.insert(id.share()?, stored)
+    by_id.into_with(id.share()?, stored)
 }
 
 /// 1 for a live document, and else 0.
@@ -127,24 +128,24 @@ fn live_count(stored: Option<&Record>) -> u64
 
 /// The index with the record at `seq`, and nothing at the number of the one before.
 fn renumbered(
-    numbers: &Numbers,
+    numbers: Numbers,
     old: Option<&Record>,
     id: &DocId,
     seq: u64,
     stored: &Shared<Record>,
 ) -> Result<Numbers, AllocError>
     ensures { IfOk result (λ m. m.entries ≡ put_entry nat_cmp seq (id.now, stored.now)
-        (without_number (option_copied old.entry) numbers.now.entries)) }
+        (without_number (option_copied old.entry) numbers.entries)) }
 {
     let numbered = (id.share()?, stored.share()?);
-    without_old(numbers, old)?.insert(seq, numbered)
+    without_old(numbers, old)?.into_with(seq, numbered)
 }
 
-fn without_old(numbers: &Numbers, old: Option<&Record>) -> Result<Numbers, AllocError>
-    ensures { IfOk result (λ m. m.entries ≡ without_number (option_copied old.entry) numbers.now.entries) }
+fn without_old(numbers: Numbers, old: Option<&Record>) -> Result<Numbers, AllocError>
+    ensures { IfOk result (λ m. m.entries ≡ without_number (option_copied old.entry) numbers.entries) }
 {
     match old {
-        Some(old) => numbers.remove(&old.seq()),
-        None => numbers.share(),
+        Some(old) => numbers.into_without(&old.seq()),
+        None => Ok(numbers),
     }
 }

@@ -6,7 +6,7 @@ pub invariant_of-result : goal.invariant_of-result
 invariant_of-result g c =
     let dense = dense_node _ _ _ _ c.requires.level c.height.ensures.dense c.height-2.ensures.dense in
     rw c.in_ok-root.ensures.ok
-    (rw (c.in_ok-share.ensures, c.in_ok-share-2.ensures) (record {
+    (record {
       entries = refl;
       lengths = grind (arith, length-append);
       len = grind (arith, length-append);
@@ -15,4 +15,4 @@ invariant_of-result g c =
       heights = grind arith;
       level = c.requires.level;
       dense = grind (arith, length-append, dense);
-    }))
+    })

@@ -18,29 +18,29 @@ insert-requires-in-Greater g t c κs within =
 pub balance-requires-clause-fits : goal.balance-requires-clause-fits
 balance-requires-clause-fits g t c =
     let at = turn g.K.Ord.cmp c.in-Some.ensures.root c.requires.sorted c.in-Less.ensures in
-    let longer = length_put_le g.met.K.Ord.total (pair_of c.args.entry.now).0 (pair_of c.args.entry.now).1 c.in-Some.node.now.left.0 (left_sorted at) in
-    omega (arith, at.root.lengths, c.requires.fits, ap length c.in_ok-left-in-Less.ensures.entries, longer)
+    let longer = length_put_le g.met.K.Ord.total (pair_of c.args.entry).0 (pair_of c.args.entry).1 c.in-Some.node.now.left.0 (left_sorted at) in
+    rw c.in_ok-share-in-Less.ensures (omega (arith, at.root.lengths, c.requires.fits, ap length c.in_ok-left-in-Less.ensures.entries, longer))
 
 pub balance-requires-in-Greater-clause-fits : goal.balance-requires-in-Greater-clause-fits
 balance-requires-in-Greater-clause-fits g t c =
     let at = turn g.K.Ord.cmp c.in-Some.ensures.root c.requires.sorted c.in-Greater.ensures in
-    let longer = length_put_le g.met.K.Ord.total (pair_of c.args.entry.now).0 (pair_of c.args.entry.now).1 c.in-Some.node.now.right.0 (right_sorted at) in
-    omega (arith, at.root.lengths, c.requires.fits, ap length c.in_ok-right-in-Greater.ensures.entries, longer)
+    let longer = length_put_le g.met.K.Ord.total (pair_of c.args.entry).0 (pair_of c.args.entry).1 c.in-Some.node.now.right.0 (right_sorted at) in
+    rw c.in_ok-share-in-Greater.ensures (omega (arith, at.root.lengths, c.requires.fits, ap length c.in_ok-right-in-Greater.ensures.entries, longer))
 
-pub returns-in_ok-left-in-Less-clause-entries : goal.returns-in_ok-left-in-Less-clause-entries
-returns-in_ok-left-in-Less-clause-entries g t c =
+pub returns-in_ok-share-in-Less-clause-entries : goal.returns-in_ok-share-in-Less-clause-entries
+returns-in_ok-share-in-Less-clause-entries g t c =
     let at = turn g.K.Ord.cmp c.in-Some.ensures.root c.requires.sorted c.in-Less.ensures in
-    let put_is = put-left g.met.K.Ord.total (pair_of c.args.entry.now).1 at in
+    let put_is = put-left g.met.K.Ord.total (pair_of c.args.entry).1 at in
     grind (arith, common_steps)
 
-pub returns-in_ok-right-in-Greater-clause-entries : goal.returns-in_ok-right-in-Greater-clause-entries
-returns-in_ok-right-in-Greater-clause-entries g t c =
+pub returns-in_ok-try_clone-in-Greater-clause-entries : goal.returns-in_ok-try_clone-in-Greater-clause-entries
+returns-in_ok-try_clone-in-Greater-clause-entries g t c =
     let at = turn g.K.Ord.cmp c.in-Some.ensures.root c.requires.sorted c.in-Greater.ensures in
-    let put_is = put-right g.met.K.Ord.total (pair_of c.args.entry.now).1 at in
+    let put_is = put-right g.met.K.Ord.total (pair_of c.args.entry).1 at in
     grind (arith, common_steps)
 
-pub returns-in-Equal-clause-entries : goal.returns-in-Equal-clause-entries
-returns-in-Equal-clause-entries g t c =
+pub returns-in_ok-share-in-Equal-2-clause-entries : goal.returns-in_ok-share-in-Equal-2-clause-entries
+returns-in_ok-share-in-Equal-2-clause-entries g t c =
     let at = turn g.K.Ord.cmp c.in-Some.ensures.root c.requires.sorted c.in-Equal.ensures in
-    let put_is = put-here g.met.K.Ord.total (pair_of c.args.entry.now).1 g.met.K.IndexKey.exact at in
+    let put_is = put-here g.met.K.Ord.total (pair_of c.args.entry).1 g.met.K.IndexKey.exact at in
     grind (arith, common_steps)

@@ -18,21 +18,21 @@ remove-requires-in-Greater g t c κs within =
 pub balance-requires-clause-fits : goal.balance-requires-clause-fits
 balance-requires-clause-fits g t c =
     let shorter = length_filter_le (λ e. not (eq_by_cmp g.K.Ord.cmp c.args.key.now e.0)) c.in-Some.node.now.left.0 in
-    omega (arith, c.in-Some.ensures.root.lengths, c.in-Some.ensures.root.fits, ap length c.in_ok-left-in-Less.ensures.entries, shorter)
+    rw c.in_ok-share-in-Less.ensures (omega (arith, c.in-Some.ensures.root.lengths, c.in-Some.ensures.root.fits, ap length c.in_ok-left-in-Less.ensures.entries, shorter))
 
 pub balance-requires-in-Greater-clause-fits : goal.balance-requires-in-Greater-clause-fits
 balance-requires-in-Greater-clause-fits g t c =
     let shorter = length_filter_le (λ e. not (eq_by_cmp g.K.Ord.cmp c.args.key.now e.0)) c.in-Some.node.now.right.0 in
-    omega (arith, c.in-Some.ensures.root.lengths, c.in-Some.ensures.root.fits, ap length c.in_ok-right-in-Greater.ensures.entries, shorter)
+    rw c.in_ok-share-in-Greater.ensures (omega (arith, c.in-Some.ensures.root.lengths, c.in-Some.ensures.root.fits, ap length c.in_ok-right-in-Greater.ensures.entries, shorter))
 
-pub returns-in_ok-left-in-Less-clause-entries : goal.returns-in_ok-left-in-Less-clause-entries
-returns-in_ok-left-in-Less-clause-entries g t c =
+pub returns-in_ok-share-in-Less-clause-entries : goal.returns-in_ok-share-in-Less-clause-entries
+returns-in_ok-share-in-Less-clause-entries g t c =
     let at = turn g.K.Ord.cmp c.in-Some.ensures.root c.requires.sorted c.in-Less.ensures in
     let without_is = kept-left g.met.K.Ord.total (λ o. not (is_eq o)) at in
     grind (arith, common_steps)
 
-pub returns-in_ok-right-in-Greater-clause-entries : goal.returns-in_ok-right-in-Greater-clause-entries
-returns-in_ok-right-in-Greater-clause-entries g t c =
+pub returns-in_ok-try_clone-in-Greater-clause-entries : goal.returns-in_ok-try_clone-in-Greater-clause-entries
+returns-in_ok-try_clone-in-Greater-clause-entries g t c =
     let at = turn g.K.Ord.cmp c.in-Some.ensures.root c.requires.sorted c.in-Greater.ensures in
     let without_is = kept-right g.met.K.Ord.total (λ o. not (is_eq o)) at in
     grind (arith, common_steps)

@@ -39,5 +39,5 @@ invariant_of-result c =
 
 pub returns : goal.returns
 returns c =
-    listing-placed c.self.inside.by_id.entries c.self.inside.update_seq c.args.id.now c.args.stored c.args.update_seq c.args.self.now _ c.self.view_is
+    listing-placed c.self.inside.by_id.entries c.self.inside.update_seq c.args.id.now c.args.stored c.args.update_seq c.args.self _ c.self.view_is
     (c.in_ok-with_record.ensures ∙ ap (λ (r : Record). listed.put names.cmp c.args.id.now r c.self.inside.by_id.entries) c.in_ok-stored.ensures)

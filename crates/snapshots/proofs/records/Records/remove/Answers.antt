@@ -1,3 +1,4 @@
+use Rattle.std.specs.Prelude.{option_copied}
 use Rattle.std.proofs.Common.{ap, ◌∙◌}
 use Rattle.snapshots.specs.Listing.{live_in, without_number}
 use Rattle.snapshots.proofs.Indexed.{IsIndexed-removed, live-removed, listing-removed}
@@ -10,7 +11,9 @@ pub invariant_of-result : goal.invariant_of-result
 invariant_of-result c =
     IsIndexed-removed c.self.inside.by_id.entries c.self.inside.update_seq c.args.id.now c.self.inside.by_number.entries c.self.inside.live c.self.invariant _ _ c.live_count.result
     c.in_ok-remove.ensures.entries
-    (c.in_ok-without_old.ensures ∙ ap (λ o. without_number o c.self.inside.by_number.entries) c.found-old.ensures)
+    (c.in_ok-without_old.ensures
+    ∙ ap (without_number (option_copied c.found-old.result)) c.in_ok-share.ensures.entries
+    ∙ ap (λ o. without_number o c.self.inside.by_number.entries) c.found-old.ensures)
     (c.live_count.ensures ∙ ap live_in c.found-old.ensures)
 
 pub returns : goal.returns

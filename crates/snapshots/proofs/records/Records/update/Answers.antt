@@ -12,5 +12,5 @@ placed-requires-clause-free c other r has same =
 pub returns : goal.returns
 returns c =
     c.in_ok-updated.ensures
-    ∙ ap (λ (r : Record). placed c.args.self.now c.args.id.now r (c.self.inside.update_seq + 1)) c.new.ensures
-    ∙ ap (λ n. placed c.args.self.now c.args.id.now (record { tree = c.args.tree; seq = n + 1 }) (n + 1)) (ap (λ (l : Listing). l.update_seq) c.self.view_is)
+    ∙ ap (λ (r : Record). placed c.args.self c.args.id.now r (c.self.inside.update_seq + 1)) c.new.ensures
+    ∙ ap (λ n. placed c.args.self c.args.id.now (record { tree = c.args.tree; seq = n + 1 }) (n + 1)) (ap (λ (l : Listing). l.update_seq) c.self.view_is)

@@ -1,0 +1,13 @@
+use Rattle.std.proofs.Common.{◌≡◌, None, not, rules}
+use Rattle.std.specs.Ordering.{eq_by_cmp}
+use Rattle.std.specs.FinMap.Entries.{find, is_sorted-where_key}
+use Rattle.cow_index.proofs.Filters.{without_absent}
+use Rattle.cow_index.proofs.map.CowMap.into_without.Goals as goal
+
+pub returns-then-is_none-clause-entries : goal.returns-then-is_none-clause-entries
+returns-then-is_none-clause-entries g c =
+    let none : find g.K.Ord.cmp c.args.key.now c.args.self.entries ≡ None = search rules in
+    rw (without_absent g.K.Ord.cmp c.args.key.now c.args.self.entries none) c.share.ensures.entries
+
+pub of_tree-requires : goal.of_tree-requires
+of_tree-requires g c = rw c.in_ok-tree.ensures.entries (is_sorted-where_key g.K.Ord.cmp (λ x. not (eq_by_cmp g.K.Ord.cmp c.args.key.now x)) c.self.inside.tree.0 c.self.invariant)
