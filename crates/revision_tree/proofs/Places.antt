@@ -74,10 +74,19 @@ some_node : (nodes : List Node) (i : ℕ) → i < length nodes → Node
 some_node [] i lt = absurd (omega arith)
 some_node (n ∷ ns) i lt = n
 
-same_at : (nodes : List Node) (i : ℕ) (m n : Node) → i < length nodes → get_or nodes i m ≡ get_or nodes i n
+pub same_at : (nodes : List Node) (i : ℕ) (m n : Node) → i < length nodes → get_or nodes i m ≡ get_or nodes i n
 same_at [] i m n lt = absurd (omega arith)
 same_at (k ∷ ks) zero m n lt = refl
 same_at (k ∷ ks) (suc i) m n lt = same_at ks i m n (omega arith)
+
+pub place_of-node : (nodes : List Node) (r : Rev) (i : ℕ) (m : Node) → i < length nodes → m ≡ get_or nodes i m → m.rev ≡ r → IsPlaceOf nodes r i
+place_of-node nodes r i m lt is e = record { within = lt; rev = λ n. ap (λ (k : Node). k.rev) (same_at nodes i n m lt ∙ sym is) ∙ e }
+
+pub place_knows : (nodes : List Node) (r : Rev) (i : ℕ) → IsSorted nodes → IsPlaceOf nodes r i → knows (tree_of nodes) r ≡ true
+place_knows nodes r i h at =
+    let n = some_node nodes i at.within in
+    let m = get_or nodes i n in
+    ap is_some (subst (λ q. get (tree_of nodes) q ≡ Some (entry_of m).1) (at.rev n) (got nodes h m (i, at.within, same_at nodes i m n at.within)))
 
 pub placed : (nodes : List Node) (r : Rev) (i : ℕ) (n : Node) → IsPlaceOf nodes r i → n ≡ get_or nodes i n → Contains nodes n × (n.rev ≡ r)
 placed nodes r i n at is = ((i, at.within, sym is), ap (λ (m : Node). m.rev) is ∙ at.rev n)

@@ -14,7 +14,28 @@ pub(crate) fn place_among(nodes: &[Node], rev: RevId) -> Option<usize>
     ensures known { is_some result ≡ knows (tree_of nodes.now) rev }
     ensures place { IfSome result (λ i. IsPlaceOf nodes.now rev i) }
 {
+    if let Some(place) = place_by_generation(nodes, rev) {
+        return Some(place);
+    }
     nodes.binary_search_by(|node| node.rev.cmp(&rev)).ok()
+}
+
+/// The place of a revision that stands as many places as generations above the oldest, as each does in a history with no
+/// conflicts, and as a common parent of conflicts does.
+fn place_by_generation(nodes: &[Node], rev: RevId) -> Option<usize>
+    ensures { IfSome result (λ i. IsPlaceOf nodes.now rev i) }
+{
+    let [oldest, ..] = nodes else {
+        return None;
+    };
+    let place = rev.generation().saturating_sub(oldest.rev.generation()) as usize;
+    if place >= nodes.len() {
+        return None;
+    }
+    if nodes[place].rev == rev {
+        return Some(place);
+    }
+    None
 }
 
 pub(crate) fn node_of(nodes: &[Node], rev: RevId) -> Option<&Node>

@@ -11,3 +11,4 @@ pub mod Purges
 pub mod Shown
 pub mod TouchedCount
 pub mod Crossing
+pub mod Remerged

@@ -8,3 +8,5 @@ pub mod Restricted
 pub mod Raised
 pub mod Writes
 pub mod Compared
+pub mod Depths
+pub mod Unaltered

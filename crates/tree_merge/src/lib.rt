@@ -8,10 +8,12 @@ mod merge;
 mod reach;
 mod removed;
 mod restrict;
+mod shallow;
 mod stems;
 mod strips;
 #[cfg(test)]
 mod tests;
+mod unchanged;
 mod written;
 
 pub use fault::MergeFault;
@@ -20,4 +22,5 @@ pub use matches::is_same;
 pub use removed::removed_leaves;
 pub use stems::{cut_leaves, stem};
 pub use strips::strip;
+pub use unchanged::is_written;
 pub use written::with_path;

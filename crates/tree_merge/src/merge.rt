@@ -27,7 +27,7 @@ pub(crate) fn merged(
     requires known { IsSorted known.now }
     ensures { IfOk result (λ nodes. entries_of nodes.items ≡ entries (grafted path.now (arc_value body) deleted (tree_of known.now))) }
 {
-    let mut nodes = Vec::new(alloc);
+    let mut nodes = Vec::with_capacity(alloc, room_for(known, path))?;
     let [newest, older @ ..] = path else {
         return Ok(nodes);
     };
@@ -37,6 +37,11 @@ pub(crate) fn merged(
     nodes.push(filled(node, body, deleted))?;
     share_all(&mut nodes, after(rest, *newest))?;
     Ok(nodes)
+}
+
+/// How many revisions there are at most: a path is mostly one revision over a known one.
+fn room_for(known: &[Node], path: &[RevId]) -> usize {
+    known.len().saturating_add(path.len().div_ceil(2))
 }
 
 /// Shares the revisions up to the newest of the older members, with each of those linked to the next. What is left is above them.

@@ -8,6 +8,7 @@ ghost use Rattle.tree_merge.specs.declared.fault.MergeFault.TheVariants.{Contrad
 
 use crate::fault::MergeFault;
 use crate::grafts::graft;
+use crate::shallow::is_shallow;
 use crate::stems::stem;
 use json_profile::Body;
 use revision_id::RevId;
@@ -15,7 +16,7 @@ use revision_tree::RevTree;
 use std::alloc::Global;
 use std::sync::Arc;
 
-/// The tree with the path grafted, and then stemmed.
+/// The tree with the path grafted, and then stemmed where a revision can lie too deep.
 pub fn with_path(
     alloc: Global,
     tree: Option<&RevTree>,
@@ -30,6 +31,9 @@ pub fn with_path(
     ensures refused { (result ≡ Err Contradiction) ↔ (writing limit (option_copied tree.entry) path.now (arc_value body) deleted ≡ Err BadHistory) }
 {
     let grafted = graft(alloc, tree, path, body, deleted)?;
+    if is_shallow(&grafted, limit) {
+        return Ok(grafted);
+    }
     let stemmed = stem(alloc, &grafted, limit)?;
     Ok(stemmed)
 }

@@ -1,5 +1,5 @@
 //! Merges of documents' paths that other databases sent.
-ghost use Rattle.std.specs.Prelude.{◌≡◌, ◌<◌, ◌+◌, length, IfOk};
+ghost use Rattle.std.specs.Prelude.{◌≡◌, ◌<◌, ◌+◌, length, IfOk, Ok, true};
 ghost use Rattle.model.specs.Edit.{revision_written};
 ghost use Rattle.model.specs.Database.{merge_in, after_merge, merge_replies, after_merges};
 
@@ -9,6 +9,7 @@ use commands::Merge;
 use model::Refusal;
 use revision_id::RevId;
 use std::alloc::AllocError;
+use tree_merge::is_written;
 
 impl Database {
     /// One after another, in the order listed.
@@ -32,7 +33,22 @@ impl Database {
         ensures reply { IfOk result (λ r. r ≡ revision_written (merge_in self.old merge.now)) }
         ensures after { IfOk result (λ _. self.new ≡ after_merge self.old merge.now) }
     {
+        let newest = merge.path()[0];
+        if self.has_merged(merge) {
+            return Ok(Ok(newest));
+        }
         let outcome = merged(self.alloc, self.revs_limit(), self.tree(merge.id()), merge)?;
         self.store_written(merge.id(), outcome)
+    }
+
+    /// Whether a merge finds all that it brings: then it changes nothing.
+    fn has_merged(&self, merge: &Merge) -> bool
+        ensures reply { result ≡ true → revision_written (merge_in self.now merge.now) ≡ Ok merge.now.newest }
+        ensures after { result ≡ true → after_merge self.now merge.now ≡ self.now }
+    {
+        let Some(tree) = self.tree(merge.id()) else {
+            return false;
+        };
+        is_written(tree, self.revs_limit(), merge.path())
     }
 }

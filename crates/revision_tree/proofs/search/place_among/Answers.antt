@@ -3,8 +3,12 @@ use Rattle.std.specs.Prelude.{IfSome, is_some}
 use Rattle.std.proofs.lemmas.Fn.{always_returns_same}
 use Rattle.model.specs.Revision.{rev_cmp}
 use Rattle.revision_tree.specs.Nodes.{IsPlaceOf}
-use Rattle.revision_tree.proofs.Places.{search_knows, search_place}
+use Rattle.revision_tree.proofs.Places.{place_knows, search_knows, search_place}
 use Rattle.revision_tree.proofs.search.place_among.Goals as goal
+
+pub returns-in-Some-clause-known : goal.returns-in-Some-clause-known
+returns-in-Some-clause-known c =
+    sym (place_knows c.args.nodes.now c.args.rev c.in-Some.place c.requires c.in-Some.ensures)
 
 pub returns-clause-known : goal.returns-clause-known
 returns-clause-known c =

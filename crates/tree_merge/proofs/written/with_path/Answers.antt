@@ -12,6 +12,15 @@ returns-in_err-grafted-clause-refused c =
     let same = same_fault c.from_residual.result c.in_err-grafted.field-0.0 c.from_residual.ensures.1 in
     (λ e. law.0 (c.in_err-grafted.ensures.refused.0 (sym same ∙ e)), λ e. same ∙ c.in_err-grafted.ensures.refused.1 (law.1 e))
 
+pub returns-then-is_shallow-clause-written : goal.returns-then-is_shallow-clause-written
+returns-then-is_shallow-clause-written c =
+    written_ok c.args.limit (option_copied c.args.tree) c.args.path.now (arc_value c.args.body) c.args.deleted c.in_ok-grafted.grafted c.in_ok-grafted.ensures.grafted ∙ ap Ok (c.is_shallow.ensures.kept c.if-is_shallow.true)
+
+pub returns-then-is_shallow-clause-refused : goal.returns-then-is_shallow-clause-refused
+returns-then-is_shallow-clause-refused c =
+    let law = written_refused c.args.limit (option_copied c.args.tree) c.args.path.now (arc_value c.args.body) c.args.deleted in
+    (λ e. absurd (ok_only (Ok c.in_ok-grafted.grafted) c.in_ok-grafted.grafted refl e), λ e. absurd (none-some _ (sym (law.1 e) ∙ c.in_ok-grafted.ensures.grafted)))
+
 pub returns-in_err-stemmed-clause-refused : goal.returns-in_err-stemmed-clause-refused
 returns-in_err-stemmed-clause-refused c =
     let law = written_refused c.args.limit (option_copied c.args.tree) c.args.path.now (arc_value c.args.body) c.args.deleted in

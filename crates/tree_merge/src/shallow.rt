@@ -1,0 +1,20 @@
+//! Whether a stem has anything to take.
+ghost use Rattle.std.specs.Prelude.{◌≡◌, true};
+ghost use Rattle.model.specs.Tree.{IsTree};
+ghost use Rattle.model.specs.TreeChange.{stem as stemming};
+
+use revision_tree::RevTree;
+
+/// Whether the oldest revision is fewer than `limit` generations above the newest: then a stem keeps all. Looks at two revisions.
+pub(crate) fn is_shallow(tree: &RevTree, limit: u32) -> bool
+    ensures kept { result ≡ true → stemming limit tree.now ≡ tree.now }
+    ensures tree { IsTree tree.now }
+{
+    let nodes = tree.nodes();
+    let [oldest, ..] = nodes else {
+        return false;
+    };
+    let oldest = oldest.rev.generation();
+    let newest = nodes[nodes.len() - 1].rev.generation();
+    newest.saturating_sub(oldest) < limit
+}
