@@ -119,7 +119,7 @@ pub fn open<R: Wait + Drop, J: Opening, G: Gate + Drop>(
     let (book, front) = book.named::<J>();
     let (line, clerk) = queue.named::<J>();
     let (core, first, ends) = begin(alloc, config, rt, book, front, &line, clerk)?;
-    let shared = Shared::new(line, gate, config.limits().queue, core);
+    let shared = Shared::new(line, gate, config, core);
     match share(alloc, config, shared, first, ends) {
         Ok(made) => Ok(made),
         Err(_) => Err(Fault::Memory),

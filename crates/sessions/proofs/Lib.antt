@@ -1,3 +1,4 @@
+pub mod Looking
 pub mod Receipts
 pub mod LastTold
 pub mod Crossing

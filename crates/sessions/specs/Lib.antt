@@ -1,3 +1,4 @@
 pub mod Known
 pub mod Calls
 pub mod Ends
+pub mod Compactions

@@ -1,5 +1,6 @@
 //! Why a call has no answer.
 
+use compactor::CopyFault;
 use thiserror::Error;
 
 /// Why a call has no answer. Only after `Lost` is the session of no more use.
@@ -21,4 +22,26 @@ pub enum Fault {
     /// A reader, an entry or a share was refused. The call left no entry, and nothing changed.
     #[error("the entry was refused")]
     EntryRefused,
+    /// Others wrote faster than the compaction could catch up, as often as it is tried. It left no
+    /// entry.
+    #[error("behind")]
+    Behind,
+    /// So much was purged meanwhile that the compaction can't catch up. It left no entry.
+    #[error("overrun")]
+    Overrun,
+}
+
+impl From<CopyFault> for Fault {
+    ghost use Rattle.std.specs.Prelude.{◌≡◌};
+    ghost use Rattle.sessions.specs.Compactions.{fault_of};
+
+    ghost from_gives = { λ copied fault. fault ≡ fault_of copied };
+
+    fn from(fault: CopyFault) -> Fault {
+        match fault {
+            CopyFault::Behind => Fault::Behind,
+            CopyFault::Overrun => Fault::Overrun,
+            CopyFault::Memory => Fault::Memory,
+        }
+    }
 }

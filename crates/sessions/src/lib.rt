@@ -1,12 +1,16 @@
 //! A session of a database that many threads share: its calls, and what it has seen.
 #![tactic(auto)]
 
+mod compacting;
+mod copying;
 mod ended;
 mod fault;
 mod receipt;
 mod session;
 mod shared;
 mod snapshot;
+mod swapping;
+mod waiting;
 mod writing;
 
 pub use ended::Ended;

@@ -1,24 +1,24 @@
 //! What all sessions of a database share.
 
+use commands::Config;
 use std::sync::Mutex;
 use turns::{Line, Queued};
 
-/// The queue of jobs, the gate, and behind its lock what the updater holds, `C`.
+/// The queue of jobs, the gate, the configuration, and behind its lock what the updater holds, `C`.
 #[derive(Drop)]
 pub struct Shared<C: Drop, J: Queued, G: Drop> {
     pub(crate) line: Line<J>,
     pub(crate) gate: G,
-    /// At most so many rounds a call.
-    pub(crate) rounds: u16,
+    pub(crate) config: Config,
     pub(crate) core: Mutex<C>,
 }
 
 impl<C: Drop, J: Queued, G: Drop> Shared<C, J, G> {
-    pub fn new(line: Line<J>, gate: G, rounds: u16, core: C) -> Shared<C, J, G> {
+    pub fn new(line: Line<J>, gate: G, config: Config, core: C) -> Shared<C, J, G> {
         Shared {
             line,
             gate,
-            rounds,
+            config,
             core: Mutex::new(core),
         }
     }

@@ -88,13 +88,14 @@ fn serve<R: Wait + Drop, J: Opening, G: Gate + Drop, W: Wait>(
     ensures ticket { ticket.new ≡ record ticket.old { gone = ticket.new.gone } }
     ensures gone { IfSome result (λ _. ticket.new.gone ≡ ticket.new.pushed) }
 {
+    let rounds = shared.config.limits().queue;
     let mut core = shared.core.lock(rt);
-    core.serve(rt, &shared.line, &shared.gate, ticket, shared.rounds)
+    core.serve(rt, &shared.line, &shared.gate, ticket, rounds)
 }
 
 impl<C: Drop, J: Opening, G: Drop> Session<C, J, G> {
     /// The seat of the next call.
-    fn seat(&self) -> Seat
+    pub(crate) fn seat(&self) -> Seat
         ensures { result ≡ next_seat self.now }
     {
         let Some(seat) = Seat::new(self.number, self.calls + 1) else {
@@ -123,7 +124,12 @@ impl<C: Drop, J: Opening, G: Drop> Session<C, J, G> {
     }
 
     /// The call has an entry: a receipt, where that is this session's next call, as it was asked.
-    fn receive(&mut self, answer: Answer<J>, asked: &Command, seat: Seat) -> Result<Receipt, Fault>
+    pub(crate) fn receive(
+        &mut self,
+        answer: Answer<J>,
+        asked: &Command,
+        seat: Seat,
+    ) -> Result<Receipt, Fault>
         requires seat { seat ≡ next_seat self.old }
         ensures receipt { IfOk result (λ receipt. Writes self.old asked.now receipt self.new) }
         ensures lost { IfErr result (λ e. e ≡ fault.Lost) }
@@ -147,7 +153,7 @@ impl<C: Drop, J: Opening, G: Drop> Session<C, J, G> {
     }
 
     /// The history has no place left.
-    fn receive_full(&mut self, filled: Filled<J>) -> Fault
+    pub(crate) fn receive_full(&mut self, filled: Filled<J>) -> Fault
         ensures fault { (result ≡ fault.Full) ⊎ (result ≡ fault.Lost) }
         ensures full { result ≡ fault.Full → Looks self.old self.new }
         ensures when_full { result ≡ fault.Full → length (seen self.new) ≡ J.max_places }
@@ -176,7 +182,7 @@ impl<C: Drop, J: Opening, G: Drop> Session<C, J, G> {
     }
 
     /// What became of a call is not known.
-    fn lose(&mut self) -> Fault
+    pub(crate) fn lose(&mut self) -> Fault
         ensures fault { result ≡ fault.Lost }
         ensures lost { self.new ≡ record self.old { lost = true } }
     {

@@ -7,6 +7,8 @@ use commands::{Config, Limits, MAX_PLACES};
 pub(crate) enum Work {
     /// One writes a document, and once more where memory was refused.
     Write,
+    /// One writes three documents and compacts, and compacts once more where memory was refused.
+    Compact,
     /// Each looks so often, with a snapshot of its own.
     Looks(u32),
     /// Each sees so often what is published.
@@ -26,6 +28,7 @@ pub(crate) struct Plan {
 pub(crate) fn read(words: &[String]) -> Option<Plan> {
     match words {
         [_, name] if name.as_str() == "write" => of_numbers(1, 1, Work::Write),
+        [_, name] if name.as_str() == "compact" => of_numbers(1, 1, Work::Compact),
         [_, name, threads, times] if name.as_str() == "looks" => {
             of_numbers(number(threads)?, 1, Work::Looks(times.parse().ok()?))
         }

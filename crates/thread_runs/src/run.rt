@@ -2,7 +2,7 @@
 ghost use Rattle.std.specs.Prelude.{◌≡◌};
 
 use crate::plan::{Plan, Work};
-use crate::work::{Told, look_often, refresh_often, write, write_all, write_twice};
+use crate::work::{Told, compact_twice, look_often, refresh_often, write, write_all, write_twice};
 use history_lock::{Opened, open};
 use sessions::Session;
 use std::alloc::Global;
@@ -15,7 +15,7 @@ use updating::{Core, NoGate, Opening};
 /// What a run comes to.
 #[derive(Debug, Clone, Copy)]
 pub(crate) struct Outcome {
-    /// What a single write was answered, and what the next one was.
+    /// What a single write or compaction was answered, and what the next one was.
     pub(crate) told: [Option<Told>; 2],
     /// How many entries the history has.
     pub(crate) entries: u64,
@@ -62,6 +62,7 @@ fn all_work<J: Opening + Send + Sync, R: Threads + Wait + Sync>(
     let first = sessions.first_mut()?;
     match work {
         Work::Write => return write_twice(rt, alloc, first),
+        Work::Compact => return compact_twice(rt, alloc, first),
         Work::Looks(_) | Work::Refreshes(_) => {
             write(rt, alloc, first, "a")?;
         }
@@ -88,7 +89,7 @@ fn part_of<R: Wait, C: Wait + Drop, J: Opening>(
     work: Work,
 ) {
     match work {
-        Work::Write => {}
+        Work::Write | Work::Compact => {}
         Work::Looks(times) => look_often(session, times),
         Work::Refreshes(times) => refresh_often(session, times),
         Work::Writes(times) => {

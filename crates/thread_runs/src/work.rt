@@ -3,7 +3,7 @@
 use commands::{Command, Edit};
 use document_id::DocId;
 use json_profile::Body;
-use sessions::{Fault, Session};
+use sessions::{Fault, Receipt, Session};
 use std::alloc::Global;
 use std::sync::{Arc, Wait};
 use updating::{Core, NoGate, Opening};
@@ -19,12 +19,22 @@ fn put(alloc: Global, id: &str) -> Option<Command> {
     Command::edits(Vec::from_array(alloc, [edit]).ok()?)
 }
 
-/// What a write is answered.
+/// What a write or a compaction is answered.
 #[derive(Debug, Clone, Copy)]
 pub(crate) enum Told {
     Receipt { call: u64, place: u64 },
     /// No receipt, and how many entries the session has then seen.
     Fault { fault: Fault, place: u64 },
+}
+
+fn told_of(answer: Result<Receipt, Fault>, place: u64) -> Told {
+    match answer {
+        Ok(receipt) => Told::Receipt {
+            call: receipt.seat.call(),
+            place: receipt.place,
+        },
+        Err(fault) => Told::Fault { fault, place },
+    }
 }
 
 /// Writes a document, if memory is not refused before.
@@ -35,16 +45,8 @@ pub(crate) fn write<R: Wait, C: Wait + Drop, J: Opening>(
     id: &str,
 ) -> Option<Told> {
     let command = put(alloc, id)?;
-    match session.write(rt, command) {
-        Ok(receipt) => Some(Told::Receipt {
-            call: receipt.seat.call(),
-            place: receipt.place,
-        }),
-        Err(fault) => Some(Told::Fault {
-            fault,
-            place: session.place(),
-        }),
-    }
+    let answer = session.write(rt, command);
+    Some(told_of(answer, session.place()))
 }
 
 /// Writes a document, and once more where there was no receipt.
@@ -58,6 +60,33 @@ pub(crate) fn write_twice<R: Wait, C: Wait + Drop, J: Opening>(
         return Some([Some(told), None]);
     }
     Some([Some(told), write(rt, alloc, session, "a")])
+}
+
+fn compact<R: Wait, C: Wait + Drop, J: Opening>(
+    rt: &R,
+    session: &mut Session<Core<C, J>, J, NoGate>,
+) -> Told {
+    let answer = session.compact(rt);
+    told_of(answer, session.place())
+}
+
+/// Writes three documents, if memory is not refused before, and compacts; once more where there was no
+/// receipt.
+pub(crate) fn compact_twice<R: Wait, C: Wait + Drop, J: Opening>(
+    rt: &R,
+    alloc: Global,
+    session: &mut Session<Core<C, J>, J, NoGate>,
+) -> Option<[Option<Told>; 2]> {
+    for id in ["a", "b", "c"] {
+        let Told::Receipt { .. } = write(rt, alloc, session, id)? else {
+            return None;
+        };
+    }
+    let told = compact(rt, session);
+    if matches!(told, Told::Receipt { .. }) {
+        return Some([Some(told), None]);
+    }
+    Some([Some(told), Some(compact(rt, session))])
 }
 
 /// Writes so many documents of its own.

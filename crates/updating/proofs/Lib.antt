@@ -4,3 +4,4 @@ pub mod Slots
 pub mod States
 pub mod Worlds
 pub mod Crossing
+pub mod Swaps

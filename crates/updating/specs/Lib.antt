@@ -4,3 +4,5 @@ pub mod Fates
 pub mod Drafts
 pub mod State
 pub mod Worlds
+pub mod SwapFaults
+pub mod Swaps

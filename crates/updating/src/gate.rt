@@ -7,6 +7,12 @@ pub enum Point {
     Pushed,
     /// A batch was popped, and is neither published nor given up yet. The lock is held.
     Popped,
+    /// A slice of a compaction's copy is made.
+    Sliced,
+    /// A compaction's copy has caught up, and the lock is not yet asked for.
+    CaughtUp,
+    /// A compaction's copy is about to be swapped in. The lock is held.
+    Finishing,
 }
 
 /// What is called at each point, with the number of the session whose call it is.

@@ -1,4 +1,5 @@
-//! What the updater does under its lock: it pops jobs into a batch, and publishes the batch or gives it up.
+//! What the updater does under its lock: it pops jobs into a batch, and publishes the batch or gives it up;
+//! and it swaps in the copy of a compaction.
 #![tactic(auto)]
 
 mod answer;
@@ -11,9 +12,10 @@ mod outcome;
 mod outcomes;
 mod publication;
 mod rounds;
+mod swapping;
 
 pub use answer::{Answer, Filled};
-pub use fault::PutFault;
+pub use fault::{PutFault, SwapFault};
 pub use gate::{Gate, NoGate, Point};
 pub use locked::Core;
 pub use naming::Opening;

@@ -27,7 +27,7 @@ pub struct Core<R: Wait + Drop, J: Opening> {
     alloc: Global,
     pub(crate) gather: u16,
     max_places: u32,
-    book: Book<J>,
+    pub(crate) book: Book<J>,
     pub(crate) current: Published<J>,
     pub(crate) batch: Vec<Job>,
     pub(crate) outcomes: Outcomes<J>,
@@ -50,7 +50,7 @@ impl<R: Wait + Drop, J: Opening> Model for Core<R, J> {
 
     ghost view = { λ c. record { published = c.current; popped = c.clerk.taken; batch = c.batch.items; outcomes = c.outcomes.items } };
 
-    ghost invariant = { λ c. (c.max_places ≡ J.max_places) × (c.gather ≤ vec_capacity c.batch) × (c.clerk.made ≤ length c.outcomes.items) × MayFollow (replay opening_base (newest c.current)) c.batch.items };
+    ghost invariant = { λ c. (c.max_places ≡ J.max_places) × (c.gather ≤ vec_capacity c.batch) × (c.clerk.made ≤ length c.outcomes.items) × (length (newest c.current) ≤ J.max_places) × MayFollow (replay opening_base (newest c.current)) c.batch.items };
 }
 
 impl<R: Wait + Drop, J: Opening> Core<R, J> {
@@ -65,6 +65,7 @@ impl<R: Wait + Drop, J: Opening> Core<R, J> {
     ) -> Result<Core<R, J>, AllocError>
         requires max_places { config.max_places ≡ J.max_places }
         requires sessions { clerk.made ≤ config.sessions }
+        requires few { length (newest current) ≤ J.max_places }
         ensures { IfOk result (λ core. core ≡ record { published = current; popped = clerk.taken; batch = []; outcomes = replicate config.sessions None }) }
     {
         let limits = config.limits();

@@ -12,6 +12,7 @@ invariant_of-self g c =
       old.0,
       omega (arith, old.1, c.clear.ensures.capacity),
       omega (arith, old.2, length-given_up _ _ _ c.self.inside.outcomes.items c.give_up_all.new.outcomes.items c.give_up_all.ensures),
+      old.3,
       subst (MayFollow (replay opening_base (newest c.self.inside.current))) (sym c.clear.ensures.items) tt,
     )
 

@@ -1,7 +1,9 @@
-use Rattle.std.proofs.Common.{rules, refl, subst, sym, arith}
+use Rattle.std.proofs.Common.{rules, refl, subst, sym, ap, length, arith}
 use Rattle.model.specs.History.{replay}
 use Rattle.publications.specs.Histories.{opening_base, newest}
 use Rattle.updater.specs.Batches.{MayFollow}
+use Rattle.updating.specs.State.{State}
+use Rattle.updating.proofs.Swaps.{few_with}
 use Rattle.updating.proofs.Worlds.{put_is_event, put_nothing_is_event}
 use Rattle.updating.proofs.locked.Core.put.Goals as goal
 
@@ -11,6 +13,8 @@ invariant_of-self g c =
       old.0,
       omega (arith, old.1, c.clear.ensures.capacity),
       omega (arith, old.2, c.answer_all.ensures.count),
+      few_with g.J.Opening.max_places c.self.inside.current c.put_in_place.new.current c.self.inside.batch.items (search rules)
+          (omega (arith, c.if-len-room.false, c.len.ensures, c.room.ensures, old.3, ap (λ (s : State). length (newest s.published)) c.self.view_is)),
       subst (MayFollow (replay opening_base (newest c.put_in_place.new.current))) (sym c.clear.ensures.items) tt,
     )
 

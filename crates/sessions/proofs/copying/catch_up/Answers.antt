@@ -1,0 +1,17 @@
+use Rattle.std.proofs.Common.{◌∙◌, ap, sym, length, length-drop}
+use Rattle.model.specs.Database.{Database}
+use Rattle.model.specs.History.{now}
+use Rattle.model.specs.Compaction.{Marks, Touched, touched}
+use Rattle.model.proofs.TouchedLaws.{touched-rest}
+use Rattle.sessions.proofs.Looking.{passed_copy}
+use Rattle.sessions.proofs.copying.catch_up.Goals as goal
+
+pub returns-clause-rest : goal.returns-clause-rest
+returns-clause-rest c =
+    let d : Database = now c.args.version.now in
+    let m = c.args.copy.now.marks in
+    let n = c.args.n in
+    c.in_ok-left.ensures.left
+    ∙ sym (length-drop n (touched d m))
+    ∙ ap length (sym (touched-rest d m n c.place-place.ensures.history.database.log.numbered))
+    ∙ ap (λ (k : Marks). length (touched d k)) (sym c.in_ok-left.ensures.passed)

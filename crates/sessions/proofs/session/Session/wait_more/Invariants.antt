@@ -1,0 +1,9 @@
+use Rattle.std.proofs.Common.{◌≡◌, false}
+use Rattle.sessions.specs.Calls.{Looks}
+use Rattle.sessions.proofs.session.Session.wait_more.Given as goal
+
+abbrev pub invariant-loop-turn : goal.invariant-loop-turn
+invariant-loop-turn g l = record {
+  looked : Looks l.fn.self l.self;
+  known : l.self.lost ≡ false;
+}

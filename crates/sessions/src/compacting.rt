@@ -1,0 +1,143 @@
+//! How a session compacts.
+ghost use Rattle.std.specs.Prelude.{◌≡◌, ◌≢◌, length, true, false, Err, IfOk, IfErr, IfSome, IfNone, IsSome};
+ghost use Rattle.model.specs.Command.{Compact};
+ghost use Rattle.model.specs.History.{Extends};
+ghost use Rattle.sessions.specs.Known.{seen};
+ghost use Rattle.sessions.specs.Calls.{Looks, Writes, next_seat};
+ghost use Rattle.sessions.specs.Compactions.{Leaves, chronicle_of};
+ghost use Rattle.sessions.specs.declared.fault.Fault.TheVariants as fault;
+
+use crate::copying::{catch_up_all, slice_all};
+use crate::fault::Fault;
+use crate::receipt::Receipt;
+use crate::session::Session;
+use crate::swapping::{Swapped, swap};
+use commands::{Command, Seat};
+use compactor::Compaction;
+use std::sync::Wait;
+use updating::{Answer, Core, Gate, Opening, Point};
+
+impl<R: Wait + Drop, J: Opening, G: Gate + Drop> Session<Core<R, J>, J, G> {
+    /// Compacts the database, while others read and write. It makes a copy of what it sees, which
+    /// catches up with what was written meanwhile, and waits for the updater's lock only to swap the
+    /// copy in, as often as it may be tried.
+    ///
+    /// After a fault but `Lost` it left no entry: the next receipt has exactly the calls with a receipt.
+    pub fn compact<W: Wait>(&mut self, rt: &W) -> Result<Receipt, Fault>
+        ensures receipt { IfOk result (λ receipt. Writes self.old Compact receipt self.new) }
+        ensures memory { result ≡ Err fault.Memory → Looks self.old self.new }
+        ensures behind { result ≡ Err fault.Behind → Looks self.old self.new }
+        ensures overrun { result ≡ Err fault.Overrun → Looks self.old self.new }
+        ensures entry_refused { result ≡ Err fault.EntryRefused → Looks self.old self.new }
+        ensures full { result ≡ Err fault.Full → Looks self.old self.new }
+        ensures when_full { result ≡ Err fault.Full → length (seen self.new) ≡ J.max_places }
+        ensures lost { result ≡ Err fault.Lost → Looks (record self.old { lost = true }) self.new }
+        ensures for_ever { self.old.lost ≡ true → result ≡ Err fault.Lost }
+        ensures for_ever_same { self.old.lost ≡ true → self.new ≡ self.old }
+        ensures not_busy { result ≢ Err fault.Busy }
+    {
+        let _place = self.place();
+        self.refresh()?;
+        self.compact_seen(rt)
+    }
+
+    /// Compacts what was seen.
+    fn compact_seen<W: Wait>(&mut self, rt: &W) -> Result<Receipt, Fault>
+        requires known { self.old.lost ≡ false }
+        ensures receipt { IfOk result (λ receipt. Writes self.old Compact receipt self.new) }
+        ensures fault { IfErr result (λ e. Leaves J.max_places e self.old self.new) }
+    {
+        let _place = self.place();
+        let mut copy = Compaction::start(self.alloc, self.version())?;
+        self.compact_with(rt, &mut copy)
+    }
+
+    /// Makes the copy and has it swapped in, as often as that may be tried.
+    fn compact_with<W: Wait>(&mut self, rt: &W, copy: &mut Compaction) -> Result<Receipt, Fault>
+        requires known { self.old.lost ≡ false }
+        requires follows { Extends (chronicle_of self.old) copy.old.seen }
+        ensures receipt { IfOk result (λ receipt. Writes self.old Compact receipt self.new) }
+        ensures fault { IfErr result (λ e. Leaves J.max_places e self.old self.new) }
+    {
+        let _place = self.place();
+        slice_all(&self.shared, self.number, copy)?;
+        for _try in 0..self.shared.config.limits().tries {
+            if let Some(receipt) = self.attempt(rt, copy)? {
+                return Ok(receipt);
+            }
+        }
+        Err(Fault::Behind)
+    }
+
+    /// Has the copy catch up with what is published now, and swaps it in; no receipt where others wrote
+    /// too much meanwhile.
+    fn attempt<W: Wait>(&mut self, rt: &W, copy: &mut Compaction) -> Result<Option<Receipt>, Fault>
+        requires known { self.old.lost ≡ false }
+        requires sliced { copy.old.left ≡ 0 }
+        requires follows { Extends (chronicle_of self.old) copy.old.seen }
+        ensures receipt { IfOk result (λ found. IfSome found (λ receipt. Writes self.old Compact receipt self.new)) }
+        ensures behind { IfOk result (λ found. IfNone found (Looks self.old self.new)) }
+        ensures sliced { IfOk result (λ found. IfNone found (copy.new.left ≡ 0)) }
+        ensures follows { IfOk result (λ found. IfNone found (Extends (chronicle_of self.new) copy.new.seen)) }
+        ensures fault { IfErr result (λ e. Leaves J.max_places e self.old self.new) }
+    {
+        let _place = self.place();
+        self.refresh()?;
+        self.swap_seen(rt, copy)
+    }
+
+    /// Has the copy catch up with what was seen, and swaps it in.
+    fn swap_seen<W: Wait>(
+        &mut self,
+        rt: &W,
+        copy: &mut Compaction,
+    ) -> Result<Option<Receipt>, Fault>
+        requires sliced { copy.old.left ≡ 0 }
+        requires follows { Extends (chronicle_of self.old) copy.old.seen }
+        ensures receipt { IfOk result (λ found. IfSome found (λ receipt. Writes self.old Compact receipt self.new)) }
+        ensures behind { IfOk result (λ found. IfNone found (self.new ≡ self.old)) }
+        ensures sliced { IfOk result (λ found. IfNone found (copy.new.left ≡ 0)) }
+        ensures follows { IfOk result (λ found. IfNone found (copy.new.seen ≡ chronicle_of self.new)) }
+        ensures fault { IfErr result (λ e. Leaves J.max_places e self.old self.new) }
+    {
+        let _place = self.place();
+        let n = self.shared.config.limits().slice as u64;
+        catch_up_all(copy, self.latest.version(), n)?;
+        self.shared.gate.at(Point::CaughtUp, self.number);
+        let seat = self.seat();
+        let swapped = swap(rt, &self.shared, &self.latest, copy, seat);
+        self.settle_swap(swapped, seat)
+    }
+}
+
+impl<C: Drop, J: Opening, G: Drop> Session<C, J, G> {
+    /// What became of a try.
+    fn settle_swap(&mut self, swapped: Swapped<J>, seat: Seat) -> Result<Option<Receipt>, Fault>
+        requires seat { seat ≡ next_seat self.old }
+        ensures receipt { IfOk result (λ found. IfSome found (λ receipt. Writes self.old Compact receipt self.new)) }
+        ensures behind { IfOk result (λ found. IfNone found (self.new ≡ self.old)) }
+        ensures fault { IfErr result (λ e. Leaves J.max_places e self.old self.new) }
+    {
+        let _place = self.place();
+        match swapped {
+            Swapped::Stood(answer) => self.receive_swap(answer, seat),
+            Swapped::Behind => Ok(None),
+            Swapped::Overrun => Err(Fault::Overrun),
+            Swapped::Memory => Err(Fault::Memory),
+            Swapped::Full(filled) => Err(self.receive_full(filled)),
+            Swapped::Lost => Err(self.lose()),
+        }
+    }
+
+    /// The compaction has an entry.
+    fn receive_swap(&mut self, answer: Answer<J>, seat: Seat) -> Result<Option<Receipt>, Fault>
+        requires seat { seat ≡ next_seat self.old }
+        ensures receipt { IfOk result (λ found. IfSome found (λ receipt. Writes self.old Compact receipt self.new)) }
+        ensures some { IfOk result IsSome }
+        ensures fault { IfErr result (λ e. Leaves J.max_places e self.old self.new) }
+    {
+        let _place = self.place();
+        let receipt = self.receive(answer, &Command::compact(), seat)?;
+        Ok(Some(receipt))
+    }
+}

@@ -1,0 +1,46 @@
+use Rattle.std.proofs.Common.{◌≡◌, ◌+◌, ◌≤◌, ◌∙◌, ◌∷◌, [], ◌++◌, List, Some, ap, sym, subst, length, arith}
+use Rattle.model.specs.Command.{Entry}
+use Rattle.model.specs.History.{Chronicle}
+use Rattle.publications.specs.Histories.{newest, IsNewest}
+use Rattle.updating.specs.State.{published_with}
+use Rattle.updating.specs.Swaps.{compaction_of}
+use Rattle.updating.proofs.Published.{applied, is_newest}
+use Rattle.updating.proofs.Swaps.{newest_with, length-newest_with, entry_stands}
+use Rattle.updating.proofs.swapping.publish_copy.Goals as goal
+
+pub new-found-requires : goal.new-found-requires
+new-found-requires g c =
+    let v = c.in_ok-version.version in
+    let current = c.args.current.now in
+    let made = applied v c.version-latest.result.now current (compaction_of c.args.seat ∷ []) c.in_ok-version.ensures.compacted c.version-latest.ensures.newest in
+    record { newest = subst (IsNewest v) (sym c.again.ensures.same) (is_newest v c.again-front.result c.publish.new.self (ap (λ (k : Chronicle). k.base) made) c.if-not-publish.ensures.published) }
+
+pub new-answered-requires : goal.new-answered-requires
+new-answered-requires g c =
+    let v = c.in_ok-version.version in
+    let current = c.args.current.now in
+    let made = applied v c.version-latest.result.now current (compaction_of c.args.seat ∷ []) c.in_ok-version.ensures.compacted c.version-latest.ensures.newest in
+    record { newest = subst (λ (k : Chronicle). IsNewest k c.publish.new.self) (sym c.in_ok-shared.ensures.same) (is_newest v c.again-front.result c.publish.new.self (ap (λ (k : Chronicle). k.base) made) c.if-not-publish.ensures.published) }
+
+pub new-requires-2-clause-counted : goal.new-requires-2-clause-counted
+new-requires-2-clause-counted g c =
+    let v = c.in_ok-version.version in
+    let current = c.args.current.now in
+    let made = applied v c.version-latest.result.now current (compaction_of c.args.seat ∷ []) c.in_ok-version.ensures.compacted c.version-latest.ensures.newest in
+    let newest_is = is_newest v c.again-front.result c.publish.new.self (ap (λ (k : Chronicle). k.base) made) c.if-not-publish.ensures.published in
+    omega (arith, c.publication-count.ensures.few, c.place-place.ensures.place, ap length newest_is.entries, ap (λ (l : List (List Entry)). length (newest l)) c.new-answered.ensures.front)
+
+pub new-requires-2-clause-stands : goal.new-requires-2-clause-stands
+new-requires-2-clause-stands g c =
+    let v = c.in_ok-version.version in
+    let current = c.args.current.now in
+    let jobs = compaction_of c.args.seat ∷ [] in
+    let made = applied v c.version-latest.result.now current jobs c.in_ok-version.ensures.compacted c.version-latest.ensures.newest in
+    let entries = ap (λ (k : Chronicle). k.entries) made in
+    let before = c.again-front.ensures.same ∙ c.front.ensures.front in
+    let found : c.new-answered.result ≡ published_with current jobs =
+    c.new-answered.ensures.front ∙ c.if-not-publish.ensures.published
+    ∙ (λ i. before i ++ entries i ∷ [])
+    in
+    let place : c.place-place.result ≡ length (newest current) + 1 = omega (arith, c.place-place.ensures.place, ap length entries, length-newest_with current c.args.seat, ap length (newest_with current jobs)) in
+    entry_stands c.new-answered.result current c.args.seat c.place-place.result found place ∙ ap Some (sym c.new.ensures.reply)
