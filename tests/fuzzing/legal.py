@@ -35,6 +35,7 @@ class Maker:
         self.kinds = [
             (self.put, 6), (self.get, 6), (self.root, 1),
             (self.delete, 3), (self.bulk, 4), (self.merge, 6), (self.diff, 3), (self.limit, 2),
+            (self.purge, 3), (self.compact, 1),
             (self.info, 1), (self.changes, 4), (self.all_docs, 1), (self.local, 4),
         ]
 
@@ -157,6 +158,13 @@ class Maker:
         asked = {id: [self.rev_text(id) for _ in range(self.random.randint(0, 4))] for id in self.some(IDS, 0.5)}
         return "POST", "/db/_revs_diff", asked
 
+    def purge(self):
+        asked = {id: [self.rev_text(id) for _ in range(self.random.randint(0, 3))] for id in self.some(IDS, 0.3)}
+        return "POST", "/db/_purge", asked
+
+    def compact(self):
+        return "POST", "/db/_compact", self.random.choice([None, "", "{}", "{"])
+
     def limit(self):
         if self.maybe(0.2):
             return "GET", "/db/_revs_limit", None
@@ -177,7 +185,7 @@ class Maker:
                 "since=" + self.random.choice(["now", "0", str(self.random.randint(0, top + 1))]),
                 "limit=%d" % self.random.randint(0, 6),
                 "style=" + self.random.choice(["main_only", "all_docs"]),
-                "feed=normal",
+                "feed=" + self.random.choice(["normal", "longpoll"]),
             ],
             0.6,
         )

@@ -84,6 +84,17 @@ def revs_diff(asked):
     return Answer(200, queries.revs_diff(asked.database, bodies.asked_revisions(asked.body)))
 
 
+def purge(asked):
+    removed = asked.session.purge(bodies.asked_revisions(asked.body))
+    purged = {id: queries.texts(leaves) for id, leaves in removed.items()}
+    return Answer(201, {"purge_seq": asked.database.purge_seq, "purged": purged})
+
+
+def compact(asked):
+    asked.session.compact()
+    return Answer(202, {"ok": True})
+
+
 def get_limit(asked):
     return Answer(200, asked.database.revs_limit)
 
@@ -122,7 +133,8 @@ def changes(asked):
     parameters = asked.parameters
     parameters.refuse(["include_docs", "descending"], ["true"])
     parameters.refuse(["filter", "view"])
-    parameters.word("feed", ["normal"], "normal")  # the other feeds come later
+    # with one session there is nothing that a long poll could wait for; the other feed comes later
+    parameters.word("feed", ["normal", "longpoll"], "normal")
     style = parameters.word("style", ["main_only", "all_docs"], "main_only")
     now = parameters.get("since") == "now"
     since = asked.database.update_seq if now else parameters.number("since") or 0
@@ -140,6 +152,8 @@ ACTIONS = {
     ("database", "GET"): lambda asked: Answer(200, queries.info(asked.database)),
     ("bulk", "POST"): bulk,
     ("revs_diff", "POST"): revs_diff,
+    ("purge", "POST"): purge,
+    ("compact", "POST"): compact,
     ("revs_limit", "GET"): get_limit,
     ("revs_limit", "PUT"): put_limit,
     ("changes", "GET"): changes,

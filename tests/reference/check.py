@@ -14,7 +14,7 @@ sys.path.insert(0, TESTS)
 from reference import json_profile, once, queries, revisions, trees  # noqa: E402
 from reference.database import Database, Merge  # noqa: E402
 
-STATUS = {200: "200 OK", 201: "201 Created", 400: "400 Bad Request", 404: "404 Not Found", 405: "405 Method Not Allowed", 409: "409 Conflict"}
+STATUS = {200: "200 OK", 201: "201 Created", 202: "202 Accepted", 400: "400 Bad Request", 404: "404 Not Found", 405: "405 Method Not Allowed", 409: "409 Conflict"}
 
 
 def md5(text):
@@ -41,14 +41,31 @@ NUMBER = '{"error":"bad_request","reason":"number"}'
 DEPTH = '{"error":"bad_request","reason":"depth"}'
 JSON = '{"error":"bad_request","reason":"json"}'
 MEMBER = '{"error":"bad_request","reason":"member"}'
+METHOD = '{"error":"method_not_allowed","reason":"Method not allowed."}'
+DONE = '{"ok":true}'
 
 
 def written(id, rev):
     return '{"id":"%s","ok":true,"rev":"%s"}' % (id, rev)
 
 
-def info(documents, deleted, update_seq):
-    return '{"db_name":"db","doc_count":%d,"doc_del_count":%d,"purge_seq":0,"update_seq":%d}' % (documents, deleted, update_seq)
+def info(documents, deleted, update_seq, purge_seq=0):
+    return '{"db_name":"db","doc_count":%d,"doc_del_count":%d,"purge_seq":%d,"update_seq":%d}' % (documents, deleted, purge_seq, update_seq)
+
+
+def purged(purge_seq, **leaves):
+    listed = ['"%s":[%s]' % (id, ",".join('"%s"' % rev for rev in revs)) for id, revs in leaves.items()]
+    return '{"purge_seq":%d,"purged":{%s}}' % (purge_seq, ",".join(listed))
+
+
+def infos(rev, *statuses):
+    """A document whose body has `n` 1, with the statuses of its path."""
+    listed = ",".join('{"rev":"%s","status":"%s"}' % pair for pair in statuses)
+    return '{"_id":"a","_rev":"%s","_revs_info":[%s],"n":1}' % (rev, listed)
+
+
+def path(*revs):
+    return '"_revisions":{"ids":[%s],"start":%s}' % (",".join('"%s"' % rev[2:] for rev in revs), revs[0][0])
 
 
 def changes(last_seq, pending, *rows):
@@ -63,7 +80,13 @@ ROW_A = row("a", 4, X2, '"deleted":true,')
 ROW_B = row("b", 2, A1)
 ROW_C = row("c", 3, A1)
 
-# of each transcript its responses: status, place, body
+PATH_B = path(h("2-b*"), h("1-a*"))
+PATH_C = path(h("2-c*"), h("1-a*"))
+OPEN_B = '{"ok":{"_id":"d","_rev":"%s",%s}}' % (h("2-b*"), PATH_B)
+OPEN_C = '{"ok":{"_id":"d","_rev":"%s",%s}}' % (h("2-c*"), PATH_C)
+ROW_D = '{"changes":[{"rev":"%s"},{"rev":"%s"}],"id":"d","seq":2}' % (h("2-c*"), h("2-b*"))
+
+# of each transcript its responses: status, place, body, and further lines of the head
 WORKED = {
     "first-path/put-once": [(201, 1, written("a", A1))],
     "first-path/put-twice": [(201, 1, written("a", A1)), (409, 2, CONFLICT)],
@@ -217,6 +240,102 @@ WORKED = {
             % (h("2-b*"), h("2-b*"), h("1-a*")),
         ),
     ],
+    "purges/purge-of-a-leaf": [
+        (201, 1, "[]"),
+        (201, 2, "[]"),
+        (201, 3, purged(1, d=[h("2-c*")], e=[])),
+        (200, 3, info(1, 0, 3, 1)),
+        (200, 3, "[%s]" % OPEN_B),
+    ],
+    "purges/purge-of-an-inner-revision": [
+        (201, 1, "[]"),
+        (201, 2, "[]"),
+        (201, 3, purged(0, d=[])),
+        (200, 3, info(1, 0, 2)),
+        (200, 3, "[%s,%s]" % (OPEN_C, OPEN_B)),
+        (200, 3, changes(2, 0, ROW_D)),
+    ],
+    "purges/purge-of-an-unknown-document": [
+        (201, 1, "[]"),
+        (201, 2, "[]"),
+        (201, 3, purged(0, no=[])),
+        (200, 3, info(1, 0, 2)),
+        (200, 3, "[%s,%s]" % (OPEN_C, OPEN_B)),
+        (200, 3, changes(2, 0, ROW_D)),
+        (404, 3, MISSING),
+    ],
+    "purges/purge-of-all-leaves": [
+        (201, 1, "[]"),
+        (201, 2, "[]"),
+        (201, 3, purged(1, d=[h("2-b*"), h("2-c*")])),
+        (200, 3, info(0, 0, 2, 1)),
+        (200, 3, "[]"),
+        (200, 3, changes(2, 0)),
+        (404, 3, MISSING),
+        (404, 3, MISSING),
+        (200, 3, '{"d":{"missing":["%s","%s"]}}' % (h("2-b*"), h("1-a*"))),
+        (201, 4, written("d", A1)),
+        (200, 4, '{"_id":"d","_rev":"%s",%s}' % (A1, path(A1))),
+        (200, 4, info(1, 0, 3, 1)),
+        (200, 4, changes(3, 0, row("d", 3, A1))),
+    ],
+    "purges/purge-in-the-order-asked": [(201, 1, "[]"), (201, 2, "[]"), (201, 3, purged(1, d=[h("2-c*"), h("2-b*")]))],
+    "purges/purge-by-byte-order": [
+        (201, 1, written("b", A1)),
+        (201, 2, written("é", A1)),
+        (201, 3, written("a", A1)),
+        (201, 4, written("B", A1)),
+        (201, 5, purged(3, **{"B": [A1], "a": [A1], "b": [], "c": [], "é": [A1]})),
+        (200, 5, info(1, 0, 4, 3)),
+        (200, 5, changes(4, 0, row("b", 1, A1))),
+        (200, 5, '{"offset":0,"rows":[{"id":"b","key":"b","value":{"rev":"%s"}}],"total_rows":1}' % A1),
+    ],
+    "compactions/compact-drops-old-bodies": [
+        (201, 1, written("a", A1)),
+        (201, 2, written("a", A2)),
+        (200, 2, '{"_id":"a","_rev":"%s"}' % A1),
+        (202, 3, DONE),
+        (404, 3, MISSING),
+        (200, 3, info(1, 0, 2)),
+        (200, 3, '{"_id":"a","_rev":"%s","n":1}' % A2),
+    ],
+    "compactions/compact-and-the-status": [
+        (201, 1, written("a", A1)),
+        (201, 2, written("a", A2)),
+        (200, 2, infos(A2, (A2, "available"), (A1, "available"))),
+        (202, 3, DONE),
+        (200, 3, infos(A2, (A2, "available"), (A1, "missing")).replace('"_revs_info"', path(A2, A1) + ',"_revs_info"')),
+        (200, 3, '[{"missing":"%s"},{"ok":{"_id":"a","_rev":"%s","n":1}}]' % (A1, A2)),
+        (200, 3, '[{"ok":{"_id":"a","_rev":"%s",%s,"n":1}}]' % (A2, path(A2, A1))),
+    ],
+    "compactions/compact-after-purge": [
+        (201, 1, written("x", A1)),
+        (201, 2, written("y", A1)),
+        (201, 3, purged(1, x=[A1])),
+        (201, 4, written("y", A2)),
+        (202, 5, DONE),
+        (200, 5, info(1, 0, 3, 1)),
+        (200, 5, changes(3, 0, row("y", 3, A2))),
+        (404, 5, MISSING),
+        (200, 5, infos(A2, (A2, "available"), (A1, "missing")).replace('"a"', '"y"')),
+    ],
+    "compactions/method-of-compact": [(405, 0, METHOD, "Allow: POST\r\n")] * 4 + [(200, 0, info(0, 0, 0))],
+    "queries/changes-of-a-long-poll-alone": [
+        (200, 0, changes(0, 0)),
+        (200, 0, changes(0, 0)),
+        (201, 1, written("a", A1)),
+        (201, 2, written("b", A1)),
+        (201, 3, written("c", A1)),
+        (200, 4, written("a", X2)),
+        (200, 4, changes(4, 0, ROW_B, ROW_C, ROW_A)),
+        (200, 4, changes(2, 2, ROW_B)),
+        (200, 4, changes(2, 2, ROW_B)),
+        (200, 4, changes(4, 0, ROW_A)),
+        (200, 4, changes(4, 0)),
+        (200, 4, changes(4, 0)),
+        (200, 4, changes(4, 0)),
+        (200, 4, changes(4, 0, ROW_B, ROW_C, ROW_A)),
+    ],
     "queries/number-below-i64": [
         (201, 1, written("a", LOWEST)),
         (200, 1, '{"_id":"a","_rev":"%s","n":-9223372036854775808}' % LOWEST),
@@ -256,9 +375,9 @@ BROKEN = {
 LENGTHS = [(written("a", A1), 63), (CONFLICT, 57), ('{"_id":"a","_rev":"%s"}' % A1, 55)]
 
 
-def response(status, place, body):
-    head = "HTTP/1.1 %s\r\nContent-Type: application/json\r\nContent-Length: %d\r\nCouch-Place: %d\r\n\r\n"
-    return (head % (STATUS[status], len(body.encode()), place) + body).encode()
+def response(status, place, body, lines=""):
+    head = "HTTP/1.1 %s\r\nContent-Type: application/json\r\nContent-Length: %d\r\nCouch-Place: %d\r\n%s\r\n"
+    return (head % (STATUS[status], len(body.encode()), place, lines) + body).encode()
 
 
 def stored(name, ending):

@@ -116,6 +116,29 @@ class Database:
             self.update_seq += 1
             self.docs[id] = Record(after, self.update_seq)
 
+    # ---- purges and compactions
+
+    def purge(self, asked):
+        """In the order of the identities: of each document asked for, the leaves removed."""
+        return {id: self.purge_document(id, asked[id]) for id in sorted(asked)}
+
+    def purge_document(self, id, named):
+        """A document that loses a leaf takes a purge number, and an update number where a leaf is left; else it is gone."""
+        removed, left = trees.cut(self.tree(id) or {}, named)
+        if removed:
+            self.purge_seq += 1
+            if left:
+                self.update_seq += 1
+                self.docs[id] = Record(left, self.update_seq)
+            else:
+                del self.docs[id]
+        return removed
+
+    def compact(self):
+        """Takes no number."""
+        for record in self.docs.values():
+            record.tree = trees.strip(record.tree)
+
     # ---- local documents
 
     def write_local(self, id, named, body):
@@ -153,6 +176,15 @@ class Session:
     def set_limit(self, limit):
         self.place += 1
         self.database.revs_limit = limit
+
+    def purge(self, asked):
+        """Of each document asked for, the leaves removed."""
+        self.place += 1
+        return self.database.purge(asked)
+
+    def compact(self):
+        self.place += 1
+        self.database.compact()
 
     def write_local(self, id, named, body):
         self.place += 1

@@ -5,6 +5,7 @@ from .database import BAD_HISTORY, CONFLICT, DELETED, GENERATION, MISSING
 REASONS = {
     200: "OK",
     201: "Created",
+    202: "Accepted",
     400: "Bad Request",
     404: "Not Found",
     405: "Method Not Allowed",

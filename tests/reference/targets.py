@@ -13,6 +13,8 @@ ROUTES = [
     ("database", "/db/", ["GET"]),
     ("bulk", "/db/_bulk_docs", ["POST"]),
     ("revs_diff", "/db/_revs_diff", ["POST"]),
+    ("purge", "/db/_purge", ["POST"]),
+    ("compact", "/db/_compact", ["POST"]),
     ("revs_limit", "/db/_revs_limit", ["GET", "PUT"]),
     ("changes", "/db/_changes", ["GET"]),
     ("all_docs", "/db/_all_docs", ["GET"]),

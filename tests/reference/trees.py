@@ -62,6 +62,24 @@ def stem(tree, limit):
     }
 
 
+def cut(tree, named):
+    """The named leaves, in the order named and none of them twice, and the tree without them: each revision goes from which
+    no leaf is left. What is named and no leaf is not removed."""
+    tips = leaves(tree)
+    removed = []
+    for rev in named:
+        if rev in tips and rev not in removed:
+            removed.append(rev)
+    kept = {rev for leaf in tips if leaf not in removed for rev in path_of(tree, leaf)}
+    return removed, {rev: tree[rev] for rev in kept}
+
+
+def strip(tree):
+    """Without the bodies of the revisions that are no leaves."""
+    tips = leaves(tree)
+    return {rev: Revision(known.parent, known.deleted, known.body if rev in tips else None) for rev, known in tree.items()}
+
+
 def latest_of(tree, rev):
     """The leaves that descend from a revision, itself if it is one, in the winner's order."""
     return [leaf for leaf in leaves(tree) if rev in path_of(tree, leaf)]

@@ -11,7 +11,7 @@ HERE = os.path.dirname(os.path.abspath(__file__))
 TESTS = os.path.dirname(HERE)
 sys.path[:0] = [TESTS, HERE]
 
-from cases import conflicts, edges, examples, first_path, queries  # noqa: E402
+from cases import conflicts, edges, examples, first_path, purges, queries  # noqa: E402
 from reference import once  # noqa: E402
 
 # the cases of each folder
@@ -19,6 +19,8 @@ FOLDERS = {
     "first-path": first_path.CASES,
     "conflicts": conflicts.CASES,
     "queries": {**queries.CASES, **edges.CASES},
+    "purges": purges.PURGES,
+    "compactions": purges.COMPACTIONS,
     "not-served": queries.NOT_SERVED,
     "broken-input": first_path.BROKEN_INPUT,
 }

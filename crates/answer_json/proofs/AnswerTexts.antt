@@ -7,12 +7,14 @@ use Rattle.serde_json.specs.View.{items_of}
 use Rattle.serde_json.specs.Written.{compact_text}
 use Rattle.serde_json.proofs.OnLiterals.{serde_json_on_literals}
 use Rattle.json.specs.Print.{quoted}
-use Rattle.model.specs.Command.{Id}
+use Rattle.model.specs.Command.{Id, names}
+use Rattle.model.specs.Map.{Map}
 use Rattle.model.specs.Query.{ChangesPage, Document}
 use Rattle.model.specs.Revision.{Rev}
 use Rattle.answer_json.specs.AllDocs.{all_docs_data, listed_data}
 use Rattle.answer_json.specs.Changes.{page_data, row_data}
 use Rattle.answer_json.specs.Opened.{found_data}
+use Rattle.answer_json.specs.Purge.{purged_data, removed_data}
 use Rattle.answer_json.specs.Replies.{write_data}
 use Rattle.document_json.specs.Written.{document_data}
 
@@ -28,6 +30,18 @@ unfolding serde_json_on_literals
 page_data-parts page =
     joined (codes "{\"last_seq\":") (decimal page.last_seq) (codes ",\"pending\":") (decimal page.pending) (codes ",\"results\":")
     (compact_text (array (items_of (map row_data page.rows)))) (codes "}")
+
+-- what stands before the documents of a purge
+abbrev pub purged_front : ℕ → List ℕ
+purged_front purge_seq = codes "{\"purge_seq\":" ++ (decimal purge_seq ++ codes ",\"purged\":")
+
+joined_purge : (a b c d e : List ℕ) → ((a ++ (b ++ c)) ++ d) ++ e ≡ a ++ (b ++ (c ++ (d ++ e)))
+joined_purge a b c d e = simp append_assoc refl
+
+pub purged_data-parts : (purge_seq : ℕ) (removed : Map names (List Rev)) → (purged_front purge_seq ++ compact_text (removed_data removed)) ++ codes "}" ≡ compact_text (purged_data purge_seq removed)
+unfolding serde_json_on_literals
+purged_data-parts purge_seq removed =
+    joined_purge (codes "{\"purge_seq\":") (decimal purge_seq) (codes ",\"purged\":") (compact_text (removed_data removed)) (codes "}")
 
 -- what stands before and behind the documents
 abbrev pub all_docs_front : List ℕ

@@ -1,4 +1,4 @@
--- The revisions of which a body asks what is missing.
+-- The revisions of documents, as a body names them.
 use Rattle.std.proofs.Common.{◌≡◌, ℕ, List, [], ◌∷◌, Ok, Err, Bool, true, false, ◌&&◌, T, map, refl, sym, ap, ◌∙◌, subst}
 use Rattle.std.specs.Prelude.{◌==◌, ◌||◌, Some, None, is_some, length, nat_lt, option_map, option_and_then, unwrap_or, if◌then◌else◌}
 use Rattle.std.specs.FinMap.Entries.{below_all, by_order, is_sorted, put}

@@ -11,6 +11,7 @@ use Rattle.answer_json.specs.AllDocs.{listed_data}
 use Rattle.answer_json.specs.Changes.{named_rev_data, deleted_first, row_data}
 use Rattle.answer_json.specs.Differences.{ancestors_last, difference_data}
 use Rattle.document_json.proofs.Floats.{neither, no_float-texts}
+use Rattle.document_json.specs.Written.{revs_data}
 
 no_float-leaves : (revs : List Rev) → items_have_float (items_of (map named_rev_data revs)) ≡ false
 no_float-leaves [] = refl
@@ -31,6 +32,9 @@ no_float-listed listed = refl
 no_float-ancestors_last : (revs : List Rev) → members_have_float (ancestors_last revs) ≡ false
 no_float-ancestors_last [] = refl
 no_float-ancestors_last (rev ∷ revs) = neither _ _ (no_float-texts rev_text (rev ∷ revs)) refl
+
+pub no_float-revs : (revs : List Rev) → has_float (revs_data revs) ≡ false
+no_float-revs revs = no_float-texts rev_text revs
 
 pub no_float-difference : (d : Difference) → has_float (difference_data d) ≡ false
 no_float-difference d = neither _ _ (no_float-texts rev_text d.missing) (no_float-ancestors_last d.possible_ancestors)

@@ -1,7 +1,8 @@
 -- The changes, as answers write them.
-use Rattle.std.specs.Prelude.{Bool, true, List, map, codes, if◌then◌else◌}
+use Rattle.std.specs.Prelude.{ℕ, ◌++◌, Bool, true, List, [], ◌∷◌, map, codes, if◌then◌else◌}
 use Rattle.serde_json.specs.Data.{Data, unsigned, number, string, boolean, array, object, Members, no_members, member}
 use Rattle.serde_json.specs.View.{items_of}
+use Rattle.serde_json.specs.Written.{compact_text}
 use Rattle.model.specs.Query.{Row, ChangesPage}
 use Rattle.model.specs.Revision.{Rev}
 use Rattle.document_json.specs.Written.{rev_data}
@@ -26,6 +27,11 @@ abbrev pub row_data : Row → Data
 row_data row =
     object (member (codes "changes") (leaves_data row.changes) (deleted_first row.deleted
     (member (codes "id") (string row.id) (member (codes "seq") (number (unsigned row.seq)) no_members))))
+
+-- a row of a feed that gives one a line
+-- CouchDB: GET /{db}/_changes, "feed"
+abbrev pub feed_line : Row → List ℕ
+feed_line row = compact_text (row_data row) ++ 10 ∷ []
 
 -- `{"last_seq":n,"pending":p,"results":[row,..]}`
 -- CouchDB: GET /{db}/_changes, "last_seq", "pending", "results"

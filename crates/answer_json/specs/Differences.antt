@@ -1,20 +1,12 @@
 -- The revisions that are not known, as an answer writes them.
-use Rattle.std.specs.Prelude.{ℕ, List, [], ◌∷◌, map, codes}
+use Rattle.std.specs.Prelude.{List, [], ◌∷◌, map, codes}
 use Rattle.serde_json.specs.Data.{Data, object, Members, no_members, member}
 use Rattle.model.specs.Command.{Id, names}
 use Rattle.model.specs.Map.{Map, entries}
 use Rattle.model.specs.Query.{Difference}
 use Rattle.model.specs.Revision.{Rev}
 use Rattle.document_json.specs.Written.{revs_data}
-
--- a document and what it lacks, as a member
-abbrev pub Named : Type 0
-Named = List ℕ × Data
-
--- named values as members
-abbrev pub members_from : List Named → Members
-members_from [] = no_members
-members_from (m ∷ ms) = member m.0 m.1 (members_from ms)
+use Rattle.answer_json.specs.Objects.{Named, members_from}
 
 -- the leaves that may be ancestors, unless there are none
 -- CouchDB: POST /{db}/_revs_diff, "possible_ancestors"
@@ -27,6 +19,7 @@ ancestors_last (rev ∷ revs) = member (codes "possible_ancestors") (revs_data (
 abbrev pub difference_data : Difference → Data
 difference_data d = object (member (codes "missing") (revs_data d.missing) (ancestors_last d.possible_ancestors))
 
+-- a document and what it lacks, as a member
 abbrev pub named_difference : Id × Difference → Named
 named_difference d = (d.0, difference_data d.1)
 

@@ -9,4 +9,6 @@ pub mod Refusals
 pub mod Bulk
 pub mod Changes
 pub mod AllDocs
+pub mod Objects
 pub mod Differences
+pub mod Purge

@@ -1,4 +1,4 @@
--- The revisions of which a body asks what is missing; each check is made of all of them before the next.
+-- The revisions of documents, as a body names them; each check is made of all of them before the next.
 use Rattle.std.specs.Prelude.{ℕ, List, [], ◌∷◌, Ok, string_bytes}
 use Rattle.serde_json.specs.Data.{Data, Members, no_members, member}
 use Rattle.serde_json.specs.Find.{as_object}
@@ -36,7 +36,7 @@ abbrev pub member_texts : Member → Checked (List ℕ × List Data)
 member_texts m = texts_listed (member_pair m)
 
 -- the revisions that are listed of each document
--- CouchDB: POST /{db}/_revs_diff
+-- CouchDB: POST /{db}/_revs_diff, POST /{db}/_purge
 unfoldable pub asked_in : List (List ℕ × Data) → Checked (List (Id × List Rev))
 asked_in pairs =
     and_then (each texts_listed pairs) (λ listed.
@@ -44,14 +44,14 @@ asked_in pairs =
     each revs_named named))
 
 -- the revisions that the members of an object list
--- CouchDB: POST /{db}/_revs_diff
+-- CouchDB: POST /{db}/_revs_diff, POST /{db}/_purge
 abbrev pub named_in : Members → Checked (Map names (List Rev))
 named_in members = and_then (asked_in (pairs_in members)) (λ asked. Ok (from_list asked))
 
 -- the revisions of a body
--- CouchDB: POST /{db}/_revs_diff
-abbrev pub difference_of : List ℕ → Checked (Map names (List Rev))
-difference_of body =
+-- CouchDB: POST /{db}/_revs_diff, POST /{db}/_purge
+abbrev pub named_revisions_of : List ℕ → Checked (Map names (List Rev))
+named_revisions_of body =
     and_then (json_of body) (λ value.
     and_then (or_refused (as_object value) reason.Shape) (λ members.
     named_in members))

@@ -3,7 +3,7 @@ ghost use Rattle.std.specs.Prelude.{◌≡◌, ◌++◌, map, false, IfOk, strin
 ghost use Rattle.serde_json.specs.Data.{array};
 ghost use Rattle.serde_json.specs.View.{items_of, view};
 ghost use Rattle.serde_json.specs.Written.{compact_text, has_float};
-ghost use Rattle.answer_json.specs.Changes.{leaves_data, named_rev_data, page_data, row_data};
+ghost use Rattle.answer_json.specs.Changes.{feed_line, leaves_data, named_rev_data, page_data, row_data};
 
 use crate::list::append_list;
 use document_json::value_text;
@@ -47,6 +47,19 @@ fn row_text(alloc: Global, row: &Row) -> Result<String, AllocError>
 {
     let value = row_value(alloc, row)?;
     value_text(alloc, &value)
+}
+
+/// A row as a feed gives it: a line of its own.
+///
+/// # Errors
+///
+/// Memory may be refused.
+pub fn feed_line(alloc: Global, row: &Row) -> Result<String, AllocError>
+    ensures line { IfOk result (λ text. string_bytes text ≡ feed_line row.now) }
+{
+    let mut text = row_text(alloc, row)?;
+    text.push_str("\n")?;
+    Ok(text)
 }
 
 /// Writes the list of the rows behind a text.

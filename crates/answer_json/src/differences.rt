@@ -1,10 +1,13 @@
 //! The revisions that are not known, as an answer writes them.
-ghost use Rattle.std.specs.Prelude.{◌≡◌, map, IfOk, string_bytes};
-ghost use Rattle.serde_json.specs.Data.{object};
+ghost use Rattle.std.specs.Prelude.{◌≡◌, map, IfOk, OnOk, string_bytes};
+ghost use Rattle.serde_json.specs.Data.{member, no_members, object};
 ghost use Rattle.serde_json.specs.View.{view};
 ghost use Rattle.serde_json.specs.Written.{compact_text};
-ghost use Rattle.answer_json.specs.Differences.{difference_data, differences_data, members_from, named_difference};
+ghost use Rattle.document_json.specs.MembersText.{Writes};
+ghost use Rattle.answer_json.specs.Differences.{difference_data, differences_data, named_difference};
+ghost use Rattle.answer_json.specs.Objects.{members_from};
 
+use crate::objects::append_object;
 use document_id::DocId;
 use document_json::{MembersText, revs_value};
 use queries::{Difference, Differences};
@@ -23,19 +26,28 @@ fn difference_value(alloc: Global, difference: &Difference) -> Result<Value, All
     json!(in alloc; {"missing": missing, "possible_ancestors": ancestors})
 }
 
+/// Writes a document and what it lacks.
+fn push_difference(
+    members: &mut MembersText,
+    alloc: Global,
+    document: &(DocId, Difference),
+) -> Result<(), AllocError>
+    ensures { OnOk result (Writes members.old members.new
+        (member (named_difference document.now).0 (named_difference document.now).1 no_members)) }
+{
+    let value = difference_value(alloc, &document.1)?;
+    members.push(alloc, document.0.as_str(), &value)?;
+    Ok(())
+}
+
 /// An object of documents with their differences.
 fn object_text(alloc: Global, documents: &[(DocId, Difference)]) -> Result<String, AllocError>
     ensures { IfOk result (λ text. string_bytes text
         ≡ compact_text (object (members_from (map named_difference documents.now)))) }
 {
-    let mut members = MembersText::after(String::from_str(alloc, "{")?);
-    for (id, difference) in documents {
-        let value = difference_value(alloc, difference)?;
-        members.push(alloc, id.as_str(), &value)?;
-    }
-    let mut text = members.finish();
-    text.push_str("}")?;
-    Ok(text)
+    append_object(String::new(alloc), documents, |members, document| {
+        push_difference(members, alloc, document)
+    })
 }
 
 /// The documents that lack revisions.

@@ -1,9 +1,9 @@
-//! The revisions of which a body asks what is missing.
+//! The revisions of documents, as a body names them.
 //!
 //! Each check is made of all of them before the next.
 ghost use Rattle.std.specs.Prelude.{◌≡◌, true};
 ghost use Rattle.model.specs.Profile.{members_ordered};
-ghost use Rattle.answer_json.specs.NamedRevisions.{asked_in, difference_of, member_texts, named_in, pairs_in, revs_named, texts_listed, texts_named};
+ghost use Rattle.answer_json.specs.NamedRevisions.{asked_in, named_revisions_of, member_texts, named_in, pairs_in, revs_named, texts_listed, texts_named};
 ghost use Rattle.document_json.specs.Each.{DecidesEach, each as each_of};
 ghost use Rattle.document_json.specs.Steps.{Decides};
 
@@ -63,8 +63,8 @@ impl Model for NamedTexts {
 /// A body that is no JSON of the profile is refused as that, and then by the first of these that
 /// some document gives: [`Reason::Shape`], [`Reason::Id`], [`Reason::Revision`]. Memory may be
 /// refused.
-pub fn read_difference(alloc: Global, body: &[u8]) -> Result<NamedRevisions, Fault>
-    ensures { Decides result (difference_of body.now) }
+pub fn read_named_revisions(alloc: Global, body: &[u8]) -> Result<NamedRevisions, Fault>
+    ensures { Decides result (named_revisions_of body.now) }
 {
     let value = read_json(alloc, body)?;
     let _ordered = value.value();

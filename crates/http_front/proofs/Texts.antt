@@ -21,7 +21,9 @@ reply-told d form.Put (PutLocal id named body) fits = refl
 reply-told d form.Delete (PutLocal id named body) fits = refl
 reply-told d form.Whole (Edits edits) fits = refl
 reply-told d form.Whole (Merges merges) fits = refl
+reply-told d form.Whole (Purge named) fits = refl
 reply-told d form.Whole (SetLimit limit) fits = refl
+reply-told d form.Whole Compact fits = refl
 reply-told d form.Put (Edits []) fits = absurd fits
 reply-told d form.Put (Edits (edit ∷ (more ∷ edits))) fits = absurd fits
 reply-told d form.Put (Merges merges) fits = absurd fits
@@ -35,8 +37,6 @@ reply-told d form.Delete (Purge named) fits = absurd fits
 reply-told d form.Delete (SetLimit limit) fits = absurd fits
 reply-told d form.Delete Compact fits = absurd fits
 reply-told d form.Whole (PutLocal id named body) fits = absurd fits
-reply-told d form.Whole (Purge named) fits = absurd fits
-reply-told d form.Whole Compact fits = absurd fits
 
 -- the answer to a query
 pub answer-told : (d : Database) (query : Query) → IsSome (answer_told query (answer_to d query))

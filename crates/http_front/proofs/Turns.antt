@@ -10,8 +10,9 @@ use Rattle.http_framing.specs.Input.{Item, Requested, closes_connection}
 use Rattle.http_request.specs.Decide.{decide}
 use Rattle.http_request.specs.declared.asked.Asked.TheVariants as asked
 use Rattle.http_request.specs.declared.asked.Form.{Form}
-use Rattle.http_response.specs.Texts.{reply_text, answer_text, full_text}
-use Rattle.http_response.specs.declared.lost.Lost.TheVariants as lost
+use Rattle.http_response.specs.Texts.{reply_text, answer_text, unavailable_text}
+use Rattle.http_response.specs.declared.memory.MemoryFor.TheVariants as memory_for
+use Rattle.http_response.specs.declared.no_service.Unavailable.TheVariants as unavailable
 use Rattle.http_front.specs.Known.{Known, history_of, sees_more}
 use Rattle.http_front.specs.Outcome.{Outcome, Fixed, Wrote, WroteUntold, Read, Memory, Full, AsksQuery, IsFixedText, HasFixedText, TellsAt, written, after_closing}
 use Rattle.http_front.specs.Session.{WritesCall}
@@ -29,7 +30,7 @@ module _ (k : Known) (place : ℕ) (place_is : place ≡ length k.seen) (sent : 
   }
 
   -- memory was refused
-  pub answers_lost : (request : Request) → SaysLost place lost.Call sent → AnswersAlone k (turn_of (Requested request) sent) k
+  pub answers_lost : (request : Request) → SaysLost place memory_for.Call sent → AnswersAlone k (turn_of (Requested request) sent) k
   answers_lost request says = unchanged (Requested request) Memory refl (tt, says.0, says.1)
 
   -- the text of a refusal, or of `/`
@@ -49,7 +50,7 @@ module _ (k : Known) (place : ℕ) (place_is : place ≡ length k.seen) (sent : 
     -- the answer to a query
     pub answers_query : (query : Query) (answer : Answer) → AsksQuery (now (history_of k)) (Requested request) query → answer ≡ answer_to (now (history_of k)) query
         → (text : List ℕ) → Some text ≡ answer_text place (after_closing closes) query answer
-        → SendsOrLost text closes place lost.Call sent
+        → SendsOrLost text closes place memory_for.Call sent
         → AnswersAlone k (turn_of (Requested request) sent) k
     answers_query query answer asks answers text text_is (inl sends) =
         let all : take place k.seen ≡ k.seen = take_all place k.seen (omega (arith, place_is)) in
@@ -62,11 +63,11 @@ module _ (k : Known) (place : ℕ) (place_is : place ≡ length k.seen) (sent : 
 
     -- the history is full
     pub answers_full : (form : Form) (command : Command) → decide request ≡ Ok (asked.Command form command) → length k.seen ≡ k.room
-        → Sends (full_text place (after_closing closes)) closes sent
+        → Sends (unavailable_text place (after_closing closes) unavailable.Full) closes sent
         → AnswersAlone k (turn_of (Requested request) sent) k
     answers_full form command asks full sends =
         unchanged (Requested request) Full refl
-        (form, command, asks, place_is ∙ full, sends.0 ∙ ap (λ (c : Bool). full_text place (after_closing c)) (sym sends.1), sends.1 ∙ sym closes_is)
+        (form, command, asks, place_is ∙ full, sends.0 ∙ ap (λ (c : Bool). unavailable_text place (after_closing c) unavailable.Full) (sym sends.1), sends.1 ∙ sym closes_is)
 
     module _ (old : Known) (seat : Seat) (form : Form) (command : Command) (reply : Reply) (asks : decide request ≡ Ok (asked.Command form command)) (writes : WritesCall old seat command place reply k) (entry_is : k ≡ sees_more old (record { seat = seat; command = command; reply = reply } ∷ [])) where
       own : seat.session ≡ k.number
@@ -83,7 +84,7 @@ module _ (k : Known) (place : ℕ) (place_is : place ≡ length k.seen) (sent : 
 
       -- the reply to a command
       pub answers_command : (text : List ℕ) → Some text ≡ reply_text place (after_closing closes) form command reply
-          → SendsOrLost text closes place lost.Reply sent
+          → SendsOrLost text closes place memory_for.Reply sent
           → AnswersAlone old (turn_of (Requested request) sent) k
       answers_command text text_is (inl sends) =
           answers_entry (Wrote form (record { seat = seat; command = command; reply = reply })) refl (

@@ -1,8 +1,7 @@
 -- What becomes of a request, and the text that tells it.
-use Rattle.std.specs.Prelude.{◌≡◌, ℕ, ◌⊎◌, Bool, true, List, [], ◌∷◌, length, take, Option, Some, Result, Ok, Err, if◌then◌else◌, ⊤}
+use Rattle.std.specs.Prelude.{◌≡◌, ℕ, ◌⊎◌, Bool, true, false, List, [], ◌∷◌, length, take, Some, Result, Ok, Err, if◌then◌else◌, ⊤}
 use Rattle.model.specs.Command.{Entry, Command}
 use Rattle.model.specs.Query.{Query, Answer, Changes}
-use Rattle.model.specs.declared.style.Style.{Style}
 use Rattle.model.specs.Database.{Database}
 use Rattle.model.specs.History.{replay}
 use Rattle.model.specs.World.{WroteAt, Asked as AskedAt}
@@ -12,11 +11,19 @@ use Rattle.http_request.specs.Decide.{decide}
 use Rattle.http_request.specs.declared.asked.Asked.{Asked as Asking}
 use Rattle.http_request.specs.declared.asked.Asked.TheVariants as asked
 use Rattle.http_request.specs.declared.asked.Form.{Form}
+use Rattle.http_request.specs.declared.changes.ChangesAsked.{ChangesAsked}
+use Rattle.http_request.specs.declared.changes.Feed.{Feed}
+use Rattle.http_request.specs.declared.changes.Feed.TheVariants as feed
+use Rattle.http_request.specs.declared.changes.Since.{Since}
+use Rattle.http_request.specs.declared.changes.Since.TheVariants as since
 use Rattle.http_request.specs.declared.rejection.Rejection.{Rejection}
-use Rattle.http_response.specs.Texts.{closing_text, refusal_text, welcome_text, reply_text, answer_text, full_text, no_memory_text}
+use Rattle.http_request.specs.declared.rejection.Rejection.TheVariants as rejection
+use Rattle.document_json.specs.declared.fault.Reason.TheVariants as reason
+use Rattle.http_response.specs.Texts.{closing_text, refusal_text, welcome_text, reply_text, answer_text, unavailable_text, no_memory_text}
 use Rattle.http_response.specs.declared.connection.Connection.{Connection as After}
 use Rattle.http_response.specs.declared.connection.Connection.TheVariants as after
-use Rattle.http_response.specs.declared.lost.Lost.TheVariants as lost
+use Rattle.http_response.specs.declared.memory.MemoryFor.TheVariants as memory_for
+use Rattle.http_response.specs.declared.no_service.Unavailable.TheVariants as unavailable
 use Rattle.serving.specs.Turn.{Turn}
 use Rattle.http_front.specs.Known.{Known}
 
@@ -69,26 +76,42 @@ abbrev pub Asks : Item → Asking → Type 0
 Asks (Requested request) asking = decide request ≡ Ok asking
 Asks (Refused fault) asking = ⊥
 
--- the item is a request that asks for the changes from now on, which for a database are those after its update number
-abbrev pub AsksFromNow : Database → Item → Query → Type 0
-AsksFromNow d item query =
-    (limit : Option ℕ) × (style : Style) × Asks item (asked.ChangesFromNow limit style) × (query ≡ Changes d.update_seq limit style)
+-- the update number after which changes are asked for, where a database has its own
+abbrev pub since_at : Database → Since → ℕ
+since_at d (since.Number number) = number
+since_at d since.Now = d.update_seq
+
+-- the query for the changes that are asked for
+abbrev pub changes_query : Database → ChangesAsked → Query
+changes_query d changes = Changes (since_at d changes.since) changes.limit changes.style
+
+-- a feed that is answered like a query: one that goes on as changes come is refused
+abbrev pub is_read : Feed → Bool
+is_read feed.Normal = true
+is_read feed.LongPoll = true
+is_read feed.Continuous = false
+
+-- the item is a request that asks for the changes, which for a database are this query
+abbrev pub AsksChanges : Database → Item → Query → Type 0
+AsksChanges d item query =
+    (changes : ChangesAsked) × Asks item (asked.Changes changes) × (is_read changes.feed ≡ true) × (query ≡ changes_query d changes)
 
 -- the item is a request that asks this of a database
 abbrev pub AsksQuery : Database → Item → Query → Type 0
-AsksQuery d item query = Asks item (asked.Query query) ⊎ AsksFromNow d item query
+AsksQuery d item query = Asks item (asked.Query query) ⊎ AsksChanges d item query
 
 -- what a response says of the connection
 abbrev pub after_closing : Bool → After
 after_closing closes = if closes then after.Close else after.Open
 
--- the text is that of a refusal, or of `/`
+-- the text is that of a refusal, which a feed that goes on has too, or of `/`
 abbrev pub IsFixedText : ℕ → Bool → Result Asking Rejection → List ℕ → Type 0
 IsFixedText place closes (Err refusal) text = text ≡ refusal_text place (after_closing closes) refusal
 IsFixedText place closes (Ok asked.Welcome) text = text ≡ welcome_text place (after_closing closes)
 IsFixedText place closes (Ok (asked.Command form command)) text = ⊥
 IsFixedText place closes (Ok (asked.Query query)) text = ⊥
-IsFixedText place closes (Ok (asked.ChangesFromNow limit style)) text = ⊥
+IsFixedText place closes (Ok (asked.Changes changes)) text =
+    (is_read changes.feed ≡ false) × (text ≡ refusal_text place (after_closing closes) (rejection.BadRequest reason.Parameter))
 
 -- the text is the one that is fixed for the item at this place
 abbrev pub HasFixedText : ℕ → Item → List ℕ → Type 0
@@ -116,15 +139,15 @@ module _ (k : Known) where
       × (Some turn.text ≡ reply_text place (after_closing turn.closes) form entry.command entry.reply)
       × (turn.closes ≡ closes_connection turn.item)
   TellsAt turn place (WroteUntold form entry) =
-      IsWritten turn.item place form entry × (turn.text ≡ no_memory_text place lost.Reply) × (turn.closes ≡ true)
+      IsWritten turn.item place form entry × (turn.text ≡ no_memory_text place memory_for.Reply) × (turn.closes ≡ true)
   TellsAt turn place (Read query answer) =
       IsRead turn.item place query answer
       × (Some turn.text ≡ answer_text place (after_closing turn.closes) query answer)
       × (turn.closes ≡ closes_connection turn.item)
-  TellsAt turn place Memory = IsRequest turn.item × (turn.text ≡ no_memory_text place lost.Call) × (turn.closes ≡ true)
+  TellsAt turn place Memory = IsRequest turn.item × (turn.text ≡ no_memory_text place memory_for.Call) × (turn.closes ≡ true)
   TellsAt turn place Full =
       (form : Form) × (command : Command) × Asks turn.item (asked.Command form command) × (place ≡ k.room)
-      × (turn.text ≡ full_text place (after_closing turn.closes)) × (turn.closes ≡ closes_connection turn.item)
+      × (turn.text ≡ unavailable_text place (after_closing turn.closes) unavailable.Full) × (turn.closes ≡ closes_connection turn.item)
 
   abbrev pub IsToldAt : Turn → Placed → Type 0
   IsToldAt turn placed = TellsAt turn placed.place placed.outcome

@@ -3,7 +3,7 @@ ghost use Rattle.std.specs.Prelude.{◌≡◌, ℕ, true, List, IfOk};
 ghost use Rattle.http_front.specs.Outcome.{after_closing};
 ghost use Rattle.http_front.specs.Response.{SaysLost, Sends, SendsOrLost};
 
-use http_response::{Connection, Lost, Response, no_memory};
+use http_response::{Connection, MemoryFor, Response, no_memory};
 use std::alloc::AllocError;
 
 /// What is sent, and whether the connection closes after it.
@@ -15,11 +15,11 @@ pub(crate) struct Sent {
 
 impl Sent {
     /// Says that memory was refused, after which the connection closes.
-    pub(crate) fn no_memory(place: u64, lost: Lost) -> Sent
-        ensures { SaysLost place lost result }
+    pub(crate) fn no_memory(place: u64, wanted: MemoryFor) -> Sent
+        ensures { SaysLost place wanted result }
     {
         Sent {
-            response: no_memory(place, lost),
+            response: no_memory(place, wanted),
             closes: true,
         }
     }
@@ -29,14 +29,14 @@ impl Sent {
         response: Result<Response, AllocError>,
         closes: bool,
         place: u64,
-        lost: Lost,
+        wanted: MemoryFor,
     ) -> Sent
         ensures { (said : List ℕ) → IfOk response (λ made. made ≡ said)
-            → SendsOrLost said closes place lost result }
+            → SendsOrLost said closes place wanted result }
     {
         match response {
             Ok(response) => Sent { response, closes },
-            Err(_) => Sent::no_memory(place, lost),
+            Err(_) => Sent::no_memory(place, wanted),
         }
     }
 }

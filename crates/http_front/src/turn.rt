@@ -4,25 +4,27 @@ ghost use Rattle.http_framing.specs.Input.{Requested, Refused};
 ghost use Rattle.http_framing.specs.Request as framing;
 ghost use Rattle.http_request.specs.Decide.{decide};
 ghost use Rattle.http_request.specs.Forms.{HasForm, IsFormOf};
-ghost use Rattle.http_response.specs.Texts.{answer_text, reply_text};
+ghost use Rattle.http_response.specs.Texts.{answer_text, refusal_text, reply_text};
 ghost use Rattle.http_response.specs.Told.{answer_told, reply_told};
-ghost use Rattle.model.specs.Query.{Changes};
 ghost use Rattle.model.specs.History.{now};
 ghost use Rattle.http_front.specs.Answers.{AnswersAlone};
 ghost use Rattle.http_front.specs.Known.{history_of};
-ghost use Rattle.http_front.specs.Outcome.{AsksQuery};
-ghost use Rattle.http_front.specs.Response.{turn_of};
+ghost use Rattle.http_front.specs.Outcome.{AsksQuery, after_closing, changes_query, is_read};
+ghost use Rattle.http_front.specs.Response.{Sends, turn_of};
 
 use crate::response::{Sent, connection_after};
 use crate::session::{Receipt, Session, WriteFault};
 use changes_feed::answer;
 use commands::Command;
+use document_json::Reason;
 use http_framing::FramingFault;
 use http_framing::request::Request;
-use http_request::{Asked, Form, read_request};
-use http_response::{Connection, Lost, Response, closing, full, refused, reply, welcome};
+use http_request::{Asked, ChangesAsked, Feed, Form, Rejection, Since, read_request};
+use http_response::{
+    Connection, MemoryFor, Response, Unavailable, closing, refused, reply, service_unavailable,
+    welcome,
+};
 use http_routes::Routes;
-use model::Style;
 use queries::{Answer, Query, QueryKind};
 use std::alloc::{AllocError, Global};
 
@@ -51,7 +53,7 @@ pub(crate) fn respond(session: &mut Session, setting: &Setting, request: &Reques
     let place = session.place();
     let closes = request.closes();
     let Ok(asked) = read_request(alloc, &setting.routes, request) else {
-        return Sent::no_memory(place, Lost::Call);
+        return Sent::no_memory(place, MemoryFor::Call);
     };
     match asked {
         Ok(asked) => carry_out(session, alloc, &asked, closes),
@@ -72,10 +74,7 @@ fn carry_out(session: &mut Session, alloc: Global, asked: &Asked, closes: bool) 
     match asked {
         Asked::Command(form, command) => write(session, alloc, *form, command, closes),
         Asked::Query(query) => read(session, alloc, query, closes),
-        Asked::ChangesFromNow { limit, style } => {
-            let query = changes_from_now(session, *limit, *style);
-            read(session, alloc, &query, closes)
-        }
+        Asked::Changes(changes) => read_changes(session, alloc, *changes, closes),
         Asked::Welcome => {
             let response = welcome(session.place(), connection_after(closes));
             Sent { response, closes }
@@ -95,11 +94,11 @@ fn write(session: &mut Session, alloc: Global, form: Form, command: &Command, cl
         Ok(receipt) => {
             let place = receipt.place;
             let response = reply_to(alloc, connection, form, command, &receipt);
-            Sent::made(response, closes, place, Lost::Reply)
+            Sent::made(response, closes, place, MemoryFor::Reply)
         }
-        Err(WriteFault::Memory) => Sent::no_memory(session.place(), Lost::Call),
+        Err(WriteFault::Memory) => Sent::no_memory(session.place(), MemoryFor::Call),
         Err(WriteFault::Full) => {
-            let response = full(session.place(), connection);
+            let response = service_unavailable(session.place(), connection, Unavailable::Full);
             Sent { response, closes }
         }
     }
@@ -131,15 +130,54 @@ fn reply_to(
     Ok(response)
 }
 
-/// The query for the changes after all that the session has seen.
-fn changes_from_now(session: &Session, limit: Option<u64>, style: Style) -> Query
-    ensures { result ≡ Changes (now (history_of session.now)).update_seq limit style }
+/// Answers which changes there are. No other session makes any, so that none are waited for.
+fn read_changes(session: &Session, alloc: Global, changes: ChangesAsked, closes: bool) -> Sent
+    ensures { (request : framing.Request) → decide request ≡ Ok (Asked.Changes changes)
+        → request.closes ≡ closes
+        → AnswersAlone session.now (turn_of (Requested request) result) session.now }
 {
-    let since = session.look().database().documents().update_seq();
+    if !is_read(changes.feed) {
+        return refuse_feed(session, closes);
+    }
+    let query = changes_query(session, changes);
+    read(session, alloc, &query, closes)
+}
+
+/// Whether a feed is answered like a query.
+fn is_read(feed: Feed) -> bool
+    ensures { result ≡ is_read feed }
+{
+    match feed {
+        Feed::Normal | Feed::LongPoll => true,
+        Feed::Continuous => false,
+    }
+}
+
+/// Refuses a feed that gives its rows as they come.
+fn refuse_feed(session: &Session, closes: bool) -> Sent
+    ensures { Sends (refusal_text (length session.now.seen) (after_closing closes)
+        (Rejection.BadRequest Reason.Parameter)) closes result }
+{
+    let response = refused(
+        session.place(),
+        connection_after(closes),
+        Rejection::BadRequest(Reason::Parameter),
+    );
+    Sent { response, closes }
+}
+
+/// The query for the changes that are asked for.
+fn changes_query(session: &Session, changes: ChangesAsked) -> Query
+    ensures { result ≡ changes_query (now (history_of session.now)) changes }
+{
+    let since = match changes.since {
+        Since::Number(since) => since,
+        Since::Now => session.look().database().documents().update_seq(),
+    };
     Query::new(QueryKind::Changes {
         since,
-        limit,
-        style,
+        limit: changes.limit,
+        style: changes.style,
     })
 }
 
@@ -152,10 +190,10 @@ fn read(session: &Session, alloc: Global, query: &Query, closes: bool) -> Sent
 {
     let place = session.place();
     let Ok(found) = answer(alloc, session.look(), query) else {
-        return Sent::no_memory(place, Lost::Call);
+        return Sent::no_memory(place, MemoryFor::Call);
     };
     let response = answer_with(alloc, place, connection_after(closes), query, &found);
-    Sent::made(response, closes, place, Lost::Call)
+    Sent::made(response, closes, place, MemoryFor::Call)
 }
 
 /// The answer to a query.

@@ -1,6 +1,6 @@
 -- Each request asks for a command in a form in which it is told.
 use Rattle.std.proofs.Common.{◌≡◌, ℕ, Bool, true, false, List, Option, None, Some, Result, Ok, Err, subst}
-use Rattle.std.specs.Prelude.{IfOk, if◌then◌else◌, codes, not, ◌||◌}
+use Rattle.std.specs.Prelude.{IfOk, if◌then◌else◌, codes, length, nat_le, not, ◌||◌}
 use Rattle.std.specs.Str.{bytes_eq}
 use Rattle.http_framing.specs.Request.{Request}
 use Rattle.http_target.specs.Target.{path_of, query_of}
@@ -9,9 +9,10 @@ use Rattle.http_routes.specs.declared.Route.{Route}
 use Rattle.http_routes.specs.declared.Route.TheVariants as route
 use Rattle.http_routes.specs.declared.Method.{Method}
 use Rattle.http_routes.specs.declared.Method.TheVariants as method
-use Rattle.model.specs.Command.{Command, Id}
+use Rattle.model.specs.Command.{Command, Id, Purge, max_edits, names}
+use Rattle.model.specs.Map.{Map, entries}
+use Rattle.model.specs.Revision.{Rev}
 use Rattle.model.specs.Query.{Options}
-use Rattle.model.specs.declared.style.Style.{Style}
 use Rattle.document_json.specs.Steps.{Checked, and_then, or_refused, check}
 use Rattle.document_json.specs.Each.{each}
 use Rattle.document_json.specs.Text.{json_of}
@@ -21,15 +22,16 @@ use Rattle.document_json.specs.Bulk.{bulk_of, command_in, documents_in, edit_in,
 use Rattle.document_json.specs.Document.{edit_of, parts_in}
 use Rattle.answer_json.specs.Limit.{limit_of}
 use Rattle.document_json.specs.Local.{counter_in, counter_over, local_document_of, local_edit_of}
-use Rattle.answer_json.specs.NamedRevisions.{difference_of}
-use Rattle.http_request.specs.Decide.{decide, route_in, method_in, asked_of, get_document, opened_or_got, put_document, post_bulk}
-use Rattle.http_request.specs.Feeds.{all_docs_of, asks_for_keys, asks_for_other_changes, asks_for_range, changes_of, changes_since, is_normal, style_in}
+use Rattle.answer_json.specs.NamedRevisions.{named_revisions_of}
+use Rattle.answer_json.specs.Purge.{purge_of}
+use Rattle.http_request.specs.Decide.{decide, route_in, method_in, asked_of, get_document, opened_or_got, put_document, post_bulk, post_purge}
+use Rattle.http_request.specs.Feeds.{all_docs_of, asks_for_keys, asks_for_other_changes, asks_for_range, changes_of, feed_in, since_in, style_in}
 use Rattle.http_request.specs.Forms.{IsFormOf, HasForm}
 use Rattle.http_request.specs.Identity.{path_id}
 use Rattle.http_request.specs.Local.{rev_text, put_local}
 use Rattle.http_request.specs.Opened.{open_leaves, open_listed, open_revs_of}
 use Rattle.http_request.specs.Rejections.{decided}
-use Rattle.http_request.specs.Parameters.{asks_for_documents, is_given, number_parameter, options_of, rev_parameter, no_replication}
+use Rattle.http_request.specs.Parameters.{asks_for_documents, number_parameter, options_of, rev_parameter, no_replication}
 use Rattle.http_request.specs.declared.asked.Asked.TheVariants as asked
 use Rattle.http_request.specs.declared.asked.Form.{Form}
 use Rattle.http_request.specs.declared.asked.Form.TheVariants as form
@@ -105,17 +107,24 @@ bulk-fits body = after_such (bulk_of body) _ (IsFormOf form.Whole) HasForm whole
         after (or_refused (new_edits_in value) reason.Shape) _ (IsFormOf form.Whole) (λ new_edits.
         after (documents_in new_edits found) _ (IsFormOf form.Whole) (λ documents. writes-fit new_edits documents)))))
 
-since-fits : (limit : Option ℕ) (style : Style) (parameters : Parameters) → IfOk (changes_since limit style parameters) HasForm
-since-fits limit style parameters =
-    either_way (is_given (codes "since") (codes "now") parameters) (Ok (asked.ChangesFromNow limit style)) _ HasForm tt
-    (after (number_parameter (codes "since") parameters) _ HasForm (λ since. tt))
+purge-fits : (body : List ℕ) → IfOk (post_purge body) HasForm
+purge-fits body = after_such (purge_of body) _ (IsFormOf form.Whole) HasForm whole (λ command fits. fits)
+  where
+    few_or_not : (few : Bool) (named : Map names (List Rev))
+        → IfOk (or_refused (if few then Some (Purge named) else None) reason.Shape) (IsFormOf form.Whole)
+    few_or_not true named = tt
+    few_or_not false named = tt
+
+    whole : IfOk (purge_of body) (IsFormOf form.Whole)
+    whole = after (named_revisions_of body) _ (IsFormOf form.Whole) (λ named. few_or_not (nat_le (length (entries named)) max_edits) named)
 
 changes-fits : (parameters : Parameters) → IfOk (changes_of parameters) HasForm
 changes-fits parameters =
     after (check (not (asks_for_other_changes parameters)) reason.Parameter) _ HasForm (λ _.
-    after (check (is_normal parameters) reason.Parameter) _ HasForm (λ _.
+    after (feed_in (parameter (codes "feed") parameters)) _ HasForm (λ feed.
     after (style_in (parameter (codes "style") parameters)) _ HasForm (λ style.
-    after (number_parameter (codes "limit") parameters) _ HasForm (λ limit. since-fits limit style parameters))))
+    after (number_parameter (codes "limit") parameters) _ HasForm (λ limit.
+    after (since_in parameters) _ HasForm (λ since. tt)))))
 
 all_docs-fits : (parameters : Parameters) → IfOk (all_docs_of parameters) HasForm
 all_docs-fits parameters =
@@ -146,13 +155,21 @@ asked-fits route.Changes method.Get path query body = decided-fits-so _ HasForm 
 asked-fits route.Changes method.Put path query body = tt
 asked-fits route.Changes method.Post path query body = tt
 asked-fits route.Changes method.Delete path query body = tt
+asked-fits route.Compact method.Get path query body = tt
+asked-fits route.Compact method.Put path query body = tt
+asked-fits route.Compact method.Post path query body = tt
+asked-fits route.Compact method.Delete path query body = tt
 asked-fits route.Local method.Get path query body = decided-fits-so _ HasForm (after (path_id path) _ HasForm (λ id. tt))
 asked-fits route.Local method.Put path query body = decided-fits-so _ HasForm (put_local-fits path query body)
 asked-fits route.Local method.Post path query body = tt
 asked-fits route.Local method.Delete path query body = decided-fits-so _ HasForm (after (path_id path) _ HasForm (λ id. after (counter_in (rev_text query)) _ HasForm (λ counter. tt)))
+asked-fits route.Purge method.Get path query body = tt
+asked-fits route.Purge method.Put path query body = tt
+asked-fits route.Purge method.Post path query body = decided-fits-so _ HasForm (purge-fits body)
+asked-fits route.Purge method.Delete path query body = tt
 asked-fits route.RevsDiff method.Get path query body = tt
 asked-fits route.RevsDiff method.Put path query body = tt
-asked-fits route.RevsDiff method.Post path query body = decided-fits-so _ HasForm (after (difference_of body) _ HasForm (λ named. tt))
+asked-fits route.RevsDiff method.Post path query body = decided-fits-so _ HasForm (after (named_revisions_of body) _ HasForm (λ named. tt))
 asked-fits route.RevsDiff method.Delete path query body = tt
 asked-fits route.RevsLimit method.Get path query body = tt
 asked-fits route.RevsLimit method.Put path query body = decided-fits-so _ HasForm (after (limit_of body) _ HasForm (λ limit. tt))

@@ -11,7 +11,7 @@ use Rattle.http_routes.specs.declared.Route.TheVariants as route
 use Rattle.http_routes.specs.declared.Method.{Method}
 use Rattle.http_routes.specs.declared.Method.TheVariants as method
 use Rattle.serde_json.specs.Data.{no_members}
-use Rattle.model.specs.Command.{Id, Edits, SetLimit}
+use Rattle.model.specs.Command.{Id, Compact, Edits, SetLimit}
 use Rattle.model.specs.Query.{Get, Info, Options, RevsLimit, RevsDiff}
 use Rattle.document_json.specs.Steps.{Checked, and_then}
 use Rattle.http_request.specs.Identity.{path_id}
@@ -22,7 +22,8 @@ use Rattle.document_json.specs.Bulk.{bulk_of}
 use Rattle.http_request.specs.Feeds.{all_docs_of, changes_of}
 use Rattle.http_request.specs.Opened.{open_revs_of}
 use Rattle.http_request.specs.Local.{delete_local, get_local, put_local}
-use Rattle.answer_json.specs.NamedRevisions.{difference_of}
+use Rattle.answer_json.specs.NamedRevisions.{named_revisions_of}
+use Rattle.answer_json.specs.Purge.{purge_of}
 use Rattle.http_request.specs.declared.asked.Asked.{Asked}
 use Rattle.http_request.specs.declared.asked.Asked.TheVariants as asked
 use Rattle.http_request.specs.declared.asked.Form.TheVariants as form
@@ -95,7 +96,12 @@ post_bulk body = and_then (bulk_of body) (λ command. Ok (asked.Command form.Who
 -- POST of revisions of which some may be missing
 -- CouchDB: POST /{db}/_revs_diff
 abbrev pub post_revs_diff : List ℕ → Checked Asked
-post_revs_diff body = and_then (difference_of body) (λ named. Ok (asked.Query (RevsDiff named)))
+post_revs_diff body = and_then (named_revisions_of body) (λ named. Ok (asked.Query (RevsDiff named)))
+
+-- POST of revisions that are removed for good
+-- CouchDB: POST /{db}/_purge
+abbrev pub post_purge : List ℕ → Checked Asked
+post_purge body = and_then (purge_of body) (λ command. Ok (asked.Command form.Whole command))
 
 -- what is asked of a route
 abbrev pub asked_of : Route → Method → List ℕ → List ℕ → List ℕ → Decided Asked
@@ -105,9 +111,11 @@ asked_of route.DatabaseSlash method.Get path query body = Ok (asked.Query Info)
 asked_of route.BulkDocs method.Post path query body = decided (post_bulk body)
 asked_of route.AllDocs method.Get path query body = decided (all_docs_of (parameters_of query))
 asked_of route.Changes method.Get path query body = decided (changes_of (parameters_of query))
+asked_of route.Compact method.Post path query body = Ok (asked.Command form.Whole Compact)
 asked_of route.Local method.Get path query body = decided (get_local path)
 asked_of route.Local method.Put path query body = decided (put_local path query body)
 asked_of route.Local method.Delete path query body = decided (delete_local path query)
+asked_of route.Purge method.Post path query body = decided (post_purge body)
 asked_of route.RevsDiff method.Post path query body = decided (post_revs_diff body)
 asked_of route.RevsLimit method.Get path query body = Ok (asked.Query RevsLimit)
 asked_of route.RevsLimit method.Put path query body = decided (put_revs_limit body)

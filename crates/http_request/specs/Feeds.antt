@@ -1,15 +1,18 @@
 -- What is asked of all documents: their changes, and their list.
-use Rattle.std.specs.Prelude.{ℕ, ◌||◌, Bool, true, List, Option, Some, None, Ok, codes, not, unwrap_or, if◌then◌else◌}
-use Rattle.std.specs.Option.{option_map_or}
+use Rattle.std.specs.Prelude.{ℕ, ◌||◌, Bool, List, Option, Some, None, Ok, codes, not, unwrap_or, if◌then◌else◌}
 use Rattle.std.specs.Str.{bytes_eq}
 use Rattle.http_target.specs.Query.{Parameters, parameter}
-use Rattle.model.specs.Query.{AllDocuments, Changes}
+use Rattle.model.specs.Query.{AllDocuments}
 use Rattle.model.specs.declared.style.Style.{Style}
 use Rattle.model.specs.declared.style.Style.TheVariants.{MainOnly, AllDocs}
 use Rattle.document_json.specs.Steps.{Checked, and_then, or_refused, check}
 use Rattle.http_request.specs.Parameters.{asks_for_documents, is_given, is_there, number_parameter}
 use Rattle.http_request.specs.declared.asked.Asked.{Asked}
 use Rattle.http_request.specs.declared.asked.Asked.TheVariants as asked
+use Rattle.http_request.specs.declared.changes.Feed.{Feed}
+use Rattle.http_request.specs.declared.changes.Feed.TheVariants.{Normal, LongPoll, Continuous}
+use Rattle.http_request.specs.declared.changes.Since.{Since}
+use Rattle.http_request.specs.declared.changes.Since.TheVariants.{Number, Now}
 use Rattle.document_json.specs.declared.fault.Reason.TheVariants as reason
 
 -- ---- the changes
@@ -20,10 +23,18 @@ abbrev pub asks_for_other_changes : Parameters → Bool
 asks_for_other_changes parameters =
     asks_for_documents parameters || is_there (codes "filter") parameters || is_there (codes "view") parameters
 
--- the feed is `normal`, where one is given
 -- CouchDB: GET /{db}/_changes, "feed"
-abbrev pub is_normal : Parameters → Bool
-is_normal parameters = option_map_or (bytes_eq (codes "normal")) (parameter (codes "feed") parameters) true
+abbrev pub feed_named : List ℕ → Option Feed
+feed_named text =
+    if bytes_eq text (codes "normal") then Some Normal
+    else (if bytes_eq text (codes "longpoll") then Some LongPoll
+    else (if bytes_eq text (codes "continuous") then Some Continuous else None))
+
+-- those that there are, where no feed is given
+-- CouchDB: GET /{db}/_changes, "feed"
+abbrev pub feed_in : Option (List ℕ) → Checked Feed
+feed_in None = Ok Normal
+feed_in (Some text) = or_refused (feed_named text) reason.Parameter
 
 -- CouchDB: GET /{db}/_changes, "style"
 abbrev pub style_named : List ℕ → Option Style
@@ -37,23 +48,23 @@ abbrev pub style_in : Option (List ℕ) → Checked Style
 style_in None = Ok MainOnly
 style_in (Some text) = or_refused (style_named text) reason.Parameter
 
--- the changes after a number, or after the number that the database has
+-- a number, or the one that the database has; all changes, where it is not given
 -- CouchDB: GET /{db}/_changes, "since"
-abbrev pub changes_since : Option ℕ → Style → Parameters → Checked Asked
-changes_since limit style parameters =
-    if is_given (codes "since") (codes "now") parameters then Ok (asked.ChangesFromNow limit style)
-    else and_then (number_parameter (codes "since") parameters) (λ since.
-    Ok (asked.Query (Changes (unwrap_or since 0) limit style)))
+abbrev pub since_in : Parameters → Checked Since
+since_in parameters =
+    if is_given (codes "since") (codes "now") parameters then Ok Now
+    else and_then (number_parameter (codes "since") parameters) (λ since. Ok (Number (unwrap_or since 0)))
 
 -- the changes
 -- CouchDB: GET /{db}/_changes
 abbrev pub changes_of : Parameters → Checked Asked
 changes_of parameters =
     and_then (check (not (asks_for_other_changes parameters)) reason.Parameter) (λ _.
-    and_then (check (is_normal parameters) reason.Parameter) (λ _.
+    and_then (feed_in (parameter (codes "feed") parameters)) (λ feed.
     and_then (style_in (parameter (codes "style") parameters)) (λ style.
     and_then (number_parameter (codes "limit") parameters) (λ limit.
-    changes_since limit style parameters))))
+    and_then (since_in parameters) (λ since.
+    Ok (asked.Changes (record { since = since; limit = limit; style = style; feed = feed })))))))
 
 -- ---- the list of all documents
 

@@ -1,13 +1,13 @@
 -- Which commands requests of each form ask for.
 use Rattle.std.specs.Prelude.{[], ◌∷◌, ⊤}
-use Rattle.model.specs.Command.{Command, Edits, Merges, PutLocal, SetLimit}
+use Rattle.model.specs.Command.{Command, Compact, Edits, Merges, Purge, PutLocal, SetLimit}
 use Rattle.http_request.specs.declared.asked.Asked.{Asked}
 use Rattle.http_request.specs.declared.asked.Asked.TheVariants as asked
 use Rattle.http_request.specs.declared.asked.Form.{Form}
 use Rattle.http_request.specs.declared.asked.Form.TheVariants as form
 
--- some request of this form asks for the command: of one document for one edit, or a local write, and else for a bulk
--- or the limit
+-- some request of this form asks for the command: of one document for one edit, or a local write, and else for a bulk,
+-- a purge, the limit or a compaction
 abbrev pub IsFormOf : Form → Command → Type 0
 IsFormOf form.Put (Edits (edit ∷ [])) = ⊤
 IsFormOf form.Delete (Edits (edit ∷ [])) = ⊤
@@ -15,7 +15,9 @@ IsFormOf form.Put (PutLocal id named body) = ⊤
 IsFormOf form.Delete (PutLocal id named body) = ⊤
 IsFormOf form.Whole (Edits edits) = ⊤
 IsFormOf form.Whole (Merges merges) = ⊤
+IsFormOf form.Whole (Purge named) = ⊤
 IsFormOf form.Whole (SetLimit limit) = ⊤
+IsFormOf form.Whole Compact = ⊤
 IsFormOf form command = ⊥
 
 -- where it is a command, it has the form
@@ -23,4 +25,4 @@ abbrev pub HasForm : Asked → Type 0
 HasForm asked.Welcome = ⊤
 HasForm (asked.Command form command) = IsFormOf form command
 HasForm (asked.Query query) = ⊤
-HasForm (asked.ChangesFromNow limit style) = ⊤
+HasForm (asked.Changes changes) = ⊤

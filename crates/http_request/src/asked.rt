@@ -1,7 +1,7 @@
 //! What can be asked.
 
+use crate::changes::ChangesAsked;
 use commands::Command;
-use model::Style;
 use queries::Query;
 
 /// What a request asks.
@@ -13,9 +13,8 @@ pub enum Asked {
     Command(Form, Command),
     /// To read the database.
     Query(Query),
-    /// To read the changes after the update number that the database has, at most `limit` rows
-    /// where there is a limit.
-    ChangesFromNow { limit: Option<u64>, style: Style },
+    /// To read the changes, or to follow them.
+    Changes(ChangesAsked),
 }
 
 /// How the reply to a command is told.

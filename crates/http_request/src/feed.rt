@@ -1,10 +1,11 @@
 //! What is asked of all documents: their changes, and their list.
 ghost use Rattle.std.specs.Prelude.{◌≡◌, codes};
-ghost use Rattle.http_request.specs.Feeds.{all_docs_of, asks_for_keys, asks_for_other_changes, asks_for_range, changes_of, changes_since, is_normal, style_in, style_named};
+ghost use Rattle.http_request.specs.Feeds.{all_docs_of, asks_for_keys, asks_for_other_changes, asks_for_range, changes_of, feed_in, feed_named, since_in, style_in, style_named};
 ghost use Rattle.document_json.specs.Steps.{Decides};
 ghost use Rattle.http_target.specs.Query.{parameter, parameters_of};
 
 use crate::asked::Asked;
+use crate::changes::{ChangesAsked, Feed, Since};
 use crate::parameter::{asks_for_documents, is_given, is_there, read_number};
 use document_json::{Fault, Reason};
 use http_target::query::Parameters;
@@ -19,13 +20,28 @@ fn asks_for_other_changes(parameters: &Parameters<'_>) -> bool
     asks_for_documents(parameters) || is_there(parameters, "filter") || is_there(parameters, "view")
 }
 
-/// Whether the feed is `normal`, where one is given.
-fn is_normal(parameters: &Parameters<'_>) -> bool
-    ensures { result ≡ is_normal parameters.now }
+/// The feed of this name.
+fn feed_named(name: &str) -> Option<Feed>
+    ensures { result ≡ feed_named name.now }
 {
-    match parameters.get("feed") {
-        Some(feed) => feed == "normal",
-        None => true,
+    match name {
+        "normal" => Some(Feed::Normal),
+        "longpoll" => Some(Feed::LongPoll),
+        "continuous" => Some(Feed::Continuous),
+        _ => None,
+    }
+}
+
+/// The feed, of which `normal` is the default.
+fn read_feed(parameters: &Parameters<'_>) -> Result<Feed, Reason>
+    ensures { result ≡ feed_in (parameter (codes "feed") parameters.now) }
+{
+    let Some(name) = parameters.get("feed") else {
+        return Ok(Feed::Normal);
+    };
+    match feed_named(name) {
+        Some(feed) => Ok(feed),
+        None => Err(Reason::Parameter),
     }
 }
 
@@ -53,23 +69,15 @@ fn read_style(parameters: &Parameters<'_>) -> Result<Style, Reason>
     }
 }
 
-/// The changes after the number that is given, or after the one that the database has.
-fn read_since(
-    limit: Option<u64>,
-    style: Style,
-    parameters: &Parameters<'_>,
-) -> Result<Asked, Reason>
-    ensures { result ≡ changes_since limit style parameters.now }
+/// The number that is given, or the one that the database has.
+fn read_since(parameters: &Parameters<'_>) -> Result<Since, Reason>
+    ensures { result ≡ since_in parameters.now }
 {
     if is_given(parameters, "since", "now") {
-        return Ok(Asked::ChangesFromNow { limit, style });
+        return Ok(Since::Now);
     }
     let since = read_number(parameters, "since")?.unwrap_or(0);
-    Ok(Asked::Query(Query::new(QueryKind::Changes {
-        since,
-        limit,
-        style,
-    })))
+    Ok(Since::Number(since))
 }
 
 /// GET of the changes.
@@ -77,12 +85,19 @@ pub(crate) fn read_changes(alloc: Global, query: &str) -> Result<Asked, Fault>
     ensures { Decides result (changes_of (parameters_of query.now)) }
 {
     let parameters = Parameters::read(alloc, query)?;
-    if asks_for_other_changes(&parameters) || !is_normal(&parameters) {
+    if asks_for_other_changes(&parameters) {
         return Err(Fault::Refused(Reason::Parameter));
     }
+    let feed = read_feed(&parameters)?;
     let style = read_style(&parameters)?;
     let limit = read_number(&parameters, "limit")?;
-    Ok(read_since(limit, style, &parameters)?)
+    let since = read_since(&parameters)?;
+    Ok(Asked::Changes(ChangesAsked {
+        since,
+        limit,
+        style,
+        feed,
+    }))
 }
 
 /// Whether some rows are asked for by their keys.

@@ -5,6 +5,7 @@
 #![tactic(auto)]
 
 mod asked;
+mod changes;
 mod feed;
 mod identity;
 pub mod laws;
@@ -15,5 +16,6 @@ mod read;
 mod rejection;
 
 pub use asked::{Asked, Form};
+pub use changes::{ChangesAsked, Feed, Since};
 pub use read::read_request;
 pub use rejection::Rejection;

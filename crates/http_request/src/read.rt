@@ -1,7 +1,7 @@
 //! What a request asks: its route, its method, and then what the route says.
 ghost use Rattle.std.specs.Prelude.{◌≡◌, [], ◌∷◌, Ok, IfOk};
 ghost use Rattle.model.specs.Command.{Edits};
-ghost use Rattle.http_request.specs.Decide.{asked_of, decide, delete_document, get_document, method_in, method_of, post_bulk, post_revs_diff, put_document, put_revs_limit, route_in};
+ghost use Rattle.http_request.specs.Decide.{asked_of, decide, delete_document, get_document, method_in, method_of, post_bulk, post_purge, post_revs_diff, put_document, put_revs_limit, route_in};
 ghost use Rattle.document_json.specs.Steps.{Checked, Decides};
 ghost use Rattle.http_request.specs.Rejections.{decided, DecidesSo};
 
@@ -12,7 +12,7 @@ use crate::local::{read_local_deletion, read_local_put, read_local_query};
 use crate::opened::read_open_revs;
 use crate::parameter::{read_named_revision, read_options, refuse_replication};
 use crate::rejection::{Rejection, Undecided};
-use answer_json::{read_difference, read_limit};
+use answer_json::{read_limit, read_named_revisions, read_purge};
 use commands::{Command, Edit};
 use document_json::{Fault, read_bulk, read_edit};
 use http_framing::request::Request;
@@ -71,6 +71,8 @@ fn read_route(
         (Route::Local, Method::Get) => decide_by(read_local_query(alloc, path)),
         (Route::Local, Method::Put) => decide_by(read_local_put(alloc, path, query, body)),
         (Route::Local, Method::Delete) => decide_by(read_local_deletion(alloc, path, query)),
+        (Route::Compact, Method::Post) => Ok(Asked::Command(Form::Whole, Command::compact())),
+        (Route::Purge, Method::Post) => decide_by(read_purged(alloc, body)),
         (Route::RevsDiff, Method::Post) => decide_by(read_revs_diff(alloc, body)),
         (Route::RevsLimit, Method::Get) => Ok(Asked::Query(Query::new(QueryKind::RevsLimit))),
         (Route::RevsLimit, Method::Put) => decide_by(read_revs_limit(alloc, body)),
@@ -191,8 +193,16 @@ fn read_bulk_docs(alloc: Global, body: &[u8]) -> Result<Asked, Fault>
 fn read_revs_diff(alloc: Global, body: &[u8]) -> Result<Asked, Fault>
     ensures { Decides result (post_revs_diff body.now) }
 {
-    let named = read_difference(alloc, body)?;
+    let named = read_named_revisions(alloc, body)?;
     Ok(Asked::Query(Query::new(QueryKind::RevsDiff(named))))
+}
+
+/// POST of revisions that are removed for good.
+fn read_purged(alloc: Global, body: &[u8]) -> Result<Asked, Fault>
+    ensures { Decides result (post_purge body.now) }
+{
+    let command = read_purge(alloc, body)?;
+    Ok(Asked::Command(Form::Whole, command))
 }
 
 /// PUT of the limit of revisions.

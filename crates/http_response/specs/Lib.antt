@@ -2,3 +2,4 @@ pub mod Response
 pub mod Problem
 pub mod Told
 pub mod Texts
+pub mod Feed

@@ -27,6 +27,7 @@ line text = text ++ crlf
 abbrev pub status_text : StatusCode → List ℕ
 status_text status.Ok = codes "200 OK"
 status_text status.Created = codes "201 Created"
+status_text status.Accepted = codes "202 Accepted"
 status_text status.BadRequest = codes "400 Bad Request"
 status_text status.NotFound = codes "404 Not Found"
 status_text status.MethodNotAllowed = codes "405 Method Not Allowed"

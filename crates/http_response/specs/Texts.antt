@@ -12,8 +12,10 @@ use Rattle.http_response.specs.declared.status.StatusCode.TheVariants as status
 use Rattle.http_response.specs.declared.head.Allow.TheVariants as allow
 use Rattle.http_response.specs.declared.connection.Connection.{Connection}
 use Rattle.http_response.specs.declared.connection.Connection.TheVariants as connection
-use Rattle.http_response.specs.declared.lost.Lost.{Lost}
-use Rattle.http_response.specs.declared.lost.Lost.TheVariants as lost
+use Rattle.http_response.specs.declared.memory.MemoryFor.{MemoryFor}
+use Rattle.http_response.specs.declared.memory.MemoryFor.TheVariants as memory_for
+use Rattle.http_response.specs.declared.no_service.Unavailable.{Unavailable}
+use Rattle.http_response.specs.declared.no_service.Unavailable.TheVariants as unavailable
 
 -- ---- what is told of no call of the database
 
@@ -42,22 +44,34 @@ reply_text place connection form command reply = option_map (told_text place con
 unfoldable pub answer_text : ℕ → Connection → Query → Answer → Option (List ℕ)
 answer_text place connection query answer = option_map (told_text place connection) (answer_told query answer)
 
--- a command for which the history has no place
+-- ---- a call that was not taken
+
+abbrev pub unavailable_reason : Unavailable → List ℕ
+unavailable_reason unavailable.Busy = codes "busy"
+unavailable_reason unavailable.Lost = codes "lost"
+unavailable_reason unavailable.Full = codes "full"
+unavailable_reason unavailable.Behind = codes "behind"
+unavailable_reason unavailable.Overrun = codes "overrun"
+unavailable_reason unavailable.Entry = codes "entry"
+
+abbrev pub unavailable_body : Unavailable → List ℕ
+unavailable_body why = problem_text (codes "unavailable") (unavailable_reason why)
+
 -- RFC 9110, 15.6.4 "503 Service Unavailable"
-unfoldable pub full_text : ℕ → Connection → List ℕ
-full_text place connection =
-    response_text status.ServiceUnavailable place allow.Unsaid connection (problem_text (codes "unavailable") (codes "full"))
+unfoldable pub unavailable_text : ℕ → Connection → Unavailable → List ℕ
+unavailable_text place connection why =
+    response_text status.ServiceUnavailable place allow.Unsaid connection (unavailable_body why)
 
 -- ---- want of memory
 
-abbrev pub lost_name : Lost → List ℕ
-lost_name lost.Call = codes "call"
-lost_name lost.Reply = codes "reply"
+abbrev pub wanted_name : MemoryFor → List ℕ
+wanted_name memory_for.Call = codes "call"
+wanted_name memory_for.Reply = codes "reply"
 
-abbrev pub no_memory_body : Lost → List ℕ
-no_memory_body lost = problem_text (codes "no_memory") (lost_name lost)
+abbrev pub no_memory_body : MemoryFor → List ℕ
+no_memory_body wanted = problem_text (codes "no_memory") (wanted_name wanted)
 
 -- memory was refused, and the connection closes
 -- RFC 4918, 11.5 "507 Insufficient Storage"
-unfoldable pub no_memory_text : ℕ → Lost → List ℕ
-no_memory_text place lost = response_text status.InsufficientStorage place allow.Unsaid connection.Close (no_memory_body lost)
+unfoldable pub no_memory_text : ℕ → MemoryFor → List ℕ
+no_memory_text place wanted = response_text status.InsufficientStorage place allow.Unsaid connection.Close (no_memory_body wanted)

@@ -3,7 +3,7 @@ use Rattle.std.specs.Prelude.{ℕ, List, [], ◌∷◌, Result, Ok, Err, codes, 
 use Rattle.serde_json.specs.Data.{Data, number, unsigned, array}
 use Rattle.serde_json.specs.View.{items_of}
 use Rattle.serde_json.specs.Written.{compact_text}
-use Rattle.model.specs.Command.{Id, Edit, Merge, Command, Edits, Merges, PutLocal, SetLimit, Reply, Wrote, WroteLocal, Done}
+use Rattle.model.specs.Command.{Id, Edit, Merge, Command, Compact, Edits, Merges, Purge, PutLocal, SetLimit, Reply, Wrote, WroteLocal, Purged, Done}
 use Rattle.model.specs.declared.refusal.Refusal.{Refusal}
 use Rattle.model.specs.Query.{Query, Get, OpenRevs, RevsDiff, Changes, AllDocuments, Info, GetLocal, RevsLimit, Answer, Document, Counted, Found, Limit, Changed, Differences, Documents, FoundLocal, Opened}
 use Rattle.model.specs.declared.absent.Absent.{Absent}
@@ -13,6 +13,7 @@ use Rattle.http_request.specs.declared.asked.Form.{Form}
 use Rattle.http_request.specs.declared.asked.Form.TheVariants as form
 use Rattle.answer_json.specs.Bulk.{edits_data, merges_data}
 use Rattle.answer_json.specs.Counts.{counts_data}
+use Rattle.answer_json.specs.Purge.{purged_data}
 use Rattle.answer_json.specs.Replies.{written_data, local_written_data}
 use Rattle.document_json.specs.Written.{document_data, local_data}
 use Rattle.answer_json.specs.Opened.{all_opened_data}
@@ -28,9 +29,9 @@ abbrev pub Told : Type 0
 Told = StatusCode × List ℕ
 
 -- that it is done
--- CouchDB: PUT /{db}/_revs_limit
-abbrev pub done : Told
-done = (status.Ok, codes "{\"ok\":true}")
+-- CouchDB: PUT /{db}/_revs_limit, POST /{db}/_compact
+abbrev pub done : StatusCode → Told
+done status = (status, codes "{\"ok\":true}")
 
 -- a list
 abbrev pub told_list : StatusCode → List Data → Told
@@ -80,7 +81,10 @@ abbrev pub reply_told : Form → Command → Reply → Option Told
 reply_told form (Edits edits) (Wrote outcomes) = told_edits form edits outcomes
 reply_told form.Whole (Merges merges) (Wrote outcomes) = Some (told_merges merges outcomes)
 reply_told form (PutLocal id named body) (WroteLocal outcome) = told_local form id outcome
-reply_told form.Whole (SetLimit limit) Done = Some done
+reply_told form.Whole (Purge named) (Purged purge_seq removed) =
+    Some (status.Created, compact_text (purged_data purge_seq removed))
+reply_told form.Whole (SetLimit limit) Done = Some (done status.Ok)
+reply_told form.Whole Compact Done = Some (done status.Accepted)
 reply_told form command reply = None
 
 -- ---- answers

@@ -1,7 +1,7 @@
 //! Responses that tell nothing of the database.
 ghost use Rattle.std.specs.Prelude.{◌≡◌};
 ghost use Rattle.http_response.specs.Problem.{refusal_allow, refusal_body, refusal_status};
-ghost use Rattle.http_response.specs.Texts.{full_text, refusal_text, welcome_text};
+ghost use Rattle.http_response.specs.Texts.{refusal_text, welcome_text};
 
 use crate::body::BodyText;
 use crate::connection::Connection;
@@ -77,13 +77,4 @@ pub fn welcome(place: u64, connection: Connection) -> Response
 {
     let body = BodyText::Fixed(r#"{"couchdb":"Welcome"}"#);
     Response::plain(StatusCode::Ok, place, connection, body)
-}
-
-/// The response to a command for which the history has no place.
-#[tactic(auto, unfolding(crate::specs::Texts::full_text))]
-pub fn full(place: u64, connection: Connection) -> Response
-    ensures text { result ≡ full_text place connection }
-{
-    let body = BodyText::Fixed(r#"{"error":"unavailable","reason":"full"}"#);
-    Response::plain(StatusCode::ServiceUnavailable, place, connection, body)
 }

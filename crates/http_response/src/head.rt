@@ -46,13 +46,13 @@ pub(crate) fn head(
 }
 
 /// Writes a number, of at most 20 digits.
-fn push_number(head: &mut ArrayString<HEAD_ROOM>, number: u64)
-    requires { array_string_len head.old + 20 ≤ HEAD_ROOM }
-    ensures digits { head.new.bytes ≡ head.old.bytes ++ decimal number }
-    ensures short { array_string_len head.new ≤ array_string_len head.old + 20 }
+pub(crate) fn push_number<const ROOM: usize>(text: &mut ArrayString<ROOM>, number: u64)
+    requires { array_string_len text.old + 20 ≤ ROOM }
+    ensures digits { text.new.bytes ≡ text.old.bytes ++ decimal number }
+    ensures short { array_string_len text.new ≤ array_string_len text.old + 20 }
 {
     let mut digits = Buffer::new();
-    head.push_str(digits.format(number));
+    text.push_str(digits.format(number));
 }
 
 /// Writes the line of the methods, if there is one.

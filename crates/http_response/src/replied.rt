@@ -11,7 +11,7 @@ use crate::connection::Connection;
 use crate::problem::{body_of_refusal, status_of};
 use crate::response::Response;
 use crate::status::StatusCode;
-use answer_json::{edits_text, local_written_text, merges_text, written_text};
+use answer_json::{edits_text, local_written_text, merges_text, purged_text, written_text};
 use commands::{Command, CommandKind, Edit, Reply, ReplyKind};
 use document_id::DocId;
 use http_request::Form;
@@ -58,15 +58,24 @@ fn tell(
         (_, CommandKind::PutLocal { id, .. }, ReplyKind::WroteLocal(outcome)) => {
             tell_local(alloc, form, id, outcome)
         }
-        (Form::Whole, CommandKind::SetLimit(_), ReplyKind::Done) => Ok(Some(tell_done())),
+        (Form::Whole, CommandKind::Purge(_), ReplyKind::Purged { purge_seq, removed }) => {
+            let purged = purged_text(alloc, *purge_seq, removed)?;
+            Ok(Some((StatusCode::Created, BodyText::Made(purged))))
+        }
+        (Form::Whole, CommandKind::SetLimit(_), ReplyKind::Done) => {
+            Ok(Some(tell_done(StatusCode::Ok)))
+        }
+        (Form::Whole, CommandKind::Compact, ReplyKind::Done) => {
+            Ok(Some(tell_done(StatusCode::Accepted)))
+        }
         _ => Ok(None),
     }
 }
 
-fn tell_done() -> (StatusCode, BodyText)
-    ensures { (result.0, bytes_of result.1) ≡ done }
+fn tell_done(status: StatusCode) -> (StatusCode, BodyText)
+    ensures { (result.0, bytes_of result.1) ≡ done status }
 {
-    (StatusCode::Ok, BodyText::Fixed(r#"{"ok":true}"#))
+    (status, BodyText::Fixed(r#"{"ok":true}"#))
 }
 
 fn tell_edits(

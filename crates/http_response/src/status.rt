@@ -7,6 +7,7 @@ ghost use Rattle.http_response.specs.Response.{status_text};
 pub(crate) enum StatusCode {
     Ok,
     Created,
+    Accepted,
     BadRequest,
     NotFound,
     MethodNotAllowed,
@@ -27,6 +28,7 @@ impl StatusCode {
         match self {
             StatusCode::Ok => "200 OK",
             StatusCode::Created => "201 Created",
+            StatusCode::Accepted => "202 Accepted",
             StatusCode::BadRequest => "400 Bad Request",
             StatusCode::NotFound => "404 Not Found",
             StatusCode::MethodNotAllowed => "405 Method Not Allowed",

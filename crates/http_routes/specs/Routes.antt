@@ -19,7 +19,9 @@ routes =
     (Plain (codes "/db/_all_docs"), route.AllDocs)
     ∷ (Plain (codes "/db/_bulk_docs"), route.BulkDocs)
     ∷ (Plain (codes "/db/_changes"), route.Changes)
+    ∷ (Plain (codes "/db/_compact"), route.Compact)
     ∷ (WithId (codes "/db/_local/"), route.Local)
+    ∷ (Plain (codes "/db/_purge"), route.Purge)
     ∷ (Plain (codes "/db/_revs_diff"), route.RevsDiff)
     ∷ (Plain (codes "/db/_revs_limit"), route.RevsLimit)
     ∷ (WithId (codes "/db/"), route.Document)
@@ -36,7 +38,9 @@ methods_of route.DatabaseSlash = method.Get ∷ []
 methods_of route.AllDocs = method.Get ∷ []
 methods_of route.BulkDocs = method.Post ∷ []
 methods_of route.Changes = method.Get ∷ []
+methods_of route.Compact = method.Post ∷ []
 methods_of route.Local = method.Get ∷ method.Put ∷ method.Delete ∷ []
+methods_of route.Purge = method.Post ∷ []
 methods_of route.RevsDiff = method.Post ∷ []
 methods_of route.RevsLimit = method.Get ∷ method.Put ∷ []
 methods_of route.Document = method.Get ∷ method.Put ∷ method.Delete ∷ []

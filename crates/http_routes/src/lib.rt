@@ -30,8 +30,12 @@ pub enum Route {
     BulkDocs,
     /// `/db/_changes`
     Changes,
+    /// `/db/_compact`
+    Compact,
     /// `/db/_local/ID`
     Local,
+    /// `/db/_purge`
+    Purge,
     /// `/db/_revs_diff`
     RevsDiff,
     /// `/db/_revs_limit`
@@ -71,7 +75,7 @@ impl Route {
         match self {
             Route::Root | Route::Database | Route::DatabaseSlash => &[Method::Get],
             Route::AllDocs | Route::Changes => &[Method::Get],
-            Route::BulkDocs | Route::RevsDiff => &[Method::Post],
+            Route::BulkDocs | Route::Compact | Route::Purge | Route::RevsDiff => &[Method::Post],
             Route::RevsLimit => &[Method::Get, Method::Put],
             Route::Local | Route::Document => &[Method::Get, Method::Put, Method::Delete],
         }
@@ -79,14 +83,16 @@ impl Route {
 }
 
 /// The paths of the routes, as `matchit` writes them.
-const TABLE: [(&str, Route); 10] = [
+const TABLE: [(&str, Route); 12] = [
     ("/", Route::Root),
     ("/db", Route::Database),
     ("/db/", Route::DatabaseSlash),
     ("/db/_all_docs", Route::AllDocs),
     ("/db/_bulk_docs", Route::BulkDocs),
     ("/db/_changes", Route::Changes),
+    ("/db/_compact", Route::Compact),
     ("/db/_local/{id}", Route::Local),
+    ("/db/_purge", Route::Purge),
     ("/db/_revs_diff", Route::RevsDiff),
     ("/db/_revs_limit", Route::RevsLimit),
     ("/db/{id}", Route::Document),
@@ -163,6 +169,8 @@ mod tests {
         assert_eq!(rt; routes.at("/db/_all_docs"), Some(Route::AllDocs));
         assert_eq!(rt; routes.at("/db/_bulk_docs"), Some(Route::BulkDocs));
         assert_eq!(rt; routes.at("/db/_changes"), Some(Route::Changes));
+        assert_eq!(rt; routes.at("/db/_compact"), Some(Route::Compact));
+        assert_eq!(rt; routes.at("/db/_purge"), Some(Route::Purge));
         assert_eq!(rt; routes.at("/db/_local/a"), Some(Route::Local));
         assert_eq!(rt; routes.at("/db/_revs_diff"), Some(Route::RevsDiff));
         assert_eq!(rt; routes.at("/db/_local"), Some(Route::Document));

@@ -1,6 +1,7 @@
 //! The texts of answers to queries.
 
 use crate::texts::text_of;
+use answer_json::feed_line;
 use commands::NamedRevisions;
 use document_id::DocId;
 use http_response::{Connection, answer};
@@ -71,6 +72,28 @@ fn changes(rt: HostRuntime) -> Result<(), Fail> {
         told(&rt, query, AnswerKind::Changed(page))?.as_str(),
         "HTTP/1.1 200 OK\r\nContent-Type: application/json\r\nContent-Length: 205\r\nCouch-Place: 1\r\n\r\n{\"last_seq\":7,\"pending\":2,\"results\":[{\"changes\":[{\"rev\":\"1-0123456789abcdef0123456789abcdef\"}],\"id\":\"a\",\"seq\":4},{\"changes\":[{\"rev\":\"1-0123456789abcdef0123456789abcdef\"}],\"deleted\":true,\"id\":\"b\",\"seq\":7}]}"
     );
+    Ok(())
+}
+
+#[test]
+fn lines_of_a_feed(rt: HostRuntime) -> Result<(), Fail> {
+    for (seq, name, deleted, line) in [
+        (
+            1,
+            "a",
+            false,
+            "{\"changes\":[{\"rev\":\"1-0123456789abcdef0123456789abcdef\"}],\"id\":\"a\",\"seq\":1}\n",
+        ),
+        (
+            7,
+            "b",
+            true,
+            "{\"changes\":[{\"rev\":\"1-0123456789abcdef0123456789abcdef\"}],\"deleted\":true,\"id\":\"b\",\"seq\":7}\n",
+        ),
+    ] {
+        let row = row(&rt, seq, name, deleted)?;
+        assert_eq!(rt; feed_line(rt.alloc(), &row)?.as_str(), line);
+    }
     Ok(())
 }
 

@@ -3,8 +3,9 @@
 use commands::CommandKind;
 use document_json::Reason;
 use http_framing::request::Request;
-use http_request::{Asked, Form, Rejection, read_request};
+use http_request::{Asked, ChangesAsked, Feed, Form, Rejection, Since, read_request};
 use http_routes::{Route, Routes};
+use model::Style;
 use queries::QueryKind;
 use std::test::Fail;
 
@@ -84,6 +85,14 @@ fn routes_and_methods(rt: HostRuntime) -> Result<(), Fail> {
     assert_eq!(rt; refusal(&rt, "X", "/other", "")?, missing);
     let not_allowed = Some(Rejection::MethodNotAllowed(Route::RevsLimit));
     assert_eq!(rt; refusal(&rt, "DELETE", "/db/_revs_limit", "")?, not_allowed);
+    for (target, route) in [
+        ("/db/_compact", Route::Compact),
+        ("/db/_purge", Route::Purge),
+    ] {
+        let not_allowed = Some(Rejection::MethodNotAllowed(route));
+        assert_eq!(rt; refusal(&rt, "GET", target, "")?, not_allowed);
+        assert_eq!(rt; refusal(&rt, "PUT", target, "{}")?, not_allowed);
+    }
     let not_allowed = Some(Rejection::MethodNotAllowed(Route::Document));
     assert_eq!(rt; refusal(&rt, "HEAD", "/db/_x", "")?, not_allowed);
     Ok(())
@@ -305,8 +314,10 @@ fn a_bulk(rt: HostRuntime) -> Result<(), Fail> {
 }
 
 #[test]
-fn differences(rt: HostRuntime) -> Result<(), Fail> {
+fn revisions_of_documents(rt: HostRuntime) -> Result<(), Fail> {
     for (body, reason) in [
+        ("", Reason::Json),
+        (r#"{"a":[1.5]}"#, Reason::Number),
         ("[]", Reason::Shape),
         (r#"{"":["x"],"b":1}"#, Reason::Shape),
         (r#"{"":["x"],"b":[1]}"#, Reason::Shape),
@@ -316,11 +327,13 @@ fn differences(rt: HostRuntime) -> Result<(), Fail> {
             Reason::Revision,
         ),
     ] {
-        assert_eq!(rt;
-            bad_post(&rt, "/db/_revs_diff", body)?,
-            Some(reason),
-            "{body}"
-        );
+        for target in ["/db/_revs_diff", "/db/_purge?rev=x"] {
+            assert_eq!(rt;
+                bad_post(&rt, target, body)?,
+                Some(reason),
+                "{target} {body}"
+            );
+        }
     }
     Ok(())
 }
@@ -339,5 +352,92 @@ fn a_difference(rt: HostRuntime) -> Result<(), Fail> {
     };
     assert!(rt; first.id.as_str() == "a" && first.revisions.len() == 1);
     assert!(rt; second.id.as_str() == "b" && second.revisions.is_empty());
+    Ok(())
+}
+
+#[test]
+fn a_purge(rt: HostRuntime) -> Result<(), Fail> {
+    let body = r#"{"e":[],"d":["2-0123456789abcdef0123456789abcdef",
+        "1-0123456789abcdef0123456789abcdef"]}"#;
+    let Ok(Asked::Command(Form::Whole, command)) = ask(&rt, "POST", "/db/_purge", body)? else {
+        return Err("no command".into());
+    };
+    let CommandKind::Purge(named) = command.kind() else {
+        return Err("no purge".into());
+    };
+    let [first, second] = named.documents() else {
+        return Err("not two".into());
+    };
+    assert!(rt; first.id.as_str() == "d" && first.revisions.len() == 2);
+    assert_eq!(rt; first.revisions[0].generation(), 2);
+    assert!(rt; second.id.as_str() == "e" && second.revisions.is_empty());
+    Ok(())
+}
+
+#[test]
+fn a_compaction(rt: HostRuntime) -> Result<(), Fail> {
+    for (target, body) in [("/db/_compact", ""), ("/db/_compact?x=1", "{")] {
+        let Ok(Asked::Command(form, command)) = ask(&rt, "POST", target, body)? else {
+            return Err("no command".into());
+        };
+        assert_eq!(rt; form, Form::Whole);
+        assert!(rt; matches!(command.kind(), CommandKind::Compact));
+    }
+    Ok(())
+}
+
+fn changes(rt: &HostRuntime, query: &str) -> Result<Result<ChangesAsked, Rejection>, Fail> {
+    let target = format!(in rt.alloc(); "/db/_changes{query}")?;
+    match ask(rt, "GET", target.as_str(), "")? {
+        Ok(Asked::Changes(changes)) => Ok(Ok(changes)),
+        Ok(_) => Err("no changes".into()),
+        Err(rejection) => Ok(Err(rejection)),
+    }
+}
+
+#[test]
+fn feeds(rt: HostRuntime) -> Result<(), Fail> {
+    for (query, since, limit, style, feed) in [
+        ("", Since::Number(0), None, Style::MainOnly, Feed::Normal),
+        (
+            "?feed=normal&since=7&limit=002&feed=x",
+            Since::Number(7),
+            Some(2),
+            Style::MainOnly,
+            Feed::Normal,
+        ),
+        (
+            "?since=now&feed=longpoll&style=all_docs",
+            Since::Now,
+            None,
+            Style::AllDocs,
+            Feed::LongPoll,
+        ),
+        (
+            "?feed=continuous&limit=0",
+            Since::Number(0),
+            Some(0),
+            Style::MainOnly,
+            Feed::Continuous,
+        ),
+    ] {
+        let wanted = ChangesAsked {
+            since,
+            limit,
+            style,
+            feed,
+        };
+        assert_eq!(rt; changes(&rt, query)?, Ok(wanted), "{query}");
+    }
+    for query in [
+        "?feed=",
+        "?feed=Normal",
+        "?feed=eventsource",
+        "?feed=longpoll&since=x",
+        "?feed=continuous&view=x",
+    ] {
+        let refused = Rejection::BadRequest(Reason::Parameter);
+        assert_eq!(rt; changes(&rt, query)?, Err(refused), "{query}");
+    }
     Ok(())
 }

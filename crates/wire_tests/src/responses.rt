@@ -1,12 +1,15 @@
 //! The texts of replies to commands, and of refusals.
 
 use crate::texts::text_of;
-use commands::{Command, Edit, Merge, Reply, ReplyKind};
+use commands::{AskedRevisions, Command, Edit, Merge, NamedRevisions, Reply, ReplyKind};
 use document_id::DocId;
 use document_json::Reason;
 use http_framing::FramingFault;
 use http_request::{Form, Rejection};
-use http_response::{Connection, Lost, answer, closing, full, no_memory, refused, reply, welcome};
+use http_response::{
+    Connection, MemoryFor, Unavailable, answer, closing, feed_head, feed_last, no_memory, refused,
+    reply, service_unavailable, welcome,
+};
 use http_routes::Route;
 use json_profile::Body;
 use model::{Absent, Refusal};
@@ -113,12 +116,63 @@ fn no_such_replies(rt: HostRuntime) -> Result<(), Fail> {
     let written = two_writes(alloc, Refusal::BadHistory)?;
     let merges = Command::merges(vec![in alloc; merge(alloc, "a")?]?).ok_or("command")?;
     let rows = [
-        (Form::Whole, Command::compact(), &done),
+        (Form::Put, Command::compact(), &done),
+        (Form::Whole, Command::compact(), &written),
         (Form::Put, merges, &written),
     ];
     for (form, command, told) in rows {
         let response = reply(alloc, 1, Connection::Open, form, &command, told)?;
         assert!(rt; response.is_none());
+    }
+    Ok(())
+}
+
+/// A document with its revisions.
+fn asked(alloc: Global, name: &str, revs: &[&str]) -> Result<AskedRevisions, Fail> {
+    let mut revisions = Vec::new(alloc);
+    for rev in revs {
+        revisions.push(RevId::parse(rev).ok().ok_or("revision")?)?;
+    }
+    let id = id(alloc, name)?;
+    Ok(AskedRevisions { id, revisions })
+}
+
+const C2: &str = "2-cccccccccccccccccccccccccccccccc";
+
+#[test]
+fn a_purge(rt: HostRuntime) -> Result<(), Fail> {
+    let alloc = rt.alloc();
+    let documents = vec![in alloc; asked(alloc, "d", &[C2, A1])?, asked(alloc, "e", &[A1])?]?;
+    let purge = Command::purge(NamedRevisions::new(documents).ok_or("names")?).ok_or("command")?;
+    let removed = vec![in alloc; asked(alloc, "d", &[C2])?, asked(alloc, "e", &[])?]?;
+    let told = Reply::new(ReplyKind::Purged {
+        purge_seq: 1,
+        removed: NamedRevisions::new(removed).ok_or("names")?,
+    });
+    assert_eq!(rt;
+        reply_whole(alloc, 2, &purge, &told)?.as_str(),
+        "HTTP/1.1 201 Created\r\nContent-Type: application/json\r\nContent-Length: 76\r\nCouch-Place: 2\r\n\r\n{\"purge_seq\":1,\"purged\":{\"d\":[\"2-cccccccccccccccccccccccccccccccc\"],\"e\":[]}}"
+    );
+    Ok(())
+}
+
+#[test]
+fn a_compaction_and_a_limit(rt: HostRuntime) -> Result<(), Fail> {
+    let alloc = rt.alloc();
+    let done = Reply::new(ReplyKind::Done);
+    let limit = Command::set_limit(1).ok_or("command")?;
+    let rows = [
+        (
+            Command::compact(),
+            "HTTP/1.1 202 Accepted\r\nContent-Type: application/json\r\nContent-Length: 11\r\nCouch-Place: 3\r\n\r\n{\"ok\":true}",
+        ),
+        (
+            limit,
+            "HTTP/1.1 200 OK\r\nContent-Type: application/json\r\nContent-Length: 11\r\nCouch-Place: 3\r\n\r\n{\"ok\":true}",
+        ),
+    ];
+    for (command, text) in rows {
+        assert_eq!(rt; reply_whole(alloc, 3, &command, &done)?.as_str(), text);
     }
     Ok(())
 }
@@ -204,6 +258,11 @@ fn refusals(rt: HostRuntime) -> Result<(), Fail> {
         text_of(alloc, &refused(12, Connection::Open, refusal))?.as_str(),
         "HTTP/1.1 400 Bad Request\r\nContent-Type: application/json\r\nContent-Length: 41\r\nCouch-Place: 12\r\n\r\n{\"error\":\"bad_request\",\"reason\":\"number\"}"
     );
+    let refusal = Rejection::MethodNotAllowed(Route::Compact);
+    assert_eq!(rt;
+        text_of(alloc, &refused(0, Connection::Open, refusal))?.as_str(),
+        "HTTP/1.1 405 Method Not Allowed\r\nContent-Type: application/json\r\nContent-Length: 61\r\nCouch-Place: 0\r\nAllow: POST\r\n\r\n{\"error\":\"method_not_allowed\",\"reason\":\"Method not allowed.\"}"
+    );
     let refusal = Rejection::MethodNotAllowed(Route::Document);
     assert_eq!(rt;
         text_of(alloc, &refused(0, Connection::Close, refusal))?.as_str(),
@@ -248,6 +307,26 @@ fn broken_input(rt: HostRuntime) -> Result<(), Fail> {
 }
 
 #[test]
+fn calls_that_were_not_taken(rt: HostRuntime) -> Result<(), Fail> {
+    let alloc = rt.alloc();
+    for (why, length, name) in [
+        (Unavailable::Busy, 39, "busy"),
+        (Unavailable::Lost, 39, "lost"),
+        (Unavailable::Full, 39, "full"),
+        (Unavailable::Behind, 41, "behind"),
+        (Unavailable::Overrun, 42, "overrun"),
+        (Unavailable::Entry, 40, "entry"),
+    ] {
+        let text = format!(in alloc;
+            "HTTP/1.1 503 Service Unavailable\r\nContent-Type: application/json\r\nContent-Length: {length}\r\nCouch-Place: 1\r\n\r\n{{\"error\":\"unavailable\",\"reason\":\"{name}\"}}"
+        )?;
+        let said = text_of(alloc, &service_unavailable(1, Connection::Open, why))?;
+        assert_eq!(rt; said.as_str(), text.as_str());
+    }
+    Ok(())
+}
+
+#[test]
 fn fixed_texts(rt: HostRuntime) -> Result<(), Fail> {
     let alloc = rt.alloc();
     assert_eq!(rt;
@@ -255,12 +334,35 @@ fn fixed_texts(rt: HostRuntime) -> Result<(), Fail> {
         "HTTP/1.1 200 OK\r\nContent-Type: application/json\r\nContent-Length: 21\r\nCouch-Place: 0\r\n\r\n{\"couchdb\":\"Welcome\"}"
     );
     assert_eq!(rt;
-        text_of(alloc, &full(1, Connection::Open))?.as_str(),
-        "HTTP/1.1 503 Service Unavailable\r\nContent-Type: application/json\r\nContent-Length: 39\r\nCouch-Place: 1\r\n\r\n{\"error\":\"unavailable\",\"reason\":\"full\"}"
-    );
-    assert_eq!(rt;
-        text_of(alloc, &no_memory(18446744073709551615, Lost::Reply))?.as_str(),
+        text_of(alloc, &no_memory(18446744073709551615, MemoryFor::Reply))?.as_str(),
         "HTTP/1.1 507 Insufficient Storage\r\nContent-Type: application/json\r\nContent-Length: 38\r\nCouch-Place: 18446744073709551615\r\nConnection: close\r\n\r\n{\"error\":\"no_memory\",\"reason\":\"reply\"}"
     );
+    Ok(())
+}
+
+#[test]
+fn the_ends_of_a_feed(rt: HostRuntime) -> Result<(), Fail> {
+    for (place, head) in [
+        (
+            3,
+            "HTTP/1.1 200 OK\r\nContent-Type: application/json\r\nCouch-Place: 3\r\nConnection: close\r\n\r\n",
+        ),
+        (
+            18446744073709551615,
+            "HTTP/1.1 200 OK\r\nContent-Type: application/json\r\nCouch-Place: 18446744073709551615\r\nConnection: close\r\n\r\n",
+        ),
+    ] {
+        assert_eq!(rt; feed_head(place).as_str(), head);
+    }
+    for (last_seq, pending, line) in [
+        (2, 1, "{\"last_seq\":2,\"pending\":1}\n"),
+        (
+            18446744073709551615,
+            18446744073709551615,
+            "{\"last_seq\":18446744073709551615,\"pending\":18446744073709551615}\n",
+        ),
+    ] {
+        assert_eq!(rt; feed_last(last_seq, pending).as_str(), line);
+    }
     Ok(())
 }

@@ -87,6 +87,8 @@ WHOLE = {
     "changes-styles": TWO_PATHS + [merge(at("d", rev(4, "f"), rev(3, "0"), _deleted=True)), put("/db/a", {})] + each("/db/_changes?", ["style=main_only", "style=all_docs", "style=all_docs&feed=normal&limit=1"]),
     "changes-limits": THREE_AND_A_DELETION + each("/db/_changes?", ["limit=0", "limit=1", "limit=3", "limit=4", "limit=999999999999999999", "limit=002&since=0003", "since=2&limit=1"]),
     "changes-since": THREE_AND_A_DELETION + each("/db/_changes?", ["since=0", "since=4", "since=5", "since=999999999999999999", "since=now", "since=now&limit=1"]),
+    "changes-of-a-long-poll-alone": each("/db/_changes?feed=", ["longpoll", "longpoll&since=now"]) + THREE_AND_A_DELETION
+    + each("/db/_changes?feed=longpoll", ["", "&limit=1", "&limit=0&style=all_docs", "&since=3", "&since=4", "&since=now", "&since=9", "&feed=x"]),
     "changes-each-document-once": [put("/db/a", {}), put("/db/b", {}), put("/db/a?rev=" + A1, {"n": 1}), get("/db/_changes"), put("/db/a?rev=" + A2, {"_deleted": True}), get("/db/_changes?since=1")],
     "changes-deleted-winner-alone": [merge(at("d", rev(2, "b"), _deleted=True), at("d", rev(1, "a"))), get("/db/_changes?style=all_docs")],
     "changes-parameters-ignored": [get("/db/_changes?include_docs=false&descending=false&heartbeat=x&timeout=1&conflicts=1&first=&since=0&since=x")],
@@ -104,7 +106,7 @@ REFUSALS = {
     "revision-of-open": [opened("a", listed("x")), opened("a", listed(A1, "1-" + "A" * 32)), opened("a", "all", "&rev=x"), opened("a", "[]", "&rev=")],
     "parameter-of-changes": each("/db/_changes?", [
         "since=", "since", "since=x", "since=-1", "since=%2B1", "since=1.0", "since=1000000000000000000", "since=NOW", "limit=", "limit=x", "limit=-1", "limit=0000000000000000001", "style=", "style=all",
-        "feed=", "feed=eventsource", "include_docs=true", "descending=true", "filter=", "filter=_doc_ids", "filter", "view=x", "view",
+        "feed=", "feed", "feed=eventsource", "feed=Normal", "feed=longpoll&since=x", "feed=long", "include_docs=true", "descending=true", "filter=", "filter=_doc_ids", "filter", "view=x", "view",
     ]),
     "parameter-of-all-docs": each("/db/_all_docs?", ["include_docs=true", "descending=true", "key=", "keys", "startkey=%22a%22", "endkey=x", "start_key=x", "end_key=x", "skip=0", "limit=1", "x=1&limit="]),
     "local-id": each("", ["/db/_local/_x", "/db/_local/%5Fx", "/db/_local/" + "x" * 513, "/db/_local/%ff"]) + [put("/db/_local/_x?rev=x", "{")],
@@ -137,6 +139,5 @@ CASES = {**TOLD, **DOCUMENTS, **LOCALS, **WHOLE, **REFUSALS, **CURL}
 
 # what the program doesn't have
 NOT_SERVED = {
-    "feeds": each("/db/_changes?feed=", ["longpoll", "continuous"]),
-    "routes": [get("/db/_purge"), request("POST", "/db/_purge", "{}"), get("/db/_compact"), request("POST", "/db/_compact", "")],
+    "feeds": each("/db/_changes?feed=", ["continuous", "continuous&limit=2&since=now"]),
 }

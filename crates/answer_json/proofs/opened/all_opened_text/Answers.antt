@@ -1,4 +1,4 @@
-use Rattle.std.proofs.Common.{rules, ◌++◌, map, ap, ◌∙◌}
+use Rattle.std.proofs.Common.{rules, ◌++◌, ap, ◌∙◌}
 use Rattle.std.proofs.lemmas.Result.{IfOk-weaker}
 use Rattle.serde_json.specs.Written.{compact_text}
 use Rattle.answer_json.specs.Opened.{all_opened_data, opened_data}

@@ -2,9 +2,10 @@ use Rattle.std.proofs.Common.{Err, refl, ap, sym, ◌∙◌, subst, length}
 use Rattle.std.specs.Prelude.{IsSome}
 use Rattle.model.specs.Command.{Reply}
 use Rattle.http_framing.specs.Input.{Requested}
-use Rattle.http_response.specs.Texts.{reply_text, full_text}
+use Rattle.http_response.specs.Texts.{reply_text, unavailable_text}
 use Rattle.http_response.specs.Told.{reply_told}
 use Rattle.http_response.specs.declared.connection.Connection.{Connection}
+use Rattle.http_response.specs.declared.no_service.Unavailable.TheVariants as unavailable
 use Rattle.http_front.specs.Answers.{AnswersAlone}
 use Rattle.http_front.specs.Known.{Known}
 use Rattle.http_front.specs.Response.{turn_of}
@@ -37,9 +38,9 @@ pub returns-in-Err-Full : goal.returns-in-Err-Full
 returns-in-Err-Full c =
     λ request asks closes_is.
     let place = c.place-in-Err-Full.result in
-    let sent : Sent = record { response = c.full-response.result; closes = c.args.closes } in
+    let sent : Sent = record { response = c.service_unavailable-response.result; closes = c.args.closes } in
     let same = c.in-Err-Full.ensures.fault in
     let full = ap (λ (k : Known). length k.seen) same ∙ c.in-Err-Full.ensures.full.0 (ap Err c.in-Err-Full.field-0-is) ∙ ap (λ (k : Known). k.room) (sym same) in
     subst (λ (k : Known). AnswersAlone k (turn_of (Requested request) sent) c.write.new.self) same
     (answers_full c.write.new.self place c.place-in-Err-Full.ensures sent request c.args.closes closes_is c.args.form c.args.command.now asks full
-    (c.full-response.ensures.text ∙ ap (λ (k : Connection). full_text place k) c.connection_after-connection.ensures, refl))
+    (c.service_unavailable-response.ensures.text ∙ ap (λ (k : Connection). unavailable_text place k unavailable.Full) c.connection_after-connection.ensures, refl))
