@@ -1,0 +1,13 @@
+pub mod PutTwice
+pub mod ViewLists
+pub mod Committed
+pub mod Wrote
+pub mod Reached
+pub mod Steps
+pub mod Kept
+pub mod KeptCopies
+pub mod Next
+pub mod NextCopies
+pub mod Outcome
+pub mod Ends
+pub mod Starts
