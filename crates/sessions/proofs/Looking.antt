@@ -1,31 +1,30 @@
 -- Looks one after another, and a call after a look.
-use Rattle.std.proofs.Common.{◌≡◌, ℕ, true, false, Bool, List, [], ◌∷◌, ◌++◌, refl, ap, sym, ◌∙◌, subst, append_assoc}
+use Rattle.std.proofs.Common.{◌≡◌, ℕ, true, [], ◌∷◌, ◌++◌, refl, ap, sym, ◌∙◌, subst}
 use Rattle.std.proofs.lemmas.List.{append-nil}
-use Rattle.std.specs.Prelude.{◌↔◌, Result, Ok, Err, Option, Some, None, IfOk, IfErr, IfSome, IfNone, IsErrAnd}
-use Rattle.model.specs.Command.{Command, Entry}
+use Rattle.std.specs.Prelude.{Result, Ok, Err, Option, Some, None, IfOk, IfErr, IfSome, IfNone, IsErrAnd}
+use Rattle.model.specs.Command.{Command}
 use Rattle.model.specs.History.{IsLegal, Chronicle, Extends}
-use Rattle.compactor.specs.declared.fault.CopyFault.{CopyFault}
-use Rattle.compactor.specs.declared.fault.CopyFault.TheVariants as copied
 use Rattle.publications.specs.Histories.{opening_base}
 use Rattle.publications.proofs.Prefixes.{prefix_self, prefix_trans}
-use Rattle.sessions.specs.Known.{Known, seen}
+use Rattle.sessions.specs.Known.{Known, seen, SeesOwn}
 use Rattle.sessions.specs.Calls.{Looks, Told, Writes, next_seat}
-use Rattle.sessions.specs.Compactions.{Leaves, IsOfCopy, chronicle_of, fault_of}
+use Rattle.sessions.specs.Compactions.{Leaves, IsOfCopy}
 use Rattle.sessions.specs.declared.fault.Fault.{Fault}
 use Rattle.sessions.specs.declared.fault.Fault.TheVariants as fault
 
-pub looks_self : (k : Known) → IsLegal opening_base (seen k) → Looks k k
-looks_self k legal = record { legal = legal; extends = prefix_self (seen k); same = refl }
+pub looks_self : (k : Known) → IsLegal opening_base (seen k) → SeesOwn k → Looks k k
+looks_self k legal own = record { legal = legal; extends = prefix_self (seen k); own = own; same = refl }
 
 pub looks_then : (a b c : Known) → Looks a b → Looks b c → Looks a c
 looks_then a b c p q = record {
   legal = q.legal;
   extends = prefix_trans (seen a) (seen b) (seen c) p.extends q.extends;
+  own = q.own;
   same = q.same ∙ ap (λ (k : Known). record k { published = c.published }) p.same;
 }
 
 lost_too : (a b : Known) → Looks a b → Looks (record a { lost = true }) (record b { lost = true })
-lost_too a b p = record { legal = p.legal; extends = p.extends; same = ap (λ (k : Known). record k { lost = true }) p.same }
+lost_too a b p = record { legal = p.legal; extends = p.extends; own = p.own; same = ap (λ (k : Known). record k { lost = true }) p.same }
 
 pub leaves_then : (max : ℕ) (e : Fault) (a b c : Known) → Looks a b → Leaves max e b c → Leaves max e a c
 leaves_then max fault.Busy a b c p q = q
@@ -51,11 +50,6 @@ writes_then a b c command receipt p w = record {
 
 -- ---- faults of a copy
 
-pub of_copy : (f : CopyFault) → IsOfCopy (fault_of f)
-of_copy copied.Behind = tt
-of_copy copied.Overrun = tt
-of_copy copied.Memory = tt
-
 pub of_copy-leaves : (max : ℕ) (e : Fault) (a b : Known) → IsOfCopy e → Looks a b → Leaves max e a b
 of_copy-leaves max fault.Busy a b h p = h
 of_copy-leaves max fault.Lost a b h p = absurd h
@@ -65,20 +59,11 @@ of_copy-leaves max fault.Memory a b h p = p
 of_copy-leaves max fault.Behind a b h p = p
 of_copy-leaves max fault.Overrun a b h p = p
 
--- where a look was answered, the session is not lost
-pub known_by : {T : Type 0} (r : Result T Fault) (x : T) (lost : Bool) → r ≡ Ok x → (r ≡ Err fault.Lost) ↔ (lost ≡ true) → lost ≡ false
-known_by r x false is lost = refl
-known_by r x true is lost = absurd (cc (is, lost.1 refl))
-
 -- ---- faults that are passed on
 
 pub passed_with : {X : Type 0} (P : Fault → Type 0) (r : Result X Fault) (e : Fault) → IsErrAnd r (λ f. f ≡ e) → P e → IfErr r P
 passed_with P (Ok x) e is p = absurd is
 passed_with P (Err f) e is p = subst P (sym is) p
-
-pub passed_copy : {X : Type 0} (r : Result X Fault) (e : CopyFault) → IsErrAnd r (λ f. f ≡ fault_of e) → IfErr r IsOfCopy
-passed_copy (Ok x) e is = absurd is
-passed_copy (Err f) e is = subst IsOfCopy (sym is) (of_copy e)
 
 -- ---- a try after a look
 

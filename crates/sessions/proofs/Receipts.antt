@@ -1,20 +1,20 @@
 -- A session's calls in a history that has one call more.
-use Rattle.std.proofs.Common.{◌≡◌, ℕ, zero, suc, ◌+◌, ◌-◌, ◌<◌, ◌≤◌, true, false, List, [], ◌∷◌, ◌++◌, length, slice_get, Some, option_map, refl, ap, sym, ◌∙◌, subst, arith, length-append}
+use Rattle.std.proofs.Common.{◌≡◌, ℕ, zero, suc, ◌+◌, ◌-◌, ◌<◌, ◌≤◌, ◌⊎◌, inl, inr, true, false, List, [], ◌∷◌, ◌++◌, length, slice_get, Some, option_map, refl, ap, sym, ◌∙◌, subst, arith, length-append}
 use mathlib.Core.List.{IsPrefix}
 use Rattle.std.proofs.lemmas.Option.{none-some, same_Some}
-use Rattle.std.proofs.lemmas.Bool.{cond-true, cond-false}
+use Rattle.std.proofs.lemmas.Bool.{cond-true, cond-false, cases_lt}
+use Rattle.std.proofs.lemmas.List.{append-nil}
 use Rattle.std.proofs.lemmas.List.Elements.{filter-append}
 use Rattle.model.specs.Map.{same_key, same_key_itself}
 use Rattle.model.specs.Command.{Command, Reply, Seat, Entry, numbers}
-use Rattle.model.specs.Database.{Database, empty_database, calls_of}
-use Rattle.model.specs.History.{Chronicle, now, IsLegal, replay, of_session}
+use Rattle.model.specs.Database.{Database, empty_database, act, calls_of}
+use Rattle.model.specs.History.{IsLegal, replay, of_session}
 use Rattle.model.proofs.ListLaws.{by_cases}
-use Rattle.model.proofs.CallLaws.{calls-replay}
+use Rattle.model.proofs.CallLaws.{calls-replay, calls-own, calls-other}
 use Rattle.snapshots.specs.Version.{entry_at}
 use Rattle.publications.specs.Histories.{opening_base, newest, Grows}
-use Rattle.publications.proofs.Prefixes.{prefix_trans}
 use Rattle.publications.proofs.Growing.{newest_grows, newest_legal}
-use Rattle.sessions.specs.Known.{Known}
+use Rattle.sessions.specs.Known.{Known, seen, SeesOwn}
 use Rattle.sessions.specs.Calls.{Told, Writes, IsTold, next_seat}
 
 pub of_session-append : (s : ℕ) (xs ys : List Entry) → of_session s (xs ++ ys) ≡ of_session s xs ++ of_session s ys
@@ -69,11 +69,53 @@ slice_get_behind [] ys k le = ap (λ n. slice_get ys n) (omega arith)
 slice_get_behind (x ∷ xs) ys zero le = absurd (omega arith)
 slice_get_behind (x ∷ xs) ys (suc k) le = slice_get_behind xs ys k (omega arith) ∙ ap (λ n. slice_get ys n) (omega arith)
 
+-- the calls of a session in a beginning of a history, and those behind it
+behind : (s : ℕ) (old new : List Entry) (pre : IsPrefix old new) → of_session s new ≡ of_session s old ++ of_session s pre.0
+behind s old new pre = ap (of_session s) (sym pre.1) ∙ of_session-append s old pre.0
+
+-- a history has as many calls of a session as a beginning of it: they are the same
+pub same_calls : (s : ℕ) (old new : List Entry) → IsPrefix old new → length (of_session s new) ≡ length (of_session s old) → of_session s new ≡ of_session s old
+same_calls s old new pre count =
+    let split = behind s old new pre in
+    let none = nothing_left (of_session s pre.0) (omega (arith, count, ap length split, length-append (of_session s old) (of_session s pre.0))) in
+    split ∙ ap (λ (l : List Entry). of_session s old ++ l) none ∙ append-nil (of_session s old)
+
+-- in a beginning of a legal history a call's number is at most that of the session's calls there
+early_call : (base : Database) (old rest : List Entry) (k : ℕ) (e : Entry) → IsLegal base (old ++ rest) → k < length old → slice_get (old ++ rest) k ≡ Some e
+    → e.seat.call ≤ calls_of base e.seat.session + length (of_session e.seat.session old)
+early_call base [] rest k e legal less at = absurd (omega (arith, less))
+early_call base (x ∷ xs) rest zero e legal less at =
+    subst (λ (y : Entry). y.seat.call ≤ calls_of base y.seat.session + length (of_session y.seat.session (x ∷ xs))) (same_Some x e at)
+    (omega (arith, legal.0.seat, ap length (of_session-own x.seat.session x xs (same_key_itself numbers x.seat.session))))
+early_call base (x ∷ xs) rest (suc k) e legal less at =
+    let s = e.seat.session in
+    let later = early_call (act base x.seat x.command) xs rest k e legal.1 (omega (arith, less)) at in
+    by_cases (same_key numbers s x.seat.session)
+    (λ t. omega (arith, later, calls-own base x.seat x.command s t, ap length (of_session-own s x xs t)))
+    (λ f. omega (arith, later, calls-other base x.seat x.command s f, ap length (of_session-other s x xs f)))
+
+-- an entry with a greater number stands behind the beginning
+stands_behind : (s : ℕ) (old new : List Entry) (k : ℕ) (e : Entry) → IsLegal opening_base new → IsPrefix old new → slice_get new k ≡ Some e → e.seat.session ≡ s → length (of_session s old) < e.seat.call → length old ≤ k
+unfolding opening_base
+stands_behind s old new k e legal pre at is more = from (cases_lt k (length old))
+  where
+    early : k < length old → ⊥
+    early less = omega (
+      arith,
+      more,
+      ap (λ n. length (of_session n old)) is,
+      early_call empty_database old pre.0 k e (subst (IsLegal empty_database) (sym pre.1) legal) less (ap (λ l. slice_get l k) pre.1 ∙ at),
+    )
+
+    from : (k < length old) ⊎ (length old ≤ k) → length old ≤ k
+    from (inl less) = absurd (early less)
+    from (inr le) = le
+
 -- a history has one call more of a session than a beginning of it, and an entry of the session behind that: its calls are those and the entry
 new_call : (s : ℕ) (old new : List Entry) (k : ℕ) (e : Entry) → IsPrefix old new → length old ≤ k → slice_get new k ≡ Some e → e.seat.session ≡ s → length (of_session s new) ≡ length (of_session s old) + 1 → of_session s new ≡ of_session s old ++ e ∷ []
 new_call s old new k e pre le at is one =
     let rest = pre.0 in
-    let split : of_session s new ≡ of_session s old ++ of_session s rest = ap (of_session s) (sym pre.1) ∙ of_session-append s old rest in
+    let split = behind s old new pre in
     let at' : slice_get rest (k - length old) ≡ Some e = sym (slice_get_behind old rest k le) ∙ ap (λ l. slice_get l k) pre.1 ∙ at in
     let count : length (of_session s rest) ≡ 1 = omega (arith, one, ap length split, length-append (of_session s old) (of_session s rest)) in
     split ∙ ap (λ l. of_session s old ++ l) (the_call s rest (k - length old) e at' is count)
@@ -90,28 +132,30 @@ first_publication [] (suc n) e at = absurd (none-some e at)
 first_publication (h ∷ hs) place e at = omega arith
 
 -- what a session compares tells what it owes
-pub writes : (old new : Known) (receipted found : List (List Entry)) (command : Command) (receipt : Told) (e : Entry)
-    → old.receipts ≡ of_session old.number (newest receipted) → IsPrefix receipted old.published → IsPrefix old.published found → Grows found
-    → length (newest receipted) < receipt.place → entry_at (newest found) receipt.place ≡ Some e → e ≡ record { seat = receipt.seat; command = command; reply = receipt.reply }
+pub writes : (old new : Known) (found : List (List Entry)) (command : Command) (receipt : Told) (e : Entry)
+    → SeesOwn old → IsPrefix old.published found → Grows found → entry_at (newest found) receipt.place ≡ Some e → e ≡ record { seat = receipt.seat; command = command; reply = receipt.reply }
     → receipt.seat ≡ next_seat old → length (of_session old.number (newest found)) ≡ length old.receipts + 1 → receipt.publication ≡ length found → length found ≤ receipt.place
     → new ≡ record old { published = found; receipts = of_session old.number (newest found) }
     → Writes old command receipt new
-writes old new receipted found command receipt e receipts within later grows above at is seat_is one publication bound same =
+writes old new found command receipt e own later grows at is seat_is one publication bound same =
     let s = old.number in
     let here = at_place (newest found) receipt.place e at in
     let mine : e.seat.session ≡ s = ap (λ (x : Entry). x.seat.session) is ∙ ap (λ (t : Seat). t.session) seat_is in
-    let longer = newest_grows receipted found grows (prefix_trans receipted old.published found within later) in
-    let call = new_call s (newest receipted) (newest found) (receipt.place - 1) e longer (omega (arith, above)) here.1 mine (one ∙ ap (λ (l : List Entry). length l + 1) receipts) in
+    let called : e.seat.call ≡ length old.receipts + 1 = ap (λ (x : Entry). x.seat.call) is ∙ ap (λ (t : Seat). t.call) seat_is in
+    let legal = newest_legal [] found tt grows in
+    let longer = newest_grows old.published found grows later in
+    let above = stands_behind s (seen old) (newest found) (receipt.place - 1) e legal longer here.1 mine (omega (arith, called, ap length own)) in
+    let call = new_call s (seen old) (newest found) (receipt.place - 1) e longer above here.1 mine (one ∙ ap (λ (l : List Entry). length l + 1) (sym own)) in
     let first = first_publication found receipt.place e at in
     let number : new.number ≡ s = ap (λ (k : Known). k.number) same in
     let published : new.published ≡ found = ap (λ (k : Known). k.published) same in
     let receipts' : new.receipts ≡ of_session s (newest found) = ap (λ (k : Known). k.receipts) same in
     record {
-      legal = subst (λ (p : List (List Entry)). IsLegal opening_base (newest p)) (sym published) (newest_legal [] found tt grows);
-      extends = subst (λ (p : List (List Entry)). IsPrefix (newest old.published) (newest p)) (sym published) (newest_grows old.published found grows later);
+      legal = subst (λ (p : List (List Entry)). IsLegal opening_base (newest p)) (sym published) legal;
+      extends = subst (λ (p : List (List Entry)). IsPrefix (newest old.published) (newest p)) (sym published) longer;
       seat = seat_is;
       told = subst (λ (p : List (List Entry)). (0 < receipt.place) × (slice_get (newest p) (receipt.place - 1) ≡ Some (record { seat = receipt.seat; command = command; reply = receipt.reply }))) (sym published) (here.0, here.1 ∙ ap Some is);
-      receipts = receipts' ∙ call ∙ ap (λ (l : List Entry). l ++ e ∷ []) (sym receipts) ∙ ap (λ (x : Entry). old.receipts ++ x ∷ []) is;
+      receipts = receipts' ∙ call ∙ ap (λ (l : List Entry). l ++ e ∷ []) own ∙ ap (λ (x : Entry). old.receipts ++ x ∷ []) is;
       only = (λ i. of_session (number i) (newest (published i))) ∙ sym receipts';
       first = omega (arith, first, publication);
       bound = omega (arith, bound, publication);
@@ -132,19 +176,15 @@ entry_is h place seat command reply t stands =
     λ i. record { seat = t.seat_is i; command = t.command_is i; reply = replies i }
 
 -- what a version is compared with tells that the entry is what was asked
-pub told : (c : Chronicle) (place session calls : ℕ) (seat : Seat) (command : Command) (e : Entry) → c.base ≡ opening_base
-    → entry_at c.entries place ≡ Some e → session ≡ seat.session → e.seat.session ≡ session → e.seat.call ≡ seat.call → e.command ≡ command → calls ≡ calls_of (now c) session → calls ≡ seat.call → IsTold c.entries place seat command
-told c place session calls seat command e base at own mine called same counts last =
-    let h = c.entries in
-    let counted' : calls_of (now c) session ≡ length (of_session session h) = ap (λ (d : Database). calls_of (replay d h) session) base ∙ counted session h in
-    let n : length (of_session session h) ≡ seat.call = omega (arith, counts, last, counted') in
-    record {
-      entry = e;
-      at = at;
-      seat_is = λ i. record { session = (mine ∙ own) i; call = called i };
-      command_is = same;
-      last = ap (λ s. length (of_session s h)) (sym own) ∙ n;
-    }
+pub told : (h : List Entry) (place session calls : ℕ) (seat : Seat) (command : Command) (e : Entry)
+    → entry_at h place ≡ Some e → session ≡ seat.session → e.seat.session ≡ session → e.seat.call ≡ seat.call → e.command ≡ command → calls ≡ length (of_session session h) → calls ≡ seat.call → IsTold h place seat command
+told h place session calls seat command e at own mine called same counts last = record {
+  entry = e;
+  at = at;
+  seat_is = λ i. record { session = (mine ∙ own) i; call = called i };
+  command_is = same;
+  last = ap (λ s. length (of_session s h)) (sym own) ∙ sym counts ∙ last;
+}
 
 -- a session has no more calls than there are entries
 pub few_calls : (s : ℕ) (h : List Entry) → length (of_session s h) ≤ length h

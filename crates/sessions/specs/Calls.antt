@@ -7,12 +7,14 @@ use Rattle.model.specs.World.{WroteAt}
 use Rattle.model.specs.Told.{Tells}
 use Rattle.snapshots.specs.Version.{entry_at}
 use Rattle.publications.specs.Histories.{opening_base}
-use Rattle.sessions.specs.Known.{Known, seen}
+use Rattle.sessions.specs.Known.{Known, seen, SeesOwn}
 
--- after a look: a legal history is seen, which extends what was seen, and nothing else changed
+-- After a look: a legal history is seen, which extends what was seen and has of the session exactly its entries with a
+-- receipt, and nothing else changed.
 pub record Looks (old new : Known) : Type 0 where
   pub legal : IsLegal opening_base (seen new)
   pub extends : IsPrefix (seen old) (seen new)
+  pub own : SeesOwn new
   pub same : new ≡ record old { published = new.published }
 
 -- the seat of the session's next call
@@ -34,7 +36,7 @@ pub record Writes (old : Known) (command : Command) (receipt : Told) (new : Know
   pub seat : receipt.seat ≡ next_seat old
   pub told : Tells opening_base (seen new) (WroteAt receipt.seat command receipt.place receipt.reply)
   pub receipts : new.receipts ≡ old.receipts ++ record { seat = receipt.seat; command = command; reply = receipt.reply } ∷ []
-  pub only : of_session new.number (seen new) ≡ new.receipts
+  pub only : SeesOwn new
   pub first : 0 < receipt.publication
   pub bound : receipt.publication ≤ receipt.place
   pub same : new ≡ record old { published = new.published; receipts = new.receipts; pushes = new.pushes }

@@ -1,6 +1,5 @@
 -- What is known of a session.
-use Rattle.std.specs.Prelude.{◌≡◌, ℕ, ◌<◌, ◌≤◌, Bool, false, List, [], length}
-use mathlib.Core.List.{IsPrefix}
+use Rattle.std.specs.Prelude.{◌≡◌, ℕ, ◌<◌, Bool, false, List, [], length}
 use Rattle.model.specs.Command.{Entry}
 use Rattle.model.specs.History.{of_session}
 use Rattle.turns.specs.Turns.{Turn}
@@ -23,12 +22,13 @@ seen k = newest k.published
 abbrev pub fresh : ℕ → Known
 fresh number = record { number = number; published = []; receipts = []; pushes = 0; lost = false }
 
--- its receipts are its entries in the publications up to its last receipt, which are among those that it has seen
-pub record Holds (number calls last_place : ℕ) (lost : Bool) (receipted latest : List (List Entry)) (ticket : Turn) : Type 0 where
-  pub counted : calls ≡ length (of_session number (newest receipted))
-  pub placed : last_place ≡ length (newest receipted)
-  pub few : last_place ≤ 4294967295
-  pub within : IsPrefix receipted latest
+-- the session's entries in the history that it has seen are those with a receipt
+abbrev pub SeesOwn : Known → Type 0
+SeesOwn k = of_session k.number (seen k) ≡ k.receipts
+
+-- it has as many calls as it has entries in the history that it has seen, and each of those has a receipt
+pub record Holds (number calls : ℕ) (lost : Bool) (latest : List (List Entry)) (ticket : Turn) : Type 0 where
+  pub counted : calls ≡ length (of_session number (newest latest))
   pub grows : Grows latest
   pub session : number < 64
   pub ticket_is : ticket.number ≡ number

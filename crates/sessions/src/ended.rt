@@ -1,13 +1,11 @@
 //! What is left of a session at the end.
-ghost use Rattle.std.specs.Prelude.{◌≡◌, length};
+ghost use Rattle.std.specs.Prelude.{◌≡◌};
 ghost use mathlib.Core.List.{IsPrefix};
-ghost use Rattle.model.specs.History.{of_session};
-ghost use Rattle.publications.specs.Histories.{newest, opening_base, Grows};
+ghost use Rattle.publications.specs.Histories.{newest, Grows};
 ghost use Rattle.sessions.specs.Ends.{is_lost, IsExact};
 
-use crate::session::Session;
+use crate::session::{Session, calls_of};
 use publications::{Front, Published};
-use snapshots::Version;
 use std::marker::Model;
 use updating::Opening;
 
@@ -18,7 +16,6 @@ pub struct Ended<J: Opening> {
     calls: u64,
     pushes: u64,
     lost: bool,
-    receipted: Front<J>,
     seen: Front<J>,
 }
 
@@ -26,7 +23,6 @@ impl<J: Opening> Model for Ended<J> {
     ghost use Rattle.std.specs.Prelude.{◌≡◌, length};
     ghost use Rattle.std.specs.Coded.{codes};
     ghost use Rattle.model.specs.JsonCode.{coded_members};
-    ghost use mathlib.Core.List.{IsPrefix};
     ghost use Rattle.model.specs.History.{of_session};
     ghost use Rattle.publications.specs.Histories.{newest};
     ghost use Rattle.sessions.specs.Known.{Known};
@@ -35,9 +31,9 @@ impl<J: Opening> Model for Ended<J> {
 
     ghost coded = { Prim.hlevel (codes, coded_members) };
 
-    ghost view = { λ e. record { number = e.number; published = e.seen; receipts = of_session e.number (newest e.receipted); pushes = e.pushes; lost = e.lost } };
+    ghost view = { λ e. record { number = e.number; published = e.seen; receipts = of_session e.number (newest e.seen); pushes = e.pushes; lost = e.lost } };
 
-    ghost invariant = { λ e. (e.calls ≡ length (of_session e.number (newest e.receipted))) × IsPrefix e.receipted e.seen };
+    ghost invariant = { λ e. e.calls ≡ length (of_session e.number (newest e.seen)) };
 }
 
 impl<J: Opening> Ended<J> {
@@ -73,7 +69,6 @@ impl<C: Drop, J: Opening, G: Drop> Session<C, J, G> {
             number,
             calls,
             lost,
-            receipted,
             latest,
             ticket,
             ..
@@ -85,17 +80,8 @@ impl<C: Drop, J: Opening, G: Drop> Session<C, J, G> {
             calls,
             pushes: ticket.pushed(),
             lost,
-            receipted,
             seen,
         };
         (latest, ended)
     }
-}
-
-/// How many calls of a session the version has.
-fn calls_of(version: &Version, session: u16) -> u64
-    requires base { version.now.base ≡ opening_base }
-    ensures { result ≡ length (of_session session version.now.entries) }
-{
-    version.database().calls_of(session)
 }

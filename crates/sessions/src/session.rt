@@ -1,9 +1,9 @@
 //! A session: what it has seen, and its calls with a receipt.
-ghost use Rattle.std.specs.Prelude.{◌≡◌, ◌↔◌, ◌⊎◌, ◌+◌, ◌<◌, ◌≤◌, [], length, true, Err, IfOk, IfErr, IfSome, OnErr};
+ghost use Rattle.std.specs.Prelude.{◌≡◌, ◌↔◌, ◌⊎◌, ◌+◌, ◌<◌, ◌≤◌, [], length, true, Err, IfOk, IfErr, IfSome, IsTrue, OnErr};
 ghost use mathlib.Core.List.{IsPrefix};
 ghost use Rattle.model.specs.History.{IsLegal, of_session};
 ghost use Rattle.publications.specs.Histories.{newest, opening_base, Grows};
-ghost use Rattle.sessions.specs.Known.{Known, seen, fresh};
+ghost use Rattle.sessions.specs.Known.{Known, seen, fresh, SeesOwn};
 ghost use Rattle.sessions.specs.Calls.{Looks};
 ghost use Rattle.sessions.specs.declared.fault.Fault.TheVariants as fault;
 
@@ -11,7 +11,7 @@ use crate::fault::Fault;
 use crate::shared::Shared;
 use crate::snapshot::Snapshot;
 use crossbeam_utils::CachePadded;
-use publications::{Front, Lens, Published};
+use publications::{Lens, Published};
 use snapshots::Version;
 use std::alloc::{AllocError, Global};
 use std::marker::Model;
@@ -26,11 +26,7 @@ pub struct Session<C: Drop, J: Opening, G: Drop> {
     pub(crate) number: u16,
     /// How many receipts it has.
     pub(crate) calls: u64,
-    /// How many entries the history of its last receipt has.
-    pub(crate) last_place: u64,
     pub(crate) lost: bool,
-    /// The publications up to its last receipt.
-    pub(crate) receipted: Front<J>,
     pub(crate) latest: Published<J>,
     /// Each look writes to it, and other sessions may lie beside this one.
     pub(crate) reader: CachePadded<Lens<J>>,
@@ -49,9 +45,9 @@ impl<C: Drop, J: Opening, G: Drop> Model for Session<C, J, G> {
 
     ghost coded = { Prim.hlevel (codes, coded_members) };
 
-    ghost view = { λ s. record { number = s.number; published = s.latest; receipts = of_session s.number (newest s.receipted); pushes = s.ticket.pushed; lost = s.lost } };
+    ghost view = { λ s. record { number = s.number; published = s.latest; receipts = of_session s.number (newest s.latest); pushes = s.ticket.pushed; lost = s.lost } };
 
-    ghost invariant = { λ s. Holds s.number s.calls s.last_place s.lost s.receipted s.latest s.ticket };
+    ghost invariant = { λ s. Holds s.number s.calls s.lost s.latest s.ticket };
 }
 
 impl<C: Drop, J: Opening, G: Drop> Session<C, J, G> {
@@ -72,9 +68,7 @@ impl<C: Drop, J: Opening, G: Drop> Session<C, J, G> {
             alloc,
             number: ticket.number(),
             calls: 0,
-            last_place: 0,
             lost: false,
-            receipted: latest.front().again(),
             latest,
             reader: CachePadded::new(reader),
             ticket,
@@ -86,6 +80,7 @@ impl<C: Drop, J: Opening, G: Drop> Session<C, J, G> {
     pub fn place(&self) -> u64
         ensures place { result ≡ length (seen self.now) }
         ensures legal { IsLegal opening_base (seen self.now) }
+        ensures own { SeesOwn self.now }
     {
         self.latest.version().place()
     }
@@ -108,7 +103,7 @@ impl<C: Drop, J: Opening, G: Drop> Session<C, J, G> {
         if self.lost {
             return Err(Fault::Lost);
         }
-        let Ok(later) = self.later() else {
+        let Ok(later) = self.later_of_own() else {
             return Err(Fault::EntryRefused);
         };
         let Some(found) = later else {
@@ -131,7 +126,7 @@ impl<C: Drop, J: Opening, G: Drop> Session<C, J, G> {
         if self.lost {
             return Err(Fault::Lost);
         }
-        let Ok(later) = self.later() else {
+        let Ok(later) = self.later_of_own() else {
             return Err(Fault::EntryRefused);
         };
         let Some(found) = later else {
@@ -190,6 +185,36 @@ impl<C: Drop, J: Opening, G: Drop> Session<C, J, G> {
         self.reader.look_past(&self.latest)
     }
 
+    /// What is published now and to be seen, where that is later than what was seen.
+    fn later_of_own(&mut self) -> Result<Option<Published<J>>, Fault>
+        ensures same { self.new ≡ self.old }
+        ensures later { IfOk result (λ found. IfSome found (λ p. IsPrefix self.old.published p)) }
+        ensures grows { IfOk result (λ found. IfSome found (λ p. Grows p)) }
+        ensures own { IfOk result (λ found. IfSome found (λ p. SeesOwn (record self.old { published = p }))) }
+        ensures refused { IfErr result (λ e. e ≡ fault.EntryRefused) }
+    {
+        let Ok(later) = self.later() else {
+            return Err(Fault::EntryRefused);
+        };
+        let Some(found) = later else {
+            return Ok(None);
+        };
+        if !self.has_own(&found) {
+            return Err(Fault::EntryRefused);
+        }
+        Ok(Some(found))
+    }
+
+    /// Whether the session's entries in a later version are as many as its receipts. They are then those
+    /// with a receipt.
+    pub(crate) fn has_own(&self, found: &Published<J>) -> bool
+        requires later { IsPrefix self.now.published found.now }
+        requires grows { Grows found.now }
+        ensures { IsTrue result → SeesOwn (record self.now { published = found.now }) }
+    {
+        calls_of(found.version(), self.number) == self.calls
+    }
+
     /// What is published now, which is what was seen or later. Nothing where that is refused.
     fn observe(&mut self) -> Option<Published<J>>
         ensures same { self.new ≡ self.old }
@@ -215,17 +240,23 @@ impl<C: Drop, J: Opening, G: Drop> Session<C, J, G> {
         Some(later_of(mine, theirs))
     }
 
-    /// The later of what both see now, for each of them.
+    /// The later of what both see now, for each of them. Nothing where that is refused, or has not just the
+    /// entries with a receipt of each.
     fn observe_both(&mut self, other: &mut Session<C, J, G>) -> Option<(Published<J>, Published<J>)>
         ensures same { self.new ≡ self.old }
         ensures other_same { other.new ≡ other.old }
         ensures later { IfSome result (λ found. IsPrefix self.old.published found.0) }
         ensures other_later { IfSome result (λ found. IsPrefix other.old.published found.0) }
+        ensures own { IfSome result (λ found. SeesOwn (record self.old { published = found.0 })) }
+        ensures other_own { IfSome result (λ found. SeesOwn (record other.old { published = found.0 })) }
         ensures one { IfSome result (λ found. found.1 ≡ found.0) }
         ensures grows { IfSome result (λ found. Grows found.0) }
     {
         let mine = self.observe()?;
         let last = other.observe_with(mine)?;
+        if !self.has_own(&last) || !other.has_own(&last) {
+            return None;
+        }
         let same = last.share().ok()?;
         Some((last, same))
     }
@@ -234,6 +265,7 @@ impl<C: Drop, J: Opening, G: Drop> Session<C, J, G> {
     pub(crate) fn see(&mut self, found: Published<J>)
         requires later { IsPrefix self.old.published found }
         requires grows { Grows found }
+        requires own { SeesOwn (record self.old { published = found }) }
         ensures seen { self.new.published ≡ found }
         ensures looks { Looks self.old self.new }
     {
@@ -251,4 +283,12 @@ pub fn later_of<J: Opening>(mine: Published<J>, theirs: Published<J>) -> Publish
         return theirs;
     }
     mine
+}
+
+/// How many calls of a session the version has.
+pub(crate) fn calls_of(version: &Version, session: u16) -> u64
+    requires base { version.now.base ≡ opening_base }
+    ensures { result ≡ length (of_session session version.now.entries) }
+{
+    version.database().calls_of(session)
 }

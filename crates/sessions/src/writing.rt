@@ -9,7 +9,7 @@ ghost use Rattle.sessions.specs.declared.fault.Fault.TheVariants as fault;
 
 use crate::fault::Fault;
 use crate::receipt::Receipt;
-use crate::session::Session;
+use crate::session::{Session, calls_of};
 use crate::shared::Shared;
 use commands::{Command, Copied, Job, Seat};
 use publications::Published;
@@ -34,6 +34,8 @@ impl<R: Wait + Drop, J: Opening, G: Gate + Drop> Session<Core<R, J>, J, G> {
         ensures for_ever { self.old.lost ≡ true → result ≡ Err fault.Lost }
         ensures for_ever_same { self.old.lost ≡ true → self.new ≡ self.old }
         ensures entered { result ≢ Err fault.EntryRefused }
+        ensures not_behind { result ≢ Err fault.Behind }
+        ensures not_overrun { result ≢ Err fault.Overrun }
     {
         if self.lost {
             return Err(Fault::Lost);
@@ -98,6 +100,7 @@ impl<C: Drop, J: Opening, G: Drop> Session<C, J, G> {
     pub(crate) fn seat(&self) -> Seat
         ensures { result ≡ next_seat self.now }
     {
+        let _place = self.latest.version().place();
         let Some(seat) = Seat::new(self.number, self.calls + 1) else {
             unreachable!()
         };
@@ -114,6 +117,8 @@ impl<C: Drop, J: Opening, G: Drop> Session<C, J, G> {
         ensures lost { result ≡ Err fault.Lost → self.new ≡ record self.old { lost = true } }
         ensures not_busy { result ≢ Err fault.Busy }
         ensures entered { result ≢ Err fault.EntryRefused }
+        ensures not_behind { result ≢ Err fault.Behind }
+        ensures not_overrun { result ≢ Err fault.Overrun }
     {
         match outcome.into_kind() {
             OutcomeKind::Stood(answer) => self.receive(answer, asked, seat),
@@ -137,7 +142,7 @@ impl<C: Drop, J: Opening, G: Drop> Session<C, J, G> {
     {
         let (found, place, reply) = answer.into_parts();
         let publication = found.publication();
-        if place <= self.last_place || !self.latest.precedes(&found) {
+        if !self.latest.precedes(&found) {
             return Err(self.lose());
         }
         if !is_told(found.version(), place, seat, asked) {
@@ -161,7 +166,7 @@ impl<C: Drop, J: Opening, G: Drop> Session<C, J, G> {
     {
         let found = filled.into_found();
         let _count = found.publication();
-        if !self.latest.precedes(&found) {
+        if !self.latest.precedes(&found) || !self.has_own(&found) {
             return self.lose();
         }
         self.see(found);
@@ -175,8 +180,6 @@ impl<C: Drop, J: Opening, G: Drop> Session<C, J, G> {
         requires calls { calls ≡ length (of_session self.old.number (newest found)) }
         ensures { self.new ≡ record self.old { published = found; receipts = of_session self.old.number (newest found) } }
     {
-        self.receipted = found.front().again();
-        self.last_place = found.version().place();
         self.calls = calls;
         self.latest = found;
     }
@@ -205,5 +208,5 @@ fn is_told(version: &Version, place: u64, seat: Seat, asked: &Command) -> bool
     if !entry.command.is_same(asked) {
         return false;
     }
-    version.database().calls_of(seat.session()) == seat.call()
+    calls_of(version, seat.session()) == seat.call()
 }

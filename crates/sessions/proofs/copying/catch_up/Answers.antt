@@ -1,9 +1,8 @@
 use Rattle.std.proofs.Common.{◌∙◌, ap, sym, length, length-drop}
 use Rattle.model.specs.Database.{Database}
 use Rattle.model.specs.History.{now}
-use Rattle.model.specs.Compaction.{Marks, Touched, touched}
+use Rattle.model.specs.Compaction.{Marks, touched}
 use Rattle.model.proofs.TouchedLaws.{touched-rest}
-use Rattle.sessions.proofs.Looking.{passed_copy}
 use Rattle.sessions.proofs.copying.catch_up.Goals as goal
 
 pub returns-clause-rest : goal.returns-clause-rest

@@ -1,7 +1,6 @@
-use Rattle.std.proofs.Common.{ap, sym, ◌∙◌, ◌≡◌, ◌-◌, ◌==◌, true, refl, arith}
+use Rattle.std.proofs.Common.{ap, sym, ◌∙◌, ◌≡◌, ◌==◌, true, refl, arith}
 use Rattle.std.proofs.lemmas.Bool.Decides.{nat_tests}
 use Rattle.model.specs.Command.{Entry}
-use Rattle.model.specs.Database.{Database, calls_of}
 use Rattle.sessions.proofs.Receipts.{told}
 use Rattle.sessions.proofs.writing.is_told.Goals as goal
 
@@ -14,4 +13,4 @@ returns c =
     let same : e.command ≡ c.args.asked.now = sym (ap (λ (x : Entry). x.command) view) ∙ c.if-not-is_same.ensures.same.0 refl in
     λ t.
     let last : c.calls_of.result ≡ c.args.seat.call = (let eq : (c.calls_of.result == c.call-2.result) ≡ true = t in grind (arith, nat_tests, c.call-2.ensures.call)) in
-    told c.args.version.now c.args.place c.session-3.result c.calls_of.result c.args.seat c.args.asked.now e c.requires.base (sym c.in-Some.ensures) c.session-3.ensures.session mine called same (c.calls_of.ensures ∙ ap (λ (d : Database). calls_of d c.session-3.result) c.database.ensures) last
+    told c.args.version.now.entries c.args.place c.session-3.result c.calls_of.result c.args.seat c.args.asked.now e (sym c.in-Some.ensures) c.session-3.ensures.session mine called same c.calls_of.ensures last

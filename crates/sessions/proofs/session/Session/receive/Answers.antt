@@ -3,7 +3,7 @@ use mathlib.Core.List.{IsPrefix}
 use Rattle.model.specs.Command.{Entry, Seat}
 use Rattle.model.specs.History.{Chronicle, of_session}
 use Rattle.publications.specs.Histories.{newest}
-use Rattle.sessions.specs.Known.{Known}
+use Rattle.sessions.specs.Known.{Known, SeesOwn}
 use Rattle.sessions.specs.Calls.{Told, IsTold}
 use Rattle.sessions.proofs.Receipts.{writes, entry_is}
 use Rattle.sessions.proofs.session.Session.receive.Goals as goal
@@ -11,26 +11,20 @@ use Rattle.sessions.proofs.session.Session.receive.Goals as goal
 pub returns-clause-receipt : goal.returns-clause-receipt
 returns-clause-receipt g c =
     let view = c.self.view_is in
-    let holds = c.self.invariant in
     let parts = c.into_parts-found.ensures in
     let found = c.into_parts-found.result.0 in
     let place = c.into_parts-found.result.1 in
     let seat = c.args.seat in
     let asked = c.args.asked.now in
     let old = c.args.self.now in
-    let receipted = c.self.inside.receipted in
     let receipt : Told = record { place = place; seat = seat; reply = c.into_parts-found.result.2; publication = c.publication-publication.result } in
-    let number : c.self.inside.number ≡ old.number = ap (λ (k : Known). k.number) view in
-    let published : c.self.inside.latest ≡ old.published = ap (λ (k : Known). k.published) view in
     let t : IsTold (newest found) place seat asked = subst (λ (v : Chronicle). IsTold v.entries place seat asked) c.version.ensures.newest (c.if-not-is_told.ensures refl) in
     let seat_is = c.requires.seat in
     let count : length (of_session old.number (newest found)) ≡ length old.receipts + 1 = ap (λ (q : Seat). length (of_session q.session (newest found))) (sym seat_is) ∙ t.last ∙ ap (λ (q : Seat). q.call) seat_is in
-    writes old c.keep.new.self receipted found asked receipt t.entry
-    (sym (ap (λ (k : Known). k.receipts) view) ∙ ap (λ n. of_session n (newest receipted)) number)
-    (subst (IsPrefix receipted) published holds.within)
-    (subst (λ (l : List (List Entry)). IsPrefix l found) published c.if-not-precedes.ensures.published)
+    writes old c.keep.new.self found asked receipt t.entry
+    (subst SeesOwn view refl)
+    (subst (λ (l : List (List Entry)). IsPrefix l found) (ap (λ (k : Known). k.published) view) c.if-not-precedes.ensures.published)
     parts.grows
-    (omega (arith, holds.placed, c.if-place-self.false))
     t.at
     (entry_is (newest found) place seat asked c.into_parts-found.result.2 t parts.stands)
     seat_is

@@ -1,4 +1,5 @@
-use Rattle.std.proofs.Common.{arith}
+use Rattle.std.proofs.Common.{ap, length, arith}
+use Rattle.model.specs.History.{Chronicle}
 use Rattle.publications.specs.Histories.{newest}
 use Rattle.sessions.proofs.Receipts.{few_calls}
 use Rattle.sessions.proofs.session.Session.seat.Goals as goal
@@ -6,5 +7,4 @@ use Rattle.sessions.proofs.session.Session.seat.Goals as goal
 pub overflow_add-self-inside : goal.overflow_add-self-inside
 overflow_add-self-inside g c =
     let s = c.self.inside in
-    let holds = c.self.invariant in
-    omega (arith, holds.counted, holds.placed, holds.few, few_calls s.number (newest s.receipted))
+    omega (arith, c.self.invariant.counted, few_calls s.number (newest s.latest), ap (λ (v : Chronicle). length v.entries) c.version.ensures.newest, c.place-place.ensures.history.few)
