@@ -46,7 +46,7 @@ abbrev value_or : {X : Type 0} → X → Checked X → X
 value_or x (Ok y) = y
 value_or x (Err why) = x
 
-same_ok : {X : Type 0} (x y : X) → ◌≡◌ {A = Checked X} (Ok x) (Ok y) → x ≡ y
+pub same_ok : {X : Type 0} (x y : X) → ◌≡◌ {A = Checked X} (Ok x) (Ok y) → x ≡ y
 same_ok x y h = ap (λ c. value_or x c) h
 
 abbrev is_ok : {X : Type 0} → Checked X → Bool
@@ -54,11 +54,11 @@ is_ok (Ok x) = true
 is_ok (Err why) = false
 
 -- what was found first, where all is found
-parts : {X Y : Type 0} (first : Checked X) (next : X → Checked Y) (y : Y) → and_then first next ≡ Ok y → (x : X) × ((first ≡ Ok x) × (next x ≡ Ok y))
+pub parts : {X Y : Type 0} (first : Checked X) (next : X → Checked Y) (y : Y) → and_then first next ≡ Ok y → (x : X) × ((first ≡ Ok x) × (next x ≡ Ok y))
 parts (Ok x) next y h = (x, (refl, h))
 parts (Err why) next y h = absurd (subst T (sym (ap is_ok h)) tt)
 
-each-keys : {K X Y : Type 0} (check : X → Checked Y) (of_x : X → K) (of_y : Y → K) → ((x : X) (y : Y) → check x ≡ Ok y → of_y y ≡ of_x x)
+pub each-keys : {K X Y : Type 0} (check : X → Checked Y) (of_x : X → K) (of_y : Y → K) → ((x : X) (y : Y) → check x ≡ Ok y → of_y y ≡ of_x x)
     → (xs : List X) (ys : List Y) → each check xs ≡ Ok ys → map of_y ys ≡ map of_x xs
 each-keys check of_x of_y keeps [] ys h = ap (λ zs. map of_y zs) (sym (same_ok [] ys h))
 each-keys check of_x of_y keeps (x ∷ xs) ys h =
@@ -73,7 +73,7 @@ listed-key pair listed h =
     let found = parts (or_refused (texts_in pair.1) reason.Shape) (λ texts. Ok (pair.0, texts)) listed h in
     ap (λ l. l.0) (sym (same_ok (pair.0, found.0) listed found.1.1))
 
-id-text : (text id : List ℕ) → id_named text ≡ Ok id → id ≡ text
+pub id-text : (text id : List ℕ) → id_named text ≡ Ok id → id ≡ text
 id-text text id h = at ((length text == 0) || nat_lt 512 (length text) || is_special text) h
   where
     at : (test : Bool) → ◌≡◌ {A = Checked (List ℕ)} (if test then refused reason.Id else Ok text) (Ok id) → id ≡ text
@@ -111,11 +111,11 @@ object-ordered (object inside) ms h is = ap members_ordered (ap (λ found. unwra
 
 -- ---- ids that rise
 
-abbrev below_ids : Id → List Id → Bool
+abbrev pub below_ids : Id → List Id → Bool
 below_ids id [] = true
 below_ids id (next ∷ ids) = is_lt (names.cmp id next) && below_ids id ids
 
-abbrev rising_ids : List Id → Bool
+abbrev pub rising_ids : List Id → Bool
 rising_ids [] = true
 rising_ids (id ∷ ids) = below_ids id ids && rising_ids ids
 
@@ -123,7 +123,7 @@ below-ids : {X : Type 0} (id : Id) (es : List (Id × X)) → below_all names.cmp
 below-ids id [] = refl
 below-ids id (e ∷ es) = ap (λ rest. is_lt (names.cmp id e.0) && rest) (below-ids id es)
 
-sorted-ids : {X : Type 0} (es : List (Id × X)) → is_sorted names.cmp es ≡ rising_ids (map (λ e. e.0) es)
+pub sorted-ids : {X : Type 0} (es : List (Id × X)) → is_sorted names.cmp es ≡ rising_ids (map (λ e. e.0) es)
 sorted-ids [] = refl
 sorted-ids (e ∷ es) = ap (λ first. first && is_sorted names.cmp es) (below-ids e.0 es) ∙ ap (λ rest. below_ids e.0 (map (λ e. e.0) es) && rest) (sorted-ids es)
 
@@ -132,7 +132,7 @@ is_less Less h = refl
 is_less Equal h = absurd (subst T (sym h) tt)
 is_less Greater h = absurd (subst T (sym h) tt)
 
-pairs-rise : (ms : Members) → members_ordered ms ≡ true → T (is_sorted names.cmp (pairs_in ms))
+pub pairs-rise : (ms : Members) → members_ordered ms ≡ true → T (is_sorted names.cmp (pairs_in ms))
 pairs-rise no_members h = tt
 pairs-rise (member k d no_members) h = tt
 pairs-rise (member k d (member l e ms)) h =
@@ -164,7 +164,7 @@ put-below : {X : Type 0} (e : Id × X) (es : List (Id × X)) → T (below_all na
 put-below e [] h = refl
 put-below e (f ∷ fs) h = ap (λ o. by_order o (e ∷ f ∷ fs) ((f.0, e.1) ∷ fs) (f ∷ put names.cmp e.0 e.1 fs)) (lt_less _ (first_of _ _ h))
 
-rising-list : {X : Type 0} (es : List (Id × X)) → T (is_sorted names.cmp es) → entries {O = names} (from_list es) ≡ es
+pub rising-list : {X : Type 0} (es : List (Id × X)) → T (is_sorted names.cmp es) → entries {O = names} (from_list es) ≡ es
 rising-list [] h = refl
 rising-list (e ∷ es) h = ap (λ rest. put names.cmp e.0 e.1 rest) (rising-list es (second_of _ _ h)) ∙ put-below e es (first_of _ _ h)
 

@@ -53,7 +53,11 @@ impl ListText {
 }
 
 /// Writes a list behind a text: of each item the text that stands for it.
-pub(crate) fn append_list<X, F: Fn(&X) -> Result<String, AllocError> + Drop>(
+///
+/// # Errors
+///
+/// Memory may be refused, and what an item's text is refused by.
+pub fn append_list<X, F: Fn(&X) -> Result<String, AllocError> + Drop>(
     text: String,
     items: &[X],
     item_text: F,

@@ -9,7 +9,11 @@ use document_json::MembersText;
 use std::alloc::AllocError;
 
 /// Writes an object behind a text: of each item the member that stands for it.
-pub(crate) fn append_object<X, F: Fn(&mut MembersText, &X) -> Result<(), AllocError> + Drop>(
+///
+/// # Errors
+///
+/// Memory may be refused, and what an item's member is refused by.
+pub fn append_object<X, F: Fn(&mut MembersText, &X) -> Result<(), AllocError> + Drop>(
     text: String,
     items: &[X],
     push: F,

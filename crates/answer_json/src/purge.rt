@@ -57,8 +57,12 @@ fn push_leaves(
     Ok(())
 }
 
-/// Writes the documents behind a text.
-fn append_removed(
+/// Writes documents behind a text, each with the revisions that are named of it.
+///
+/// # Errors
+///
+/// Memory may be refused.
+pub fn append_named_revisions(
     alloc: Global,
     text: String,
     documents: &[AskedRevisions],
@@ -84,7 +88,7 @@ pub fn purged_text(
     ensures { IfOk result (λ text. string_bytes text ≡ compact_text (purged_data purge_seq removed.now)) }
 {
     let front = format!(in alloc; "{{\"purge_seq\":{purge_seq},\"purged\":")?;
-    let mut text = append_removed(alloc, front, removed.documents())?;
+    let mut text = append_named_revisions(alloc, front, removed.documents())?;
     text.push_str("}")?;
     Ok(text)
 }

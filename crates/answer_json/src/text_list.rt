@@ -25,7 +25,11 @@ pub fn read_text_list(alloc: Global, text: &str) -> Result<Option<Vec<Json>>, Al
 }
 
 /// The items of a list of texts.
-pub(crate) fn take_texts(alloc: Global, value: Json) -> Result<Option<Vec<Json>>, AllocError>
+///
+/// # Errors
+///
+/// Memory may be refused.
+pub fn take_texts(alloc: Global, value: Json) -> Result<Option<Vec<Json>>, AllocError>
     ensures { IfOk result (λ texts. option_map (λ t. t.items) texts ≡ texts_in value) }
 {
     let Some(values) = value.into_list(alloc)? else {

@@ -1,9 +1,10 @@
 //! Replies to commands.
-ghost use Rattle.std.specs.Prelude.{◌≡◌, IfOk};
+ghost use Rattle.std.specs.Prelude.{◌≡◌, ◌↔◌, IsTrue, IfOk};
 ghost use Rattle.commands.specs.Reply.{reply_of};
 
 use crate::copied::Copied;
 use crate::named::NamedRevisions;
+use crate::same::{Same, are_same};
 use model::Refusal;
 use revision_id::RevId;
 use std::alloc::{AllocError, Global};
@@ -52,6 +53,13 @@ impl Reply {
     {
         &self.kind
     }
+
+    /// Whether the two are one reply. Takes no memory.
+    pub fn is_same(&self, other: &Reply) -> bool
+        ensures same { IsTrue result ↔ (self.now ≡ other.now) }
+    {
+        is_same_kind(&self.kind, &other.kind)
+    }
 }
 
 impl Copied for Reply {
@@ -66,5 +74,24 @@ impl Copied for Reply {
             ReplyKind::Done => ReplyKind::Done,
         };
         Ok(Reply { kind })
+    }
+}
+
+/// Whether the two are of one kind and tell the same.
+fn is_same_kind(one: &ReplyKind, other: &ReplyKind) -> bool
+    ensures same { IsTrue result ↔ (reply_of one.now ≡ reply_of other.now) }
+{
+    match (one, other) {
+        (ReplyKind::Wrote(one), ReplyKind::Wrote(other)) => are_same(one, other),
+        (ReplyKind::WroteLocal(one), ReplyKind::WroteLocal(other)) => one == other,
+        (
+            ReplyKind::Purged { purge_seq, removed },
+            ReplyKind::Purged {
+                purge_seq: other_seq,
+                removed: other_removed,
+            },
+        ) => purge_seq == other_seq && removed.is_same(other_removed),
+        (ReplyKind::Done, ReplyKind::Done) => true,
+        _ => false,
     }
 }

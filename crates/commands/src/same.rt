@@ -1,4 +1,4 @@
-//! Whether two things that are asked are one, told without memory.
+//! Whether two things that are asked or answered are one, told without memory.
 ghost use Rattle.std.specs.Prelude.{◌≡◌, ◌↔◌, IsTrue, option_copied};
 
 use crate::edit::Edit;
@@ -6,6 +6,7 @@ use crate::merge::Merge;
 use crate::named::{AskedRevisions, NamedRevisions};
 use document_id::DocId;
 use json_profile::Body;
+use model::Refusal;
 use revision_id::RevId;
 
 /// What can be told from another of its kind.
@@ -33,6 +34,16 @@ pub(crate) fn are_same<T: Same>(mine: &[T], theirs: &[T]) -> bool
 impl Same for RevId {
     fn is_same(&self, other: &RevId) -> bool {
         *self == *other
+    }
+}
+
+impl Same for Result<RevId, Refusal> {
+    fn is_same(&self, other: &Result<RevId, Refusal>) -> bool {
+        match (self, other) {
+            (Ok(one), Ok(other)) => one.is_same(other),
+            (Err(one), Err(other)) => one == other,
+            _ => false,
+        }
     }
 }
 

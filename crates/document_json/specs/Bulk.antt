@@ -96,6 +96,21 @@ merge_in document =
     and_then (revisions_of document.parts.rev document.path) (λ path.
     Ok (merge_of document.id path (flag_in document.parts.deleted) document.parts.body))
 
+-- ---- one document from elsewhere
+
+-- a document with its id, and with no special member that is unknown
+abbrev pub known_named : Listed → Checked Named
+known_named document = and_then (check (not document.parts.has_other) reason.Member) (λ _. document_named document)
+
+-- the revision that a value tells, with its path
+-- CouchDB: GET /{db}/{docid}, "open_revs", "revs"
+abbrev pub merge_told : Data → Checked Merge
+merge_told value =
+    and_then (parts_in value) (λ found.
+    and_then (document_listed false found) (λ listed.
+    and_then (known_named listed) (λ document.
+    merge_in document)))
+
 -- ---- the whole
 
 -- some document has a special member that is unknown

@@ -6,7 +6,7 @@ use Rattle.serde_json.specs.View.{items_of}
 use Rattle.serde_json.specs.Written.{comma_if}
 use Rattle.json_profile.specs.Joined.{bare_text, front_of, join}
 use Rattle.model.specs.Body.{Body}
-use Rattle.model.specs.Command.{Id}
+use Rattle.model.specs.Command.{Id, Merge}
 use Rattle.model.specs.Query.{Document}
 use Rattle.model.specs.declared.status.Status.{Status}
 use Rattle.model.specs.declared.status.Status.TheVariants.{Available, IsDeleted, NoBody}
@@ -82,6 +82,25 @@ told_members d members =
 -- CouchDB: GET /{db}/{docid}
 abbrev pub document_data : Document → Data
 document_data d = object (told_members d (named_members d.id d.rev d.deleted d.body))
+
+-- a revision from elsewhere as a document with its path, newest first
+-- CouchDB: POST /{db}/_bulk_docs, "new_edits", "_revisions"
+abbrev pub document_of : Merge → Document
+document_of m = record {
+  id = m.id;
+  rev = m.newest;
+  deleted = m.deleted;
+  body = m.body;
+  revisions = Some (m.newest ∷ m.older);
+  revs_info = None;
+  conflicts = [];
+  deleted_conflicts = [];
+}
+
+-- `{"_deleted":true,"_id":i,"_rev":r,"_revisions":{..},..}`, the first only of a deletion
+-- CouchDB: POST /{db}/_bulk_docs, "new_edits", "_revisions"
+abbrev pub merge_data : Merge → Data
+merge_data m = document_data (document_of m)
 
 -- ---- the special members alone, as they are written
 

@@ -4,7 +4,7 @@
 ghost use Rattle.std.specs.Prelude.{◌≡◌, ◌≤◌, ◌||◌, true, false, None, Ok, IfOk, IfSome, is_some, length, option_map};
 ghost use Rattle.model.specs.Command.{max_edits};
 ghost use Rattle.commands.specs.Merge.{merge_of};
-ghost use Rattle.document_json.specs.Bulk.{any_other, bulk_of, command_in, document_listed, document_named, documents_in, edit_in, listed_as, listed_in, merge_in, merged_in, named_in, new_edits_in, path_found, path_named, revisions_of, with_path};
+ghost use Rattle.document_json.specs.Bulk.{any_other, bulk_of, command_in, document_listed, document_named, documents_in, edit_in, known_named, listed_as, listed_in, merge_in, merge_told, merged_in, named_in, new_edits_in, path_found, path_named, revisions_of, with_path};
 ghost use Rattle.document_json.specs.Document.{flag_in, parts_in};
 ghost use Rattle.document_json.specs.Each.{DecidesEach, each as each_of};
 ghost use Rattle.document_json.specs.Steps.{Decides};
@@ -213,6 +213,32 @@ fn name_document(alloc: Global, document: Listed) -> Result<Named, Fault>
     };
     let id = read_id(alloc, text)?;
     Ok(Named { id, parts, path })
+}
+
+/// The revision from elsewhere that a value tells, with its path.
+///
+/// # Errors
+///
+/// A value that tells none is refused by the first of these: [`Reason::Depth`] of its body,
+/// [`Reason::Shape`], [`Reason::Member`], [`Reason::Id`], [`Reason::Revision`]. Memory may be
+/// refused.
+pub fn read_told_merge(alloc: Global, value: Json) -> Result<Merge, Fault>
+    ensures { Decides result (merge_told value) }
+{
+    let found = read_parts(alloc, value)?;
+    let listed = list_document(alloc, false, found)?;
+    let document = name_known(alloc, listed)?;
+    read_merge(alloc, document)
+}
+
+/// A document with its id, and with no special member that is unknown.
+fn name_known(alloc: Global, document: Listed) -> Result<Named, Fault>
+    ensures { Decides result (known_named document) }
+{
+    if document.parts.has_other {
+        return Err(Fault::Refused(Reason::Member));
+    }
+    name_document(alloc, document)
 }
 
 /// The command that writes the documents.

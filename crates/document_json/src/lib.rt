@@ -24,7 +24,7 @@ mod values;
 mod written_document;
 mod written_local;
 
-pub use bulk::read_bulk;
+pub use bulk::{read_bulk, read_told_merge};
 pub use counter::name_counter;
 pub use document::read_edit;
 pub use fault::{Fault, Reason};
@@ -36,5 +36,5 @@ pub use revision::name_revision;
 pub use revisions_value::revs_value;
 pub use text::{put_comma, put_string, read_json, value_text};
 pub use values::each;
-pub use written_document::document_text;
+pub use written_document::{document_text, merge_text};
 pub use written_local::{counter_text, local_text};

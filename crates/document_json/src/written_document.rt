@@ -2,11 +2,12 @@
 ghost use Rattle.std.specs.Prelude.{◌≡◌, option_map, IfOk, OnOk, string_bytes};
 ghost use Rattle.serde_json.specs.Written.{compact_text};
 ghost use Rattle.document_json.specs.MembersText.{Writes};
-ghost use Rattle.document_json.specs.Written.{document_data, flag_member, infos_member, revisions_member, revs_member, special_members};
+ghost use Rattle.document_json.specs.Written.{document_data, document_of, flag_member, infos_member, merge_data, revisions_member, revs_member, special_members};
 
 use crate::members_text::MembersText;
 use crate::revisions_value::{infos_value, revisions_value, revs_value};
 use crate::special::{text_around, text_before};
+use commands::Merge;
 use model::Status;
 use queries::Document;
 use revision_id::RevId;
@@ -111,4 +112,33 @@ pub fn document_text(alloc: Global, document: &Document) -> Result<String, Alloc
     let mut special = text_before(alloc, &document.body, room)?;
     push_special(&mut special, alloc, document)?;
     text_around(special, &document.body)
+}
+
+/// The text of a revision from elsewhere, with its path.
+///
+/// # Errors
+///
+/// Memory may be refused.
+pub fn merge_text(alloc: Global, merge: &Merge) -> Result<String, AllocError>
+    ensures { IfOk result (λ text. string_bytes text ≡ compact_text (merge_data merge.now)) }
+{
+    let document = document_of(alloc, merge)?;
+    document_text(alloc, &document)
+}
+
+/// A revision from elsewhere as a document with its path.
+fn document_of(alloc: Global, merge: &Merge) -> Result<Document, AllocError>
+    ensures { IfOk result (λ document. document ≡ document_of merge.now) }
+{
+    let path = merge.path();
+    Ok(Document {
+        id: merge.id().share()?,
+        rev: path[0],
+        deleted: merge.deleted(),
+        body: merge.body().clone()?,
+        revisions: Some(Vec::from_slice(alloc, path)?),
+        revs_info: None,
+        conflicts: Vec::new(alloc),
+        deleted_conflicts: Vec::new(alloc),
+    })
 }

@@ -1,0 +1,9 @@
+pub mod InProfile
+pub mod Lists
+pub mod OneLine
+pub mod Parts
+pub mod Rests
+pub mod Revs
+pub mod Sound
+pub mod Taken
+pub mod Texts

@@ -1,0 +1,15 @@
+use Rattle.std.proofs.Common.{◌≡◌, ℕ, ◌++◌, List}
+use Rattle.std.specs.Io.KnownBytes.{Consumes}
+use Rattle.http_client.proofs.incoming.Incoming.read_response.Given as goal
+
+-- a piece has come, and no read has failed
+abbrev pub invariant-reads : goal.invariant-reads
+invariant-reads g l =
+    (piece : List ℕ)
+    × (l.self ≡ l.fn.self ++ piece)
+    × Consumes (g.R.Source.left l.fn.reader) (g.R.Source.left l.reader) piece
+    × (g.R.Source.failed_reads l.reader ≡ g.R.Source.failed_reads l.fn.reader)
+
+-- each read that goes on takes some of what may come
+abbrev pub decreases-reads : goal.decreases-reads
+decreases-reads g l = g.R.Source.budget l.reader

@@ -1,0 +1,9 @@
+pub mod Request
+pub mod Target
+pub mod Response
+pub mod Front
+pub mod Incoming
+pub use Rattle.httparse.specs.Grammar
+pub use Rattle.httparse.specs.Spans
+pub use Rattle.percent_encoding.specs.Percent
+pub use Rattle.form_urlencoded.specs.Form

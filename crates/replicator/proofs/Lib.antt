@@ -1,0 +1,6 @@
+pub mod Covered
+pub mod Gathered
+pub mod Lengths
+pub mod Passes
+pub mod Turns
+pub mod Runs

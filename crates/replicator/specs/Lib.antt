@@ -1,0 +1,12 @@
+pub mod Call
+pub mod Asked
+pub mod Gathered
+pub mod Readable
+pub mod Wanted
+pub mod Bulk
+pub mod Stage
+pub mod Due
+pub mod Learned
+pub mod Run
+pub mod Passing
+pub mod Stages
