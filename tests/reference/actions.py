@@ -3,7 +3,7 @@ from . import bodies, queries, revisions
 from .database import Edit, Refused
 from .json_profile import EMPTY
 from .queries import LOCAL, Options
-from .responses import Answer, refused
+from .responses import Answer, Feed, refused
 from .targets import read_revision, read_target
 
 
@@ -133,12 +133,15 @@ def changes(asked):
     parameters = asked.parameters
     parameters.refuse(["include_docs", "descending"], ["true"])
     parameters.refuse(["filter", "view"])
-    # with one session there is nothing that a long poll could wait for; the other feed comes later
-    parameters.word("feed", ["normal", "longpoll"], "normal")
+    # with one session there is nothing that a long poll or a feed could wait for
+    goes_on = parameters.word("feed", ["normal", "longpoll", "continuous"], "normal") == "continuous"
     style = parameters.word("style", ["main_only", "all_docs"], "main_only")
     now = parameters.get("since") == "now"
     since = asked.database.update_seq if now else parameters.number("since") or 0
-    return Answer(200, queries.changes(asked.database, since, parameters.number("limit"), style == "all_docs"))
+    limit = parameters.number("limit")
+    if goes_on:
+        return Feed(queries.feed(asked.database, since, limit, style == "all_docs"))
+    return Answer(200, queries.changes(asked.database, since, limit, style == "all_docs"))
 
 
 def all_docs(asked):

@@ -380,6 +380,12 @@ def response(status, place, body, lines=""):
     return (head % (STATUS[status], len(body.encode()), place, lines) + body).encode()
 
 
+def fed(place, *lines):
+    """A feed that goes on, to its end."""
+    head = "HTTP/1.1 200 OK\r\nContent-Type: application/json\r\nCouch-Place: %d\r\nConnection: close\r\n\r\n"
+    return (head % place + "".join(line + "\n" for line in lines)).encode()
+
+
 def stored(name, ending):
     with open(os.path.join(TESTS, "transcripts", name + ending), "rb") as file:
         return file.read()
@@ -388,6 +394,25 @@ def stored(name, ending):
 def transcripts():
     for name, responses in WORKED.items():
         wanted = b"".join(response(*parts) for parts in responses)
+        yield name, stored(name, ".expected") == wanted and once.run(stored(name, ".http"))[0] == wanted
+
+
+def feeds():
+    """Feeds, each behind the writes of its documents."""
+    three = b"".join(response(201, at + 1, written(id, A1)) for at, id in enumerate("abc"))
+    deletion = three + response(200, 4, written("a", X2))
+    first = [row(id, at + 1, A1) for at, id in enumerate("abc")]
+    for name, wanted in [
+        ("feed-of-none", fed(0, '{"last_seq":0,"pending":0}')),
+        ("feed-limited", three + fed(3, first[0], first[1], '{"last_seq":2,"pending":1}')),
+        ("feed-whole", deletion + fed(4, ROW_B, ROW_C, ROW_A, '{"last_seq":4,"pending":0}')),
+        ("feed-limit-of-0", three + fed(3, first[0], '{"last_seq":1,"pending":2}')),
+        ("feed-limit-reached-at-the-end", three + fed(3, *first, '{"last_seq":3,"pending":0}')),
+        ("feed-since", deletion + fed(4, ROW_A, '{"last_seq":4,"pending":0}')),
+        ("feed-since-now", three + fed(3, '{"last_seq":3,"pending":0}')),
+        ("feed-since-later", three + fed(3, '{"last_seq":9,"pending":0}')),
+    ]:
+        name = "queries/" + name
         yield name, stored(name, ".expected") == wanted and once.run(stored(name, ".http"))[0] == wanted
 
 
@@ -475,7 +500,7 @@ def stems():
 
 def main():
     passed = failed = 0
-    for checks in [transcripts, broken, literal, digests, nestings, follower, stems]:
+    for checks in [transcripts, feeds, broken, literal, digests, nestings, follower, stems]:
         for name, holds in checks():
             passed += holds
             failed += not holds

@@ -2,7 +2,7 @@
 from . import actions
 from .database import Session
 from .framing import Unfinished, Unreadable, read_request
-from .responses import broken, response
+from .responses import Feed, broken, feed, response
 
 
 class Connection:
@@ -23,6 +23,9 @@ class Connection:
                 yield response(broken(refusal.kind), self.session.place, True)
                 return
             answer = actions.answer(self.session, request)
+            if isinstance(answer, Feed):
+                yield feed(answer, self.session.place)
+                return
             yield response(answer, self.session.place, request.closes)
             if request.closes:
                 return

@@ -146,6 +146,14 @@ class Follower:
         return rows
 
 
+def feed(database, since, limit, all_leaves):
+    """The rows that there are, and the end: with one session there are no more to wait for."""
+    found = changes(database, since, limit, all_leaves)
+    rows = found["results"]
+    last = rows[-1]["seq"] if rows else since
+    return rows + [{"last_seq": last, "pending": found["pending"]}]
+
+
 def all_docs(database):
     rows = []
     for id in sorted(database.docs):

@@ -45,6 +45,13 @@ class Answer(Exception):
         self.methods = methods
 
 
+class Feed:
+    """Values that are written a line each, in a response without a length, after which the connection closes."""
+
+    def __init__(self, lines):
+        self.lines = lines
+
+
 def bad_request(reason):
     return Answer(400, {"error": "bad_request", "reason": reason})
 
@@ -65,6 +72,11 @@ def refused(refusal):
 def broken(kind):
     status, error, reason = BROKEN[kind]
     return Answer(status, {"error": error, "reason": reason})
+
+
+def feed(given, place):
+    head = "HTTP/1.1 200 OK\r\nContent-Type: application/json\r\nCouch-Place: %d\r\nConnection: close\r\n\r\n" % place
+    return head.encode("ascii") + b"".join(json_profile.text(line).encode("utf-8") + b"\n" for line in given.lines)
 
 
 def response(answer, place, closes):

@@ -21,7 +21,6 @@ FOLDERS = {
     "queries": {**queries.CASES, **edges.CASES},
     "purges": purges.PURGES,
     "compactions": purges.COMPACTIONS,
-    "not-served": queries.NOT_SERVED,
     "broken-input": first_path.BROKEN_INPUT,
 }
 

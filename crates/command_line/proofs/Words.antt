@@ -54,19 +54,31 @@ rows_of_some : {Z : Type 0} (sub : Option (Box SubCommand Z)) → is_some sub �
 rows_of_some None h = h
 rows_of_some (Some sub) h = h
 
--- a parse of `couchd` that succeeds has met one of its subcommands
-pub meets_one : (command : Command) (matches : ArgMatches) (words : List Text) → app_of command ≡ couchd
-    → (fields_of command).has_globals ≡ false → (fields_of command).subcommand_required ≡ true
-    → IsParsedFrom command matches → HasMatchesOf (app_of command) words matches
-    → IsNameOf (built couchd).subs (subcommand_name_of matches)
-meets_one command matches words app local required parsed matched =
-    let rows : subcommand_rows_of matches ≡ subcommand_of couchd words =
-    (matched (ap is_simple app ∙ couchd_is_simple)).1 ∙ ap (λ (a : App). subcommand_of a words) app in
-    let used = (parsed.parsed (parsed.from.globals ∙ local)).checked.subcommand (parsed.from.needs_subcommand ∙ required) in
-    let named = name_of_rows (out-ArgMatches matches).subcommand ∙ ap (option_map (λ (s : Text × List Row). s.0)) rows in
-    let some = subst (λ (r : Option (Text × List Row)). is_some r ≡ true) rows (rows_of_some (out-ArgMatches matches).subcommand used) in
-    let stop = stop_after (built couchd).top.rules (names_of (built couchd)) (argument_words couchd words) in
-    subst (IsNameOf (built couchd).subs) (sym named) (entered_one (built couchd) stop some)
+module _ (command : Command) (matches : ArgMatches) (words : List Text) (app : app_of command ≡ couchd) (matched : HasMatchesOf (app_of command) words matches) where
+  -- the rows of the subcommand are those that the words name
+  pub rows_named : subcommand_rows_of matches ≡ subcommand_of couchd words
+  rows_named = (matched (ap is_simple app ∙ couchd_is_simple)).1 ∙ ap (λ (a : App). subcommand_of a words) app
+
+  -- a parse of `couchd` that succeeds has met one of its subcommands
+  pub meets_one : (fields_of command).has_globals ≡ false → (fields_of command).subcommand_required ≡ true → IsParsedFrom command matches
+      → IsNameOf (built couchd).subs (subcommand_name_of matches)
+  meets_one local required parsed =
+      let used = (parsed.parsed (parsed.from.globals ∙ local)).checked.subcommand (parsed.from.needs_subcommand ∙ required) in
+      let named = name_of_rows (out-ArgMatches matches).subcommand ∙ ap (option_map (λ (s : Text × List Row). s.0)) rows_named in
+      let some = subst (λ (r : Option (Text × List Row)). is_some r ≡ true) rows_named (rows_of_some (out-ArgMatches matches).subcommand used) in
+      let stop = stop_after (built couchd).top.rules (names_of (built couchd)) (argument_words couchd words) in
+      subst (IsNameOf (built couchd).subs) (sym named) (entered_one (built couchd) stop some)
+
+  -- the subcommand has this name, and rows
+  pub names : (name : Text) → subcommand_name_of matches ≡ Some name → (given : List Row) × (subcommand_of couchd words ≡ Some (name, given))
+  names name is =
+      with_name (subcommand_of couchd words) (ap (option_map (λ (s : Text × List Row). s.0)) (sym rows_named) ∙ sym (name_of_rows (out-ArgMatches matches).subcommand) ∙ is)
+    where
+      with_name : (rows : Option (Text × List Row)) → option_map (λ s. s.0) rows ≡ Some name → (given : List Row) × (rows ≡ Some (name, given))
+      with_name None e = cc
+      with_name (Some (found, given)) e =
+          let same : found ≡ name = cc in
+          (given, ap (λ (n : Text). Some (n, given)) same)
 
 -- what an option holds, from its image
 pub mapped_some : {A : Type 0} (f : A → List ℕ) (o : Option A) (x : A) (y : List ℕ) → option_map f o ≡ Some y → o ≡ Some x → f x ≡ y

@@ -21,6 +21,44 @@ fn once_is_a_run(rt: HostRuntime) -> Result<(), Fail> {
     Ok(())
 }
 
+#[test]
+fn serve_has_defaults(rt: HostRuntime) -> Result<(), Fail> {
+    let words = ["couchd", "serve"];
+    let serving = Serving {
+        port: 5984,
+        workers: 4,
+        connections: 0,
+    };
+    assert_eq!(rt;
+        read_words(rt.alloc(), words.as_slice())?,
+        Run::Serve(serving)
+    );
+    Ok(())
+}
+
+#[test]
+fn serve_takes_numbers_to_their_ends(rt: HostRuntime) -> Result<(), Fail> {
+    let words = [
+        "couchd",
+        "serve",
+        "--connections",
+        "4294967295",
+        "--port=0",
+        "--workers",
+        "64",
+    ];
+    let serving = Serving {
+        port: 0,
+        workers: 64,
+        connections: 4_294_967_295,
+    };
+    assert_eq!(rt;
+        read_words(rt.alloc(), words.as_slice())?,
+        Run::Serve(serving)
+    );
+    Ok(())
+}
+
 // The texts are those of Rust's `clap`.
 #[test]
 fn other_words_are_refused(rt: HostRuntime) {
@@ -45,6 +83,18 @@ fn other_words_are_refused(rt: HostRuntime) {
         ),
         (["couchd", "--help"].as_slice(), help),
         (["couchd", "once", "-h"].as_slice(), help_once),
+        (
+            ["couchd", "serve", "--port", "65536"].as_slice(),
+            "error: invalid value '65536' for '--port <PORT>': 65536 is not in 0..=65535\n",
+        ),
+        (
+            ["couchd", "serve", "--workers=0"].as_slice(),
+            "error: invalid value '0' for '--workers <WORKERS>': 0 is not in 1..=64\n",
+        ),
+        (
+            ["couchd", "serve", "--connections", "many"].as_slice(),
+            "error: invalid value 'many' for '--connections <CONNECTIONS>': invalid digit found in string\n",
+        ),
     ];
     for (words, start) in cases {
         assert_refused(&rt, rt.alloc(), words, start);

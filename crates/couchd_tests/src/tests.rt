@@ -1,10 +1,10 @@
 //! Requests of one connection, in pieces and with failures, and all that is written to it.
 
-use http_front::{Session, Setting, run_once, serve};
-use serving::{Cause, Ended};
-use std::alloc::Global;
+use http_front::run_once;
 use std::process::Abort;
+use std::sync::Wait;
 use std::test::Fail;
+use std::time::Clock;
 use streams::Stream;
 use streams::scripted::{ScriptedReader, ScriptedWriter, Step};
 
@@ -33,120 +33,84 @@ const CREATED_AND_FOUND_A: &[u8] =
 const A_NUMBER_TOO_LARGE: &[u8] =
     b"HTTP/1.1 201 Created\r\nContent-Type: application/json\r\nContent-Length: 63\r\nCouch-Place: 1\r\n\r\n{\"id\":\"n\",\"ok\":true,\"rev\":\"1-2bd4f50ce7065c614af5a47da249f585\"}HTTP/1.1 400 Bad Request\r\nContent-Type: application/json\r\nContent-Length: 41\r\nCouch-Place: 1\r\n\r\n{\"error\":\"bad_request\",\"reason\":\"number\"}";
 
-/// An input, and what has to come of it.
+/// A run of the program over an input, and what has to come of it.
 #[derive(Drop)]
 struct Row<'a> {
     input: &'a [u8],
+    status: u8,
     output: &'a [u8],
-    ended: Ended,
-    place: u64,
 }
 
 impl Row<'_> {
-    /// Serves the input as the script cuts it.
-    fn assert_served<R: Abort>(&self, rt: &R, alloc: Global, script: &[Step]) -> Result<(), Fail> {
+    /// Runs as the scripts cut the input and the output.
+    fn assert_run<R: AllocGlobal + Abort + Wait + Clock>(
+        &self,
+        rt: &R,
+        reading: &[Step],
+        writing: &[Step],
+    ) -> Result<(), Fail> {
         let mut reader = Stream::new(ScriptedReader {
             rest: self.input,
-            script,
+            script: reading,
         });
         let mut writer = Stream::new(ScriptedWriter {
-            taken: Vec::with_capacity(alloc, 512)?,
-            script: &[],
+            taken: Vec::with_capacity(rt.alloc(), 512)?,
+            script: writing,
         });
-        let setting = Setting::new(alloc)?;
-        let mut session = Session::new(alloc, 1_000_000);
-        let ended = serve(alloc, &mut reader, &mut writer, &mut session, &setting);
-        assert_eq!(rt; ended, self.ended);
+        assert_eq!(rt; run_once(&mut reader, &mut writer, rt), self.status);
         assert_eq!(rt; writer.into_inner().taken.as_slice(), self.output);
-        assert_eq!(rt; session.place(), self.place);
         Ok(())
     }
 
-    /// Serves the input whole, a byte at a time, and cut within its first request.
-    fn assert_pieces<R: Abort>(&self, rt: &R, alloc: Global) -> Result<(), Fail> {
-        self.assert_served(rt, alloc, &[])?;
-        self.assert_served(rt, alloc, &[Step::AtMost(1)])?;
+    /// Runs on the input in two pieces.
+    fn assert_cut<R: AllocGlobal + Abort + Wait + Clock>(
+        &self,
+        rt: &R,
+        first: usize,
+    ) -> Result<(), Fail> {
+        let script = [Step::AtMost(first), Step::AtMost(self.input.len())];
+        self.assert_run(rt, &script, &[])
+    }
+
+    /// Runs on the input whole, a byte at a time, and cut within its first request.
+    fn assert_pieces<R: AllocGlobal + Abort + Wait + Clock>(&self, rt: &R) -> Result<(), Fail> {
+        self.assert_run(rt, &[], &[])?;
+        self.assert_run(rt, &[Step::AtMost(1)], &[])?;
         for first in [18, 39, 42] {
-            self.assert_cut(rt, alloc, first)?;
+            self.assert_cut(rt, first)?;
         }
         Ok(())
     }
+}
 
-    /// Serves the input in two pieces.
-    fn assert_cut<R: Abort>(&self, rt: &R, alloc: Global, first: usize) -> Result<(), Fail> {
-        let script = [Step::AtMost(first), Step::AtMost(self.input.len())];
-        self.assert_served(rt, alloc, &script)
+/// An input that is served to its end.
+fn served<'a>(input: &'a [u8], output: &'a [u8]) -> Row<'a> {
+    Row {
+        input,
+        status: 0,
+        output,
     }
 }
 
 #[test]
 fn requests_are_answered_however_they_are_cut(rt: HostRuntime) -> Result<(), Fail> {
     let rows = [
-        Row {
-            input: PUT_A,
-            output: CREATED_A,
-            ended: Ended {
-                answered: 1,
-                cause: Cause::AtEnd,
-            },
-            place: 1,
-        },
-        Row {
-            input: PUT_A_TWICE,
-            output: CONFLICT,
-            ended: Ended {
-                answered: 2,
-                cause: Cause::AtEnd,
-            },
-            place: 2,
-        },
-        Row {
-            input: PUT_AND_GET_A,
-            output: CREATED_AND_FOUND_A,
-            ended: Ended {
-                answered: 2,
-                cause: Cause::AtEnd,
-            },
-            place: 1,
-        },
-        Row {
-            input: PUT_NUMBERS,
-            output: A_NUMBER_TOO_LARGE,
-            ended: Ended {
-                answered: 2,
-                cause: Cause::AtEnd,
-            },
-            place: 1,
-        },
-        Row {
-            input: A_LONGER_BODY,
-            output: b"",
-            ended: Ended {
-                answered: 0,
-                cause: Cause::InRequest,
-            },
-            place: 0,
-        },
+        (PUT_A, CREATED_A),
+        (PUT_A_TWICE, CONFLICT),
+        (PUT_AND_GET_A, CREATED_AND_FOUND_A),
+        (PUT_NUMBERS, A_NUMBER_TOO_LARGE),
+        (A_LONGER_BODY, b""),
     ];
-    for row in &rows {
-        row.assert_pieces(&rt, rt.alloc())?;
+    for (input, output) in rows {
+        served(input, output).assert_pieces(&rt)?;
     }
     Ok(())
 }
 
 #[test]
 fn a_request_is_answered_wherever_it_is_cut(rt: HostRuntime) -> Result<(), Fail> {
-    let row = Row {
-        input: PUT_A,
-        output: CREATED_A,
-        ended: Ended {
-            answered: 1,
-            cause: Cause::AtEnd,
-        },
-        place: 1,
-    };
     for first in 1..PUT_A.len() {
-        row.assert_cut(&rt, rt.alloc(), first)?;
+        served(PUT_A, CREATED_A).assert_cut(&rt, first)?;
     }
     Ok(())
 }
@@ -154,49 +118,69 @@ fn a_request_is_answered_wherever_it_is_cut(rt: HostRuntime) -> Result<(), Fail>
 #[test]
 fn a_request_that_is_cut_does_nothing(rt: HostRuntime) -> Result<(), Fail> {
     for len in 0..PUT_A.len() {
-        let cause = if len == 0 {
-            Cause::AtEnd
-        } else {
-            Cause::InRequest
-        };
-        let row = Row {
-            input: &PUT_A[..len],
-            output: b"",
-            ended: Ended { answered: 0, cause },
-            place: 0,
-        };
-        row.assert_served(&rt, rt.alloc(), &[])?;
+        served(&PUT_A[..len], b"").assert_run(&rt, &[], &[])?;
     }
     Ok(())
 }
 
-/// Asserts the status and the output of a program that is handed the first request.
-fn assert_status<R: AllocGlobal + Abort>(
-    rt: &R,
-    reading: &[Step],
-    writing: &[Step],
-    status: u8,
-    output: &[u8],
-) -> Result<(), Fail> {
-    let mut reader = Stream::new(ScriptedReader {
-        rest: PUT_A,
-        script: reading,
-    });
-    let mut writer = Stream::new(ScriptedWriter {
-        taken: Vec::with_capacity(rt.alloc(), 512)?,
-        script: writing,
-    });
-    assert_eq!(rt; run_once(&mut reader, &mut writer, rt), status);
-    assert_eq!(rt; writer.into_inner().taken.as_slice(), output);
+const LONG_POLL: &[u8] = b"GET /db/_changes?feed=longpoll HTTP/1.1\r\n\r\n";
+
+const NO_CHANGES: &[u8] =
+    b"HTTP/1.1 200 OK\r\nContent-Type: application/json\r\nContent-Length: 39\r\nCouch-Place: 0\r\n\r\n{\"last_seq\":0,\"pending\":0,\"results\":[]}";
+
+const FEED: &[u8] = b"GET /db/_changes?feed=continuous HTTP/1.1\r\n\r\nGET / HTTP/1.1\r\n\r\n";
+
+const EMPTY_FEED: &[u8] =
+    b"HTTP/1.1 200 OK\r\nContent-Type: application/json\r\nCouch-Place: 0\r\nConnection: close\r\n\r\n{\"last_seq\":0,\"pending\":0}\n";
+
+const PUT_A_AND_FEED: &[u8] =
+    b"PUT /db/a HTTP/1.1\r\nContent-Length: 2\r\n\r\n{}GET /db/_changes?feed=continuous HTTP/1.1\r\n\r\n";
+
+const CREATED_A_AND_FEED: &[u8] =
+    b"HTTP/1.1 201 Created\r\nContent-Type: application/json\r\nContent-Length: 63\r\nCouch-Place: 1\r\n\r\n{\"id\":\"a\",\"ok\":true,\"rev\":\"1-b7a5841aeb59f1be5d0e27b640827094\"}HTTP/1.1 200 OK\r\nContent-Type: application/json\r\nCouch-Place: 1\r\nConnection: close\r\n\r\n{\"changes\":[{\"rev\":\"1-b7a5841aeb59f1be5d0e27b640827094\"}],\"id\":\"a\",\"seq\":1}\n{\"last_seq\":1,\"pending\":0}\n";
+
+/// Three documents, then a feed of at most one row, where a limit of 0 acts as 1.
+const FEED_OF_ONE: &[u8] =
+    b"POST /db/_bulk_docs HTTP/1.1\r\nContent-Length: 46\r\n\r\n{\"docs\":[{\"_id\":\"a\"},{\"_id\":\"b\"},{\"_id\":\"c\"}]}GET /db/_changes?feed=continuous&since=1&limit=0 HTTP/1.1\r\n\r\n";
+
+const FED_ONE: &[u8] =
+    b"HTTP/1.1 201 Created\r\nContent-Type: application/json\r\nContent-Length: 193\r\nCouch-Place: 1\r\n\r\n[{\"id\":\"a\",\"ok\":true,\"rev\":\"1-b7a5841aeb59f1be5d0e27b640827094\"},{\"id\":\"b\",\"ok\":true,\"rev\":\"1-b7a5841aeb59f1be5d0e27b640827094\"},{\"id\":\"c\",\"ok\":true,\"rev\":\"1-b7a5841aeb59f1be5d0e27b640827094\"}]HTTP/1.1 200 OK\r\nContent-Type: application/json\r\nCouch-Place: 1\r\nConnection: close\r\n\r\n{\"changes\":[{\"rev\":\"1-b7a5841aeb59f1be5d0e27b640827094\"}],\"id\":\"b\",\"seq\":2}\n{\"last_seq\":2,\"pending\":1}\n";
+
+/// The database has no changes above its own number.
+const FEED_FROM_NOW: &[u8] =
+    b"PUT /db/a HTTP/1.1\r\nContent-Length: 2\r\n\r\n{}GET /db/_changes?feed=continuous&since=now HTTP/1.1\r\n\r\n";
+
+const FED_FROM_NOW: &[u8] =
+    b"HTTP/1.1 201 Created\r\nContent-Type: application/json\r\nContent-Length: 63\r\nCouch-Place: 1\r\n\r\n{\"id\":\"a\",\"ok\":true,\"rev\":\"1-b7a5841aeb59f1be5d0e27b640827094\"}HTTP/1.1 200 OK\r\nContent-Type: application/json\r\nCouch-Place: 1\r\nConnection: close\r\n\r\n{\"last_seq\":1,\"pending\":0}\n";
+
+#[test]
+fn changes_are_fed(rt: HostRuntime) -> Result<(), Fail> {
+    let rows = [
+        (LONG_POLL, NO_CHANGES),
+        (FEED, EMPTY_FEED),
+        (PUT_A_AND_FEED, CREATED_A_AND_FEED),
+        (FEED_OF_ONE, FED_ONE),
+        (FEED_FROM_NOW, FED_FROM_NOW),
+    ];
+    for (input, output) in rows {
+        served(input, output).assert_run(&rt, &[], &[])?;
+    }
     Ok(())
 }
 
 #[test]
 fn the_status_tells_failures(rt: HostRuntime) -> Result<(), Fail> {
-    let fails = [Step::Fail];
-    let fails_behind_ten = [Step::AtMost(10), Step::Fail];
-    assert_status(&rt, &[], &[], 0, CREATED_A)?;
-    assert_status(&rt, &fails, &[], 1, b"")?;
-    assert_status(&rt, &[], &fails_behind_ten, 1, b"HTTP/1.1 2")?;
+    let unread = Row {
+        input: PUT_A,
+        status: 1,
+        output: b"",
+    };
+    unread.assert_run(&rt, &[Step::Fail], &[])?;
+    let cut_off = Row {
+        input: PUT_A,
+        status: 1,
+        output: b"HTTP/1.1 2",
+    };
+    cut_off.assert_run(&rt, &[], &[Step::AtMost(10), Step::Fail])?;
     Ok(())
 }

@@ -1,9 +1,10 @@
 -- What is asked has a text: each reply to a command in a form in which it is asked, and each answer to a query.
-use Rattle.std.proofs.Common.{◌≡◌, ℕ, List, [], ◌∷◌, Option, Some, None, Result, Ok, Err, refl, sym, ◌∙◌}
-use Rattle.std.specs.Prelude.{IfOk, IsSome, option_map}
-use Rattle.model.specs.Command.{Command, Edits, Merges, PutLocal, Purge, SetLimit, Compact, Reply}
+use Rattle.std.proofs.Common.{◌≡◌, ℕ, ◌-◌, [], ◌∷◌, Option, Some, None, refl, sym, subst}
+use Rattle.std.specs.Prelude.{IsSome, option_map}
+use Rattle.model.specs.Command.{Command, Edits, Merges, PutLocal, Purge, SetLimit, Compact, Reply, Entry}
 use Rattle.model.specs.Query.{Query, Get, OpenRevs, RevsDiff, Changes, AllDocuments, Info, GetLocal, RevsLimit, Answer}
 use Rattle.model.specs.Database.{Database, reply_to}
+use Rattle.model.specs.History.{IsLegal}
 use Rattle.model.specs.Answers.{answer_to}
 use Rattle.http_request.specs.Forms.{IsFormOf}
 use Rattle.http_request.specs.declared.asked.Form.{Form}
@@ -11,6 +12,8 @@ use Rattle.http_request.specs.declared.asked.Form.TheVariants as form
 use Rattle.http_response.specs.Told.{Told, reply_told, answer_told}
 use Rattle.http_response.specs.Texts.{told_text, reply_text, answer_text}
 use Rattle.http_response.specs.declared.connection.Connection.{Connection}
+use Rattle.http_front.specs.Known.{Known, HasEntryAt}
+use Rattle.http_front.proofs.Histories.{legal_reply}
 
 -- a reply to a command in a form in which it is asked
 pub reply-told : (d : Database) (form : Form) (command : Command) → IsFormOf form command → IsSome (reply_told form command (reply_to d command))
@@ -50,28 +53,23 @@ answer-told d Info = refl
 answer-told d (GetLocal id) = refl
 answer-told d RevsLimit = refl
 
--- what is told is this text
-due : (place : ℕ) (connection : Connection) (told : Option Told) → IsSome told
-    → (text : List ℕ) × (Some text ≡ option_map (told_text place connection) told)
-due place connection (Some told) some = (told_text place connection told, refl)
-due place connection None some = absurd (cc)
+-- the reply of an entry of a legal history, whose command is asked for in this form
+pub entry-told : (k : Known) (place : ℕ) (entry : Entry) (form : Form) → IsLegal k.base k.seen → HasEntryAt k place entry → IsFormOf form entry.command → IsSome (reply_told form entry.command entry.reply)
+entry-told k place entry form legal told fits =
+    let replied = legal_reply k.base k.seen (place - 1) entry legal told.1 in
+    subst (λ (reply : Reply). IsSome (reply_told form entry.command reply)) (sym replied.1) (reply-told replied.0 form entry.command fits)
+
+-- what has a text to tell has one
+due : (place : ℕ) (connection : Connection) (told : Option Told) → IsSome told → option_map (told_text place connection) told ≡ None → ⊥
+due place connection (Some told) some none = absurd (cc)
+due place connection None some none = absurd (cc)
 
 pub reply_due : (place : ℕ) (connection : Connection) (form : Form) (command : Command) (reply : Reply) → IsSome (reply_told form command reply)
-    → (text : List ℕ) × (Some text ≡ reply_text place connection form command reply)
+    → None ≡ reply_text place connection form command reply → ⊥
 unfolding reply_text
-reply_due place connection form command reply some = due place connection (reply_told form command reply) some
+reply_due place connection form command reply some none = due place connection (reply_told form command reply) some (sym none)
 
 pub answer_due : (place : ℕ) (connection : Connection) (query : Query) (answer : Answer) → IsSome (answer_told query answer)
-    → (text : List ℕ) × (Some text ≡ answer_text place connection query answer)
+    → None ≡ answer_text place connection query answer → ⊥
 unfolding answer_text
-answer_due place connection query answer some = due place connection (answer_told query answer) some
-
--- what was made is the text that is due
-pub made_due : {E : Type 0} (made : Result (List ℕ) E) (wanted : Option (List ℕ)) (text : List ℕ) → Some text ≡ wanted
-    → IfOk made (λ m. Some m ≡ wanted) → IfOk made (λ m. m ≡ text)
-made_due (Ok m) wanted text is said = let same = said ∙ sym is in cc
-made_due (Err refused) wanted text is said = tt
-
--- some text is due
-pub not_due : (wanted : Option (List ℕ)) (text : List ℕ) → Some text ≡ wanted → None ≡ wanted → ⊥
-not_due wanted text is none = let same = is ∙ sym none in absurd (cc)
+answer_due place connection query answer some none = due place connection (answer_told query answer) some (sym none)

@@ -1,23 +1,26 @@
 -- Turns of a session are told by the history at their end.
-use Rattle.std.proofs.Common.{◌≡◌, ℕ, ◌≤◌, List, [], ◌∷◌, ◌++◌, length, refl, ap, sym, ◌∙◌, subst, arith, append_assoc, length-append, None}
+use Rattle.std.proofs.Common.{◌≡◌, ℕ, ◌≤◌, List, [], ◌∷◌, ◌++◌, length, take, Option, None, Some, inl, inr, refl, ap, sym, ◌∙◌, subst, arith, append_assoc, length-append}
+use Rattle.std.specs.Prelude.{IfSome}
 use Rattle.std.specs.List.{FoldsTo, AllZip}
-use Rattle.std.proofs.KnownBytes.{Consumes-nil, Appends-nil}
-use Rattle.std.proofs.lemmas.List.{append-nil, take-append-le}
+use Rattle.std.proofs.lemmas.List.{append-nil}
 use Rattle.model.specs.Command.{Entry}
-use Rattle.model.specs.History.{IsLegal, of_session, replay}
+use Rattle.model.specs.Changes.{every_id, rows_since}
+use Rattle.model.specs.Database.{Database}
+use Rattle.model.specs.History.{IsLegal, of_session}
 use Rattle.model.specs.World.{WroteAt, Asked as AskedAt}
 use Rattle.model.specs.Told.{NoneFalls}
 use Rattle.model.proofs.TellLaws.{Tells-append}
 use Rattle.serving.specs.Turn.{Turn, all_turns}
 use Rattle.serving.specs.Served.{Streams, Served}
 use Rattle.serving.specs.declared.outcome.Ended.{Ended}
-use Rattle.serving.specs.declared.outcome.Cause.TheVariants as cause
-use Rattle.http_front.specs.Known.{Known, sees_more}
-use Rattle.http_front.specs.Outcome.{Outcome, Fixed, Wrote, WroteUntold, Read, Memory, Full, Placed, AsksQuery, IsToldAt, IsWritten, IsRead, NamesSeen, TellsAt, written}
-use Rattle.http_front.specs.Answers.{Answers, AnswersAlone}
-use Rattle.http_front.specs.Connection.{IsConnection, SeesInTurn, places_named, entries_written}
-use Rattle.http_front.specs.Session.{IsAlone}
-use Rattle.http_front.proofs.Sessions.{of_session-append, of_session-own}
+use Rattle.http_front.specs.Known.{Known, database_at, sees_more}
+use Rattle.http_front.specs.Changes.{MayWait, changes_query}
+use Rattle.http_front.specs.Outcome.{Outcome, Fixed, Wrote, WroteUntold, Read, Fed, Memory, Failed, Placed, AsksQuery, IsToldAt, IsWritten, IsRead, IsFed, TellsAt, places_spoken, written}
+use Rattle.http_front.specs.Feed.{Piece, Ending, GivesPiece, EndsFeed, feed_start}
+use Rattle.http_front.specs.declared.progress.Progress.{Progress}
+use Rattle.http_front.specs.Answers.{Answers}
+use Rattle.http_front.specs.Connection.{IsConnection, SeesInTurn, all_places, entries_written}
+use Rattle.http_front.proofs.Histories.{of_session-append, falls_on, database-more}
 
 module _ (k : Known) (more : List Entry) where
   written-append : {item : _} {place : ℕ} {form : _} {entry : Entry} → IsWritten k item place form entry → IsWritten (sees_more k more) item place form entry
@@ -27,23 +30,66 @@ module _ (k : Known) (more : List Entry) where
     told = Tells-append k.base k.seen more (WroteAt entry.seat entry.command place entry.reply) w.told;
   }
 
-  read-append : {item : _} {place : ℕ} {query : _} {answer : _} → IsRead k item place query answer → IsRead (sees_more k more) item place query answer
-  read-append {item = item} {place = place} {query = query} {answer = answer} r = record {
-    asked = subst (λ (es : List Entry). AsksQuery (replay k.base es) item query) (sym (take-append-le place k.seen more r.told.0)) r.asked;
+  asks-append : {item : _} {first place : ℕ} {query : _} → first ≤ length k.seen → AsksQuery k item first place query → AsksQuery (sees_more k more) item first place query
+  asks-append within (inl asks) = inl asks
+  asks-append {first = first} {place = place} {query = query} within (inr asks) = inr (record {
+    changes = asks.changes;
+    asked = asks.asked;
+    waits = subst (λ (d : Database). MayWait asks.changes.feed d asks.changes first place) (database-more k more first within) asks.waits;
+    query_is = asks.query_is ∙ ap (λ (d : Database). changes_query d asks.changes) (database-more k more first within);
+  })
+
+  read-append : {item : _} {first place : ℕ} {query : _} {answer : _} → first ≤ place → IsRead k item first place query answer → IsRead (sees_more k more) item first place query answer
+  read-append {item = item} {first = first} {place = place} {query = query} {answer = answer} before r = record {
+    asked = asks-append (omega (arith, before, r.told.0)) r.asked;
     told = Tells-append k.base k.seen more (AskedAt k.number query place answer) r.told;
   }
 
-  TellsAt-append : (turn : Turn) (place : ℕ) (outcome : Outcome) → TellsAt k turn place outcome → TellsAt (sees_more k more) turn place outcome
-  TellsAt-append turn place Fixed t = t
-  TellsAt-append turn place (Wrote form entry) t = (written-append t.0, t.1, t.2)
-  TellsAt-append turn place (WroteUntold form entry) t = (written-append t.0, t.1, t.2)
-  TellsAt-append turn place (Read query answer) t = (read-append t.0, t.1, t.2)
-  TellsAt-append turn place Memory t = t
-  TellsAt-append turn place Full t = t
+  gives-append : (before : Progress) (piece : Piece) (after : Progress) → GivesPiece k before piece after → GivesPiece (sees_more k more) before piece after
+  gives-append before piece after gives = record {
+    within = omega (arith, gives.within, length-append k.seen more);
+    count = gives.count;
+    rows = gives.rows ∙ ap (λ (d : Database). take gives.count (rows_since every_id d before.follower.cursor before.follower.style)) (database-more k more piece.place gives.within);
+    follower = gives.follower;
+    left = gives.left;
+  }
 
-  -- what a history tells, a longer one tells too
-  IsToldAt-append : (turn : Turn) (placed : Placed) → IsToldAt k turn placed → IsToldAt (sees_more k more) turn placed
-  IsToldAt-append turn placed r = TellsAt-append turn placed.place placed.outcome r
+  pub runs-append : (pieces : List Piece) (before after : Progress) → FoldsTo (GivesPiece k) before pieces after → FoldsTo (GivesPiece (sees_more k more)) before pieces after
+  runs-append [] before after runs = runs
+  runs-append (p ∷ ps) before after runs = (runs.0, gives-append before p runs.0 runs.1, runs-append ps runs.0 after runs.2)
+
+  pub ends-append : (after : Progress) (ending : Ending) → EndsFeed k after ending → EndsFeed (sees_more k more) after ending
+  ends-append after ending ends = record {
+    within = omega (arith, ends.within, length-append k.seen more);
+    counted = ends.counted ∙ ap (λ (d : Database). length (rows_since every_id d after.follower.cursor after.follower.style)) (database-more k more ending.place ends.within);
+    all = ends.all;
+  }
+
+  ends-if : (after : Progress) (ending : Option Ending) → IfSome ending (EndsFeed k after) → IfSome ending (EndsFeed (sees_more k more) after)
+  ends-if after None ends = tt
+  ends-if after (Some ending) ends = ends-append after ending ends
+
+  fed-append : {item : _} {place : ℕ} {pieces : List Piece} {ending : Option Ending} {text : List ℕ} → IsFed k item place pieces ending text → IsFed (sees_more k more) item place pieces ending text
+  fed-append {place = place} {pieces = pieces} {ending = ending} f = record {
+    changes = f.changes;
+    asked = f.asked;
+    goes_on = f.goes_on;
+    within = omega (arith, f.within, length-append k.seen more);
+    after = f.after;
+    runs = subst (λ (d : Database). FoldsTo (GivesPiece (sees_more k more)) (feed_start d f.changes) pieces f.after) (database-more k more place f.within) (runs-append pieces (feed_start (database_at k place) f.changes) f.after f.runs);
+    ends = ends-if f.after ending f.ends;
+    said = f.said;
+  }
+
+  TellsAt-append : (turn : Turn) (low place : ℕ) (outcome : Outcome) (last : List ℕ) → NoneFalls low (places_spoken place outcome ++ last) → TellsAt k turn place outcome → TellsAt (sees_more k more) turn place outcome
+  TellsAt-append turn low place Fixed last n t = t
+  TellsAt-append turn low place (Wrote form entry) last n t = (written-append t.0, t.1, t.2)
+  TellsAt-append turn low place (WroteUntold form entry) last n t = (written-append t.0, t.1, t.2)
+  TellsAt-append turn low place (Read first query answer) last n t = (read-append n.1.0 t.0, t.1, t.2)
+  TellsAt-append turn low place (Fed pieces ending) last n t = (fed-append t.0, t.1)
+  TellsAt-append turn low place Memory last n t = t
+  TellsAt-append turn low place (Failed why) last n t =
+      (record { asking = t.0.asking; asked = t.0.asked; fails = t.0.fails; full = t.0.full }, t.1, t.2)
 
 -- what is told of turns by what is known at their end
 pub record AreTold (old : Known) (turns : List Turn) (final : Known) : Type 0 where
@@ -53,12 +99,7 @@ pub record AreTold (old : Known) (turns : List Turn) (final : Known) : Type 0 wh
   pub extends : final ≡ sees_more old more
   pub entries : of_session old.number more ≡ entries_written outcomes
   pub sees : SeesInTurn old.number old.seen outcomes final.seen
-  pub places : NoneFalls (length old.seen) (places_named outcomes ++ length final.seen ∷ [])
-
--- places that rise from a higher one rise from a lower one
-falls_from : (low high : ℕ) (places : List ℕ) → low ≤ high → NoneFalls high places → NoneFalls low places
-falls_from low high [] h n = tt
-falls_from low high (p ∷ ps) h n = (omega (arith, h, n.0), n.1)
+  pub places : NoneFalls (length old.seen) (all_places outcomes ++ length final.seen ∷ [])
 
 pub are_told : (old : Known) (turns : List Turn) (final : Known) → FoldsTo Answers old turns final → AreTold old turns final
 are_told old [] final same = record {
@@ -74,110 +115,63 @@ are_told old (turn ∷ turns) final (new, answers, runs) =
     let rest = are_told new turns final runs in
     let placed = answers.placed in
     let sees = answers.sees in
+    let spoken = places_spoken placed.place placed.outcome in
     let is : new ≡ record old { seen = placed.seen } = answers.new_is in
     let number : new.number ≡ old.number = ap (λ (k : Known). k.number) is in
     let seen : new.seen ≡ placed.seen = ap (λ (k : Known). k.seen) is in
     record {
       outcomes = placed ∷ rest.outcomes;
       more = sees.more ++ rest.more;
-      told = (subst (λ (k : Known). IsToldAt k turn placed) (sym rest.extends) (IsToldAt-append new rest.more turn placed answers.told), rest.told);
+      told = (subst (λ (k : Known). IsToldAt k turn placed) (sym rest.extends) (TellsAt-append new rest.more turn (length old.seen) placed.place placed.outcome (length placed.seen ∷ []) sees.places answers.told), rest.told);
       extends = rest.extends ∙ ap (λ (k : Known). sees_more k rest.more) is ∙ (λ i. record old { seen = (ap (λ (es : List Entry). es ++ rest.more) sees.extends ∙ append_assoc old.seen sees.more rest.more) i });
       entries = of_session-append old.number sees.more rest.more ∙ ap (λ (es : List Entry). es ++ of_session old.number rest.more) sees.entries ∙ ap (λ (n : ℕ). written placed.outcome ++ of_session n rest.more) (sym number) ∙ ap (λ (es : List Entry). written placed.outcome ++ es) rest.entries;
       sees = (sees, subst (λ (es : List Entry). SeesInTurn old.number es rest.outcomes final.seen) seen (subst (λ (n : ℕ). SeesInTurn n new.seen rest.outcomes final.seen) number rest.sees));
-      places = (sees.from, falls_from placed.place (length new.seen) _ (omega (arith, sees.to, ap length seen)) rest.places);
+      places =
+          let later = subst (λ (es : List Entry). NoneFalls (length es) (all_places rest.outcomes ++ length final.seen ∷ [])) seen rest.places in
+          subst (NoneFalls (length old.seen)) (sym (append_assoc spoken (all_places rest.outcomes) (length final.seen ∷ [])))
+          (falls_on (length old.seen) (length placed.seen) spoken _ sees.places later);
     }
 
--- ---- a session that is alone
+-- ---- a session that is lent
 
--- what such a session wrote is its own
-own_written : (k : Known) (turn : Turn) (place : ℕ) (outcome : Outcome) → TellsAt k turn place outcome → of_session k.number (written outcome) ≡ written outcome
-own_written k turn place Fixed t = refl
-own_written k turn place (Wrote form entry) t = of_session-own k.number entry t.0.own
-own_written k turn place (WroteUntold form entry) t = of_session-own k.number entry t.0.own
-own_written k turn place (Read query answer) t = refl
-own_written k turn place Memory t = refl
-own_written k turn place Full t = refl
+module _ {T N : Type 0} (known : T → Known) (name : T → N) where
+  -- by each turn it stays the same session, and comes from what it knew to what it knows
+  abbrev pub AnswersLent : T → Turn → T → Type 0
+  AnswersLent old turn new = Answers (known old) turn (known new) × (name new ≡ name old)
 
-names_seen : (outcome : Outcome) (seen : List Entry) → NamesSeen outcome (length seen) seen
-names_seen Fixed seen = refl
-names_seen (Wrote form entry) seen = tt
-names_seen (WroteUntold form entry) seen = tt
-names_seen (Read query answer) seen = tt
-names_seen Memory seen = refl
-names_seen Full seen = refl
+  pub all_known : (old : T) (turns : List Turn) (final : T) → FoldsTo AnswersLent old turns final → FoldsTo Answers (known old) turns (known final)
+  all_known old [] final same = ap known same
+  all_known old (turn ∷ turns) final (new, answers, runs) = (known new, answers.0, all_known new turns final runs)
 
-answers_alone : (old : Known) (turn : Turn) (new : Known) → AnswersAlone old turn new → Answers old turn new
-answers_alone old turn new a =
-    let extends : new.seen ≡ old.seen ++ written a.outcome = ap (λ (k : Known). k.seen) a.entries in
-    let number : new.number ≡ old.number = ap (λ (k : Known). k.number) a.entries in
-    record {
-      placed = record { place = length new.seen; outcome = a.outcome; seen = new.seen };
-      told = a.told;
-      sees = record {
-        more = written a.outcome;
-        extends = extends;
-        entries = subst (λ (n : ℕ). of_session n (written a.outcome) ≡ written a.outcome) number (own_written new turn (length new.seen) a.outcome a.told);
-        from = omega (arith, ap length extends, length-append old.seen (written a.outcome));
-        to = omega arith;
-        names = names_seen a.outcome new.seen;
-      };
-      new_is = a.entries ∙ (λ i. record old { seen = sym extends i });
-    }
+  pub same_name : (old : T) (turns : List Turn) (final : T) → FoldsTo AnswersLent old turns final → name final ≡ name old
+  same_name old [] final same = sym (ap name same)
+  same_name old (turn ∷ turns) final (new, answers, runs) = same_name new turns final runs ∙ answers.1
 
-pub all_alone : (old : Known) (turns : List Turn) (final : Known) → FoldsTo AnswersAlone old turns final → FoldsTo Answers old turns final
-all_alone old [] final same = same
-all_alone old (turn ∷ turns) final (new, answers, runs) = (new, answers_alone old turn new answers, all_alone new turns final runs)
-
-pub served_alone : (before after : Streams) (old final : Known) (ended : Ended) → Served AnswersAlone before after old final ended → IsAlone final → IsConnection before after old final ended
-served_alone before after old final ended served alone =
-    let turns = all_turns served.turns served.cut in
-    let told = are_told old turns final (all_alone old turns final served.runs) in
-    record {
-      read = served.read;
-      turns = served.turns;
-      cut = served.cut;
-      rest = served.rest;
-      part = served.part;
-      outcomes = told.outcomes;
-      more = told.more;
-      reads = served.reads;
-      splits = served.splits;
-      told = told.told;
-      legal = alone.legal;
-      extends = told.extends;
-      entries = told.entries;
-      sees = told.sees;
-      places = told.places;
-      writes = served.writes;
-      is_part = served.is_part;
-      answered = served.answered;
-      ends = served.ends;
-      failed_reads = served.failed_reads;
-      failed_writes = served.failed_writes;
-    }
-
--- nothing was read or written, for want of memory
-pub served_nothing : (streams : Streams) (k : Known) → IsLegal k.base k.seen → IsConnection streams streams k k (record { answered = 0; cause = cause.Memory })
-served_nothing streams k legal = record {
-  read = [];
-  turns = [];
-  cut = None;
-  rest = [];
-  part = [];
-  outcomes = [];
-  more = [];
-  reads = Consumes-nil streams.left;
-  splits = refl;
-  told = tt;
-  legal = legal;
-  extends = (λ i. record k { seen = sym (append-nil k.seen) i });
-  entries = refl;
-  sees = refl;
-  places = (omega arith, tt);
-  writes = Appends-nil streams.taken;
-  is_part = refl;
-  answered = refl;
-  ends = (refl, refl, refl);
-  failed_reads = refl;
-  failed_writes = refl;
-}
+  pub served_lent : (before after : Streams) (old final : T) (ended : Ended) → Served AnswersLent before after old final ended → IsLegal (known final).base (known final).seen
+      → IsConnection before after (known old) (known final) ended
+  served_lent before after old final ended served legal =
+      let turns = all_turns served.turns served.cut in
+      let told = are_told (known old) turns (known final) (all_known old turns final served.runs) in
+      record {
+        read = served.read;
+        turns = served.turns;
+        cut = served.cut;
+        rest = served.rest;
+        part = served.part;
+        outcomes = told.outcomes;
+        more = told.more;
+        reads = served.reads;
+        splits = served.splits;
+        told = told.told;
+        legal = legal;
+        extends = told.extends;
+        entries = told.entries;
+        sees = told.sees;
+        places = told.places;
+        writes = served.writes;
+        is_part = served.is_part;
+        answered = served.answered;
+        ends = served.ends;
+        failed_reads = served.failed_reads;
+        failed_writes = served.failed_writes;
+      }

@@ -1,5 +1,5 @@
 -- What a connection is, told by the history that its session has seen at the end.
-use Rattle.std.specs.Prelude.{◌≡◌, ℕ, List, [], ◌∷◌, ◌++◌, length, map, Option}
+use Rattle.std.specs.Prelude.{◌≡◌, ℕ, List, [], ◌∷◌, ◌++◌, length, Option}
 use Rattle.std.specs.List.{flat_map, AllZip}
 use Rattle.std.specs.Io.KnownBytes.{Consumes, Appends}
 use Rattle.http_framing.specs.Input.{Splits}
@@ -10,12 +10,12 @@ use Rattle.model.specs.Command.{Entry}
 use Rattle.model.specs.History.{IsLegal, of_session}
 use Rattle.model.specs.Told.{NoneFalls}
 use Rattle.http_front.specs.Known.{Known, sees_more}
-use Rattle.http_front.specs.Outcome.{Placed, IsToldAt, written}
+use Rattle.http_front.specs.Outcome.{Placed, IsToldAt, places_spoken, written}
 use Rattle.http_front.specs.Answers.{Sees}
 
--- the places that are named, in order
-abbrev pub places_named : List Placed → List ℕ
-places_named outcomes = map (λ placed. placed.place) outcomes
+-- all places that the responses speak of, in order
+abbrev pub all_places : List Placed → List ℕ
+all_places outcomes = flat_map (λ placed. places_spoken placed.place placed.outcome) outcomes
 
 -- the entries that were written, in order
 abbrev pub entries_written : List Placed → List Entry
@@ -46,8 +46,8 @@ pub record IsConnection (before after : Streams) (old final : Known) (ended : En
   pub entries : of_session old.number more ≡ entries_written outcomes
   -- and so they are up to each turn
   pub sees : SeesInTurn old.number old.seen outcomes final.seen
-  -- the places named never fall, from the old one up to the last
-  pub places : NoneFalls (length old.seen) (places_named outcomes ++ length final.seen ∷ [])
+  -- the places never fall, from the old one up to the last
+  pub places : NoneFalls (length old.seen) (all_places outcomes ++ length final.seen ∷ [])
   pub writes : Appends before.taken after.taken (responses_of turns ++ part)
   pub is_part : IsPartOf cut part
   pub answered : ended.answered ≡ length turns

@@ -1,8 +1,11 @@
 -- What a session knows.
-use Rattle.std.specs.Prelude.{ℕ, List, [], ◌++◌}
+use Rattle.std.specs.Prelude.{ℕ, List, [], ◌++◌, take}
 use Rattle.model.specs.Command.{Entry}
-use Rattle.model.specs.Database.{Database, empty_database}
-use Rattle.model.specs.History.{Chronicle}
+use Rattle.model.specs.Database.{Database}
+use Rattle.model.specs.History.{Chronicle, replay}
+use Rattle.model.specs.World.{WroteAt}
+use Rattle.model.specs.Told.{Tells}
+use Rattle.publications.specs.Histories.{opening_base}
 
 -- the session's number, the database that the history began from, the most entries that the history can have, and
 -- the entries that the session has seen
@@ -16,14 +19,18 @@ pub record Known : Type 0 where
 abbrev pub history_of : Known → Chronicle
 history_of k = record { base = k.base; entries = k.seen }
 
+-- the database at a place of it
+abbrev pub database_at : Known → ℕ → Database
+database_at k place = replay k.base (take place k.seen)
+
 -- the same with more entries seen
 abbrev pub sees_more : Known → List Entry → Known
 sees_more k more = record k { seen = k.seen ++ more }
 
--- what the first session knows, where it has seen all of a history
-abbrev pub first_known : ℕ → Chronicle → Known
-first_known room c = record { number = 0; base = c.base; room = room; seen = c.entries }
+-- the entry stands at the place in what it has seen
+abbrev pub HasEntryAt : Known → ℕ → Entry → Type 0
+HasEntryAt k place entry = Tells k.base k.seen (WroteAt entry.seat entry.command place entry.reply)
 
--- the same of an empty database that was just opened
+-- what the first session of a database knows that was just opened
 abbrev pub opened : ℕ → Known
-opened room = first_known room (record { base = empty_database; entries = [] })
+opened room = record { number = 0; base = opening_base; room = room; seen = [] }

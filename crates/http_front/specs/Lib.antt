@@ -1,7 +1,14 @@
 pub mod Known
+pub mod Calls
+pub mod Changes
+pub mod Feed
 pub mod Outcome
-pub mod Session
 pub mod Answers
 pub mod Connection
 pub mod Response
+pub mod Replies
+pub mod Going
+pub mod Sessions
 pub mod Once
+pub mod Listening
+pub mod Server

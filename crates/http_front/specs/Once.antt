@@ -1,5 +1,5 @@
 -- A run of a program that serves one connection.
-use Rattle.std.specs.Prelude.{◌≡◌, ℕ}
+use Rattle.std.specs.Prelude.{◌≡◌, ℕ, ◌⊎◌}
 use Rattle.serving.specs.Served.{Streams}
 use Rattle.serving.specs.declared.outcome.Ended.{Ended}
 use Rattle.serving.specs.declared.outcome.Cause.{Cause}
@@ -20,9 +20,17 @@ exit_status cause.Memory = 1
 abbrev pub max_places : ℕ
 max_places = 1000000
 
--- a connection over an empty database, whose end is told by this status
-pub record ServesOnce (before after : Streams) (status : ℕ) : Type 0 where
+-- the only session of an empty database served a connection, whose end is told by this status
+pub record ServesDatabase (before after : Streams) (status : ℕ) : Type 0 where
   pub final : Known
   pub ended : Ended
   pub connection : IsConnection before after (opened max_places) final ended
   pub tells : status ≡ exit_status ended.cause
+
+-- no database was opened, and nothing was read or written
+pub record OpensNone (before after : Streams) (status : ℕ) : Type 0 where
+  pub same : after ≡ before
+  pub tells : status ≡ 1
+
+abbrev pub ServesOnce : Streams → Streams → ℕ → Type 0
+ServesOnce before after status = ServesDatabase before after status ⊎ OpensNone before after status

@@ -1,64 +1,73 @@
 //! The connections of a session.
-ghost use Rattle.std.specs.Prelude.{◌≡◌, IfOk};
-ghost use Rattle.model.specs.History.{of_session};
-ghost use Rattle.streams.specs.Counts.{CountsFailure};
-ghost use Rattle.streams.specs.Writes.{Writes};
+ghost use Rattle.std.specs.Prelude.{◌≡◌};
 ghost use Rattle.serving.specs.Served.{Streams};
-ghost use Rattle.http_front.specs.Answers.{AnswersAlone};
+ghost use Rattle.http_front.specs.Answers.{Answers};
 ghost use Rattle.http_front.specs.Connection.{IsConnection};
 
-use crate::response::Sent;
-use crate::session::Session;
-use crate::turn::{Setting, refuse, respond};
+use crate::calls::Calls;
+use crate::feed::follow;
+use crate::response::{Reply, send};
+use crate::setting::Setting;
+use crate::turn::{refuse, respond};
 use http_framing::FramingFault;
 use http_framing::request::Request;
-use serving::{Ended, Service, write_response};
+use serving::{Cause, Ended, Service, Window};
 use std::alloc::Global;
 use streams::{Failed, Sink, Source};
 
-impl Service<Setting> for Session {
-    ghost answers = { λ _. AnswersAlone };
+/// Memory for the window was refused.
+const NOTHING_READ: Ended = Ended {
+    answered: 0,
+    cause: Cause::Memory,
+};
+
+/// A session that is lent to a connection.
+#[derive(Drop)]
+struct Front<'s, S> {
+    session: &'s mut S,
+}
+
+impl<'s, 'c, X, S: Calls<X>> Service<Setting<'c, X>> for Front<'s, S> {
+    // It stays the same session.
+    ghost answers = { λ _ old turn new.
+        Answers (S.known old.session.now) turn (S.known new.session.now)
+        × (new.session.ghost_name ≡ old.session.ghost_name) };
 
     fn answer<W: Sink>(
         &mut self,
-        setting: &Setting,
+        setting: &Setting<'c, X>,
         request: &Request<'_>,
         writer: &mut W,
     ) -> Result<bool, Failed> {
-        let sent = respond(self, setting, request);
-        send(writer, &sent)
+        match respond(self.session, setting, request) {
+            Reply::Sent(sent) => send(writer, &sent),
+            Reply::Feed(changes) => {
+                follow(self.session, setting, changes, request.closes(), writer)
+            }
+        }
     }
 
     fn refuse<W: Sink>(
         &mut self,
-        _setting: &Setting,
+        _setting: &Setting<'c, X>,
         fault: FramingFault,
         writer: &mut W,
     ) -> Result<(), Failed> {
-        let sent = refuse(self, fault);
+        let sent = refuse(&*self.session, fault);
         send(writer, &sent)?;
         Ok(())
     }
 }
 
-/// Writes a response, and answers whether the connection closes after it.
-fn send<W: Sink>(writer: &mut W, sent: &Sent) -> Result<bool, Failed>
-    ensures written { Writes (W.taken writer.old) (W.taken writer.new) result sent.now.response }
-    ensures closes { IfOk result (λ closes. closes ≡ sent.now.closes) }
-    ensures failures { CountsFailure (W.failed_writes writer.old)
-        (W.failed_writes writer.new) result }
-{
-    let (head, body) = sent.response.parts();
-    write_response(writer, head, body, sent.closes)
-}
-
-/// Serves the requests of the reader to the writer, in order, each as soon as it is whole.
-pub fn serve<R: Source, W: Sink>(
+/// Serves the requests of the reader to the writer, in order, each as soon as it is whole. Other
+/// sessions of the database may have entries meanwhile. Room for the largest request is taken first;
+/// where that is refused, nothing is read.
+pub fn serve<R: Source, W: Sink, X, S: Calls<X>>(
     alloc: Global,
     reader: &mut R,
     writer: &mut W,
-    session: &mut Session,
-    setting: &Setting,
+    session: &mut S,
+    setting: &Setting<'_, X>,
 ) -> Ended
     ensures connection { IsConnection
         (record {
@@ -73,11 +82,67 @@ pub fn serve<R: Source, W: Sink>(
           taken = W.taken writer.new;
           failed_writes = W.failed_writes writer.new;
         })
-        session.old session.new result }
-    // No other session has entries.
-    ensures alone { of_session session.new.number session.new.seen ≡ session.new.seen }
+        (S.known session.old) (S.known session.new) result }
 {
-    let ended = serving::serve(alloc, reader, writer, session, setting);
-    let _seen = session.look();
+    let Ok(mut window) = Window::new(alloc) else {
+        let _place = session.place();
+        return NOTHING_READ;
+    };
+    serve_in(&mut window, reader, writer, session, setting)
+}
+
+/// Serves a connection in a window that served others before.
+pub fn serve_in<R: Source, W: Sink, X, S: Calls<X>>(
+    window: &mut Window,
+    reader: &mut R,
+    writer: &mut W,
+    session: &mut S,
+    setting: &Setting<'_, X>,
+) -> Ended
+    ensures connection { IsConnection
+        (record {
+          left = R.left reader.old;
+          failed_reads = R.failed_reads reader.old;
+          taken = W.taken writer.old;
+          failed_writes = W.failed_writes writer.old;
+        })
+        (record {
+          left = R.left reader.new;
+          failed_reads = R.failed_reads reader.new;
+          taken = W.taken writer.new;
+          failed_writes = W.failed_writes writer.new;
+        })
+        (S.known session.old) (S.known session.new) result }
+{
+    let mut front = Front { session };
+    serve_lent(window, reader, writer, &mut front, setting)
+}
+
+/// Serves by a session that is lent.
+fn serve_lent<R: Source, W: Sink, X, S: Calls<X>>(
+    window: &mut Window,
+    reader: &mut R,
+    writer: &mut W,
+    front: &mut Front<'_, S>,
+    setting: &Setting<'_, X>,
+) -> Ended
+    ensures same { front.new.session.ghost_name ≡ front.old.session.ghost_name }
+    ensures connection { IsConnection
+        (record {
+          left = R.left reader.old;
+          failed_reads = R.failed_reads reader.old;
+          taken = W.taken writer.old;
+          failed_writes = W.failed_writes writer.old;
+        })
+        (record {
+          left = R.left reader.new;
+          failed_reads = R.failed_reads reader.new;
+          taken = W.taken writer.new;
+          failed_writes = W.failed_writes writer.new;
+        })
+        (S.known front.old.session.now) (S.known front.new.session.now) result }
+{
+    let ended = serving::serve_in(window, reader, writer, front, setting);
+    let _place = front.session.place();
     ended
 }

@@ -1,13 +1,29 @@
-//! Sessions of the database, and the connections that they serve.
+//! The connections that sessions of a database serve.
+//!
+//! [`serve`] answers the requests of a connection by the calls of a session ([`Calls`]), of which a
+//! session that shares its database with other threads is one. [`listen`] lends sessions to workers,
+//! which accept connections and serve them.
 #![tactic(auto)]
 
+mod calls;
 mod connection;
+mod failing;
+mod feed;
+mod listening;
 mod once;
+mod opening;
+mod progress;
+mod reading;
 mod response;
+mod server;
 mod session;
+mod setting;
 mod turn;
+mod writing;
 
-pub use connection::serve;
+pub use calls::{CallFault, Calls, Viewer};
+pub use connection::{serve, serve_in};
+pub use listening::listen;
 pub use once::run_once;
-pub use session::{Receipt, Session, WriteFault};
-pub use turn::Setting;
+pub use server::run_server;
+pub use setting::Setting;

@@ -1,16 +1,22 @@
 //! What the program does with its standard streams.
-ghost use Rattle.std.specs.Prelude.{◌≡◌};
+ghost use Rattle.std.specs.Prelude.{◌≡◌, [], ◌∷◌};
 ghost use Rattle.serving.specs.Served.{Streams};
-ghost use Rattle.http_front.specs.Once.{ServesOnce, exit_status};
+ghost use Rattle.sessions.specs.Known.{fresh};
+ghost use Rattle.http_front.specs.Once.{ServesOnce, exit_status, max_places};
 
 use crate::connection::serve;
-use crate::session::Session;
-use crate::turn::Setting;
+use crate::opening::{NOT_OPENED, config};
+use crate::setting::Setting;
+use history_lock::{Opened, open};
 use serving::Cause;
+use std::marker::Brand;
+use std::sync::Wait;
+use std::time::Clock;
 use streams::{Sink, Source};
+use updating::{NoGate, Opening};
 
-/// The most entries of the history.
-const MAX_ENTRIES: u32 = 1_000_000;
+/// Nobody else changes the database, so a wait for changes looks once.
+const TURNS: u64 = 1;
 
 /// The exit status after a connection that ended so.
 fn exit_status(cause: Cause) -> u8
@@ -23,8 +29,13 @@ fn exit_status(cause: Cause) -> u8
 }
 
 /// Serves an empty database to one connection, and answers the exit status: 0, or 1 where a read
-/// or a write failed, or memory was refused before anything was read.
-pub fn run_once<R: Source, W: Sink, A: AllocGlobal>(reader: &mut R, writer: &mut W, rt: &A) -> u8
+/// or a write failed, or where nothing was read since the database was not opened or memory was
+/// refused.
+pub fn run_once<R: Source, W: Sink, A: AllocGlobal + Wait + Clock>(
+    reader: &mut R,
+    writer: &mut W,
+    rt: &A,
+) -> u8
     ensures { ServesOnce
         (record {
           left = R.left reader.old;
@@ -40,10 +51,51 @@ pub fn run_once<R: Source, W: Sink, A: AllocGlobal>(reader: &mut R, writer: &mut
         })
         result }
 {
-    let Ok(setting) = Setting::new(rt.alloc()) else {
-        return exit_status(Cause::Memory);
+    let Ok(opened) = Opened::new(rt.alloc(), config(1)) else {
+        return NOT_OPENED;
     };
-    let mut session = Session::new(rt.alloc(), MAX_ENTRIES);
-    let ended = serve(rt.alloc(), reader, writer, &mut session, &setting);
+    serve_opened::<Brand, &A, R, W, A>(reader, writer, rt, rt, opened)
+}
+
+/// Serves a database of one session, whose writer keeps a runtime of its own, to one connection.
+fn serve_opened<J: Opening, T: Wait + Drop, R: Source, W: Sink, A: AllocGlobal + Wait + Clock>(
+    reader: &mut R,
+    writer: &mut W,
+    rt: &A,
+    writer_rt: T,
+    opened: Opened,
+) -> u8
+    requires book { opened.book ≡ J.book }
+    requires table { opened.queue.table ≡ J.table }
+    requires capacity { opened.queue.capacity ≡ J.capacity }
+    requires sessions { opened.queue.sessions ≡ J.sessions }
+    requires max_places { opened.max_places ≡ J.max_places }
+    requires one { opened.queue.sessions ≡ 1 }
+    requires room { opened.max_places ≡ max_places }
+    ensures { ServesOnce
+        (record {
+          left = R.left reader.old;
+          failed_reads = R.failed_reads reader.old;
+          taken = W.taken writer.old;
+          failed_writes = W.failed_writes writer.old;
+        })
+        (record {
+          left = R.left reader.new;
+          failed_reads = R.failed_reads reader.new;
+          taken = W.taken writer.new;
+          failed_writes = W.failed_writes writer.new;
+        })
+        result }
+{
+    let Ok((_master, mut sessions)) = open::<T, J, NoGate>(writer_rt, opened, NoGate) else {
+        return NOT_OPENED;
+    };
+    let Ok(setting) = Setting::new(rt.alloc(), rt, TURNS) else {
+        return NOT_OPENED;
+    };
+    let Some(session) = sessions.first_mut() else {
+        return NOT_OPENED;
+    };
+    let ended = serve(rt.alloc(), reader, writer, session, &setting);
     exit_status(ended.cause)
 }

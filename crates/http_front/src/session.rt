@@ -1,162 +1,117 @@
-//! A session that is alone with its database.
-ghost use Rattle.std.specs.Prelude.{◌≡◌, ◌↔◌, ◌+◌, ◌<◌, List, [], ◌∷◌, ◌++◌, length, IfOk, IfErr, OnErr, Err};
-ghost use Rattle.model.specs.Command.{Entry};
-ghost use Rattle.model.specs.Database.{calls_of, reply_to};
-ghost use Rattle.model.specs.History.{now};
-ghost use Rattle.http_front.specs.Known.{first_known, history_of, opened, sees_more};
-ghost use Rattle.http_front.specs.Session.{IsAlone, WritesCall};
-ghost use Rattle.http_front.specs.declared.session.WriteFault.TheVariants.{Memory};
+//! A session that shares its database with other threads.
+ghost use Rattle.std.specs.Prelude.{◌≡◌, length, Err, IfOk, IfErr, OnErr};
+ghost use Rattle.model.specs.Command.{Compact};
+ghost use Rattle.http_front.specs.Calls.{CompactionFails, EditFails, FailsFor, Looks, WritesCall, is_compaction};
+ghost use Rattle.http_front.specs.Sessions.{call_fault, known_of};
+ghost use Rattle.http_front.specs.declared.calls.CallFault.TheVariants as fault;
+ghost use Rattle.http_response.specs.declared.no_service.Unavailable.TheVariants as unavailable;
 
-use commands::{Command, Copied, Reply, Seat};
+use crate::calls::{CallFault, Calls, Viewer};
+use commands::{Command, CommandKind};
+use http_response::Unavailable;
+use sessions::{Fault, Session};
 use snapshots::Version;
-use std::alloc::{AllocError, Global};
-use std::marker::Model;
-use thiserror::Error;
+use std::sync::Wait;
+use std::time::Clock;
+use updating::{Core, Gate, Opening};
 
-/// The number of the session.
-const SESSION: u16 = 0;
+impl<C: Drop, J: Opening, G: Drop> Viewer for Session<C, J, G> {
+    ghost known = { λ s. known_of J.max_places s };
 
-/// A command that was written.
-#[derive(Drop)]
-pub struct Receipt {
-    /// The place of its entry, from 1.
-    pub place: u64,
-    pub seat: Seat,
-    pub reply: Reply,
-}
-
-/// Why a command was not written.
-#[derive(Clone, Copy, Debug, PartialEq, Eq, Error)]
-pub enum WriteFault {
-    /// Memory was refused.
-    #[error("out of memory")]
-    Memory,
-    /// The history has as many entries as it has room for.
-    #[error("the history is full")]
-    Full,
-}
-
-impl From<AllocError> for WriteFault {
-    ghost from_gives = { λ _ fault. fault ≡ Memory };
-
-    fn from(_refused: AllocError) -> WriteFault {
-        WriteFault::Memory
+    fn place(&self) -> u64 {
+        self.place()
     }
-}
 
-/// The only session of a database: its calls are the whole history. Clauses see what it knows.
-#[derive(Drop)]
-pub struct Session {
-    version: Version,
-    /// The most entries of the history.
-    room: u32,
-}
+    fn version(&self) -> &Version {
+        self.version()
+    }
 
-impl Model for Session {
-    ghost use Rattle.std.specs.Coded.{codes};
-    ghost use Rattle.model.specs.JsonCode.{coded_members};
-    ghost use Rattle.http_front.specs.Known.{Known, first_known};
-    ghost use Rattle.http_front.specs.Session.{IsAlone};
-
-    ghost Value = { Known };
-
-    ghost coded = { Prim.hlevel (codes, coded_members) };
-
-    ghost view = { λ s. first_known s.room s.version };
-
-    ghost invariant = { λ s. IsAlone (first_known s.room s.version) };
-}
-
-impl Session {
-    /// Opens an empty database, whose history has room for so many entries.
-    pub fn new(alloc: Global, room: u32) -> Session
-        ensures { result ≡ opened room }
-    {
-        Session {
-            version: Version::empty(alloc),
-            room,
+    fn refresh(&mut self) -> Result<(), CallFault> {
+        let _place = self.place();
+        match self.refresh() {
+            Ok(()) => Ok(()),
+            Err(fault) => Err(call_fault(fault)),
         }
     }
+}
 
-    /// Writes a command. A fault changes nothing.
-    pub fn write(&mut self, alloc: Global, command: &Command) -> Result<Receipt, WriteFault>
-        ensures written { IfOk result (λ receipt. WritesCall self.old
-            receipt.seat command.now receipt.place receipt.reply self.new) }
-        ensures reply { IfOk result (λ receipt.
-            receipt.reply ≡ reply_to (now (history_of self.old)) command.now) }
-        // Nothing else is written, and the entry stands at the end.
-        ensures alone { IfOk result (λ receipt. (self.new ≡ sees_more self.old (record {
-          seat = receipt.seat;
-          command = command.now;
-          reply = receipt.reply;
-        } ∷ [])) × (receipt.place ≡ length self.new.seen)) }
-        ensures full { (result ≡ Err WriteFault.Full) ↔ (length self.old.seen ≡ self.old.room) }
-        ensures fault { OnErr result (self.new ≡ self.old) }
-    {
-        let (version, receipt) = next_version(alloc, &self.version, self.room, command)?;
-        self.version = version;
-        Ok(receipt)
+impl<R: Wait + Drop, J: Opening, G: Gate + Drop, X: Wait + Clock> Calls<X>
+    for Session<Core<R, J>, J, G> {
+    fn write(&mut self, context: &X, command: Command) -> Result<u64, CallFault> {
+        if is_compaction(&command) {
+            return compact(self, context);
+        }
+        edit(self, context, command)
     }
 
-    /// What the session has seen: its history is legal, and has no other session's calls.
-    pub fn look(&self) -> &Version
-        ensures seen { result.now ≡ history_of self.now }
-        ensures alone { IsAlone self.now }
-    {
-        &self.version
-    }
-
-    /// The number of entries that the session has seen.
-    pub fn place(&self) -> u64
-        ensures { result ≡ length self.now.seen }
-    {
-        self.version.place()
+    fn wait_past(&mut self, context: &X, seq: u64, turns: u64) -> Result<bool, CallFault> {
+        let _place = self.place();
+        match self.wait_past(context, seq, turns) {
+            Ok(past) => Ok(past),
+            Err(fault) => Err(call_fault(fault)),
+        }
     }
 }
 
-/// The version with the command as the session's next call.
-fn next_version(
-    alloc: Global,
-    version: &Version,
-    room: u32,
-    command: &Command,
-) -> Result<(Version, Receipt), WriteFault>
-    requires { IsAlone (first_known room version.now) }
-    ensures alone { IfOk result (λ next. IsAlone (first_known room next.0)) }
-    ensures written { IfOk result (λ next. WritesCall (first_known room version.now)
-        next.1.seat command.now next.1.place next.1.reply (first_known room next.0)) }
-    ensures reply { IfOk result (λ next. next.1.reply ≡ reply_to (now version.now) command.now) }
-    ensures entry { IfOk result (λ next.
-        (first_known room next.0 ≡ sees_more (first_known room version.now) (record {
-          seat = next.1.seat;
-          command = command.now;
-          reply = next.1.reply;
-        } ∷ [])) × (next.1.place ≡ length next.0.entries)) }
-    ensures full { (result ≡ Err WriteFault.Full) ↔ (length version.now.entries ≡ room) }
+/// Whether it is a compaction, which a session has a call of its own for.
+fn is_compaction(command: &Command) -> bool
+    ensures { result ≡ is_compaction command.now }
 {
-    if version.place() == room as u64 {
-        return Err(WriteFault::Full);
+    matches!(command.kind(), CommandKind::Compact)
+}
+
+/// Writes a command that is no compaction.
+fn edit<R: Wait + Drop, J: Opening, G: Gate + Drop, X: Wait>(
+    session: &mut Session<Core<R, J>, J, G>,
+    rt: &X,
+    command: Command,
+) -> Result<u64, CallFault>
+    ensures written { IfOk result (λ place. WritesCall (known_of J.max_places session.old)
+        command place (known_of J.max_places session.new)) }
+    ensures none { OnErr result (Looks (known_of J.max_places session.old)
+        (known_of J.max_places session.new)) }
+    ensures fault { IfErr result (FailsFor EditFails) }
+    ensures full { result ≡ Err (fault.Unavailable unavailable.Full)
+        → length (known_of J.max_places session.new).seen ≡ J.max_places }
+{
+    let _place = session.place();
+    match session.write(rt, command) {
+        Ok(receipt) => Ok(receipt.place),
+        Err(fault) => Err(call_fault(fault)),
     }
-    let seat = next_seat(version);
-    let next = version.act(seat, command)?;
-    let place = next.place();
-    let reply = last_reply(alloc, &next)?;
-    Ok((next, Receipt { place, seat, reply }))
 }
 
-/// The seat of the session's next call.
-fn next_seat(version: &Version) -> Seat
-    ensures { result ≡ record { session = 0; call = calls_of (now version.now) 0 + 1 } }
+/// Compacts.
+fn compact<R: Wait + Drop, J: Opening, G: Gate + Drop, X: Wait>(
+    session: &mut Session<Core<R, J>, J, G>,
+    rt: &X,
+) -> Result<u64, CallFault>
+    ensures written { IfOk result (λ place. WritesCall (known_of J.max_places session.old)
+        Compact place (known_of J.max_places session.new)) }
+    ensures none { OnErr result (Looks (known_of J.max_places session.old)
+        (known_of J.max_places session.new)) }
+    ensures fault { IfErr result (FailsFor CompactionFails) }
+    ensures full { result ≡ Err (fault.Unavailable unavailable.Full)
+        → length (known_of J.max_places session.new).seen ≡ J.max_places }
 {
-    Seat::new(SESSION, version.next_call(SESSION)).unwrap()
+    let _place = session.place();
+    match session.compact(rt) {
+        Ok(receipt) => Ok(receipt.place),
+        Err(fault) => Err(call_fault(fault)),
+    }
 }
 
-/// The reply of the last entry.
-fn last_reply(alloc: Global, version: &Version) -> Result<Reply, AllocError>
-    requires { 0 < length version.now.entries }
-    ensures { (front : List Entry) (entry : Entry) → version.now.entries ≡ front ++ entry ∷ []
-        → IfOk result (λ reply. reply ≡ entry.reply) }
+/// The same of a session on threads.
+fn call_fault(fault: Fault) -> CallFault
+    ensures { result ≡ call_fault fault }
 {
-    let entry = version.entry(version.place()).unwrap();
-    entry.reply.copy(alloc)
+    match fault {
+        Fault::Memory => CallFault::Memory,
+        Fault::Busy => CallFault::Unavailable(Unavailable::Busy),
+        Fault::Lost => CallFault::Unavailable(Unavailable::Lost),
+        Fault::Full => CallFault::Unavailable(Unavailable::Full),
+        Fault::EntryRefused => CallFault::Unavailable(Unavailable::Entry),
+        Fault::Behind => CallFault::Unavailable(Unavailable::Behind),
+        Fault::Overrun => CallFault::Unavailable(Unavailable::Overrun),
+    }
 }

@@ -45,6 +45,14 @@ impl Window {
         })
     }
 
+    /// Lets all bytes go.
+    pub(crate) fn clear(&mut self)
+        ensures { self.new.bytes ≡ [] }
+    {
+        self.start = 0;
+        self.end = 0;
+    }
+
     pub fn bytes(&self) -> &[u8]
         ensures { result.now ≡ self.now.bytes }
     {

@@ -3,7 +3,8 @@ from .building import *  # noqa: F403
 from .building import A1, A2, EXPECT, JSON, X2, at, bulk, child, curl, delete, diff, get, listed, merge, nested, nested_body, opened, put, quote, request, rev
 
 TWO_PATHS = [merge(at("d", rev(2, "b"), rev(1, "a"))), merge(at("d", rev(3, "c"), rev(2, "d"), rev(1, "a")))]
-THREE_AND_A_DELETION = [put("/db/" + id, {}) for id in "abc"] + [delete("/db/a?rev=" + A1)]
+THREE = [put("/db/" + id, {}) for id in "abc"]
+THREE_AND_A_DELETION = THREE + [delete("/db/a?rev=" + A1)]
 
 
 def each(front, texts):
@@ -135,9 +136,18 @@ CURL = {
     "curl-open-revs": [curl("POST", "/db/_bulk_docs", {"docs": DESCRIBED, "new_edits": False}, JSON), curl("GET", '/db/d?open_revs=["%s","%s"]' % (rev(2, "b"), rev(2, "9"))), curl("GET", "/db/d?open_revs=all&revs=true")],
 }
 
-CASES = {**TOLD, **DOCUMENTS, **LOCALS, **WHOLE, **REFUSALS, **CURL}
-
-# what the program doesn't have
-NOT_SERVED = {
-    "feeds": each("/db/_changes?feed=", ["continuous", "continuous&limit=2&since=now"]),
+# a feed that goes on closes the connection, so each is a connection of its own
+FEEDS = {
+    "feed-of-none": [get("/db/_changes?feed=continuous"), get("/db")],
+    "feed-limited": THREE + [get("/db/_changes?feed=continuous&limit=2")],
+    "feed-whole": THREE_AND_A_DELETION + [get("/db/_changes?feed=continuous")],
+    "feed-of-all-leaves": TWO_PATHS + [get("/db/_changes?feed=continuous&style=all_docs")],
+    "feed-limit-of-0": THREE + [get("/db/_changes?feed=continuous&limit=0")],
+    "feed-limit-reached-at-the-end": THREE + [get("/db/_changes?feed=continuous&limit=3")],
+    "feed-since": THREE_AND_A_DELETION + [get("/db/_changes?feed=continuous&since=3")],
+    "feed-since-now": THREE + [get("/db/_changes?feed=continuous&since=now")],
+    "feed-since-later": THREE + [get("/db/_changes?feed=continuous&since=9")],
+    "feed-parameters": each("/db/_changes?feed=continuous&", ["since=x", "limit=x", "style=x", "include_docs=true", "filter=x"]) + [get("/db/_changes?feed=continuous&heartbeat=x&timeout=1")],
 }
+
+CASES = {**TOLD, **DOCUMENTS, **LOCALS, **WHOLE, **REFUSALS, **CURL, **FEEDS}

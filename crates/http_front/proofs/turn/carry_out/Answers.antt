@@ -7,12 +7,12 @@ use Rattle.http_front.proofs.Turns.{answers_decided}
 use Rattle.http_front.proofs.turn.carry_out.Goals as goal
 
 pub write-requires : goal.write-requires
-write-requires c = subst HasForm c.in-Command.is c.requires
+write-requires g c = subst HasForm c.in-Command.is c.requires
 
 pub returns-in-Welcome : goal.returns-in-Welcome
-returns-in-Welcome c =
+returns-in-Welcome g c =
     λ request asks closes_is.
     let place = c.place.result in
-    answers_decided c.args.session.now place c.place.ensures _ request c.args.closes closes_is (Ok asked.Welcome) _
+    answers_decided _ place c.place.ensures.place _ request c.args.closes closes_is (Ok asked.Welcome) _
     (sym (asks ∙ ap Ok c.in-Welcome.is)) refl
     (c.welcome-response.ensures.text ∙ ap (λ (k : Connection). welcome_text place k) c.connection_after.ensures, refl)

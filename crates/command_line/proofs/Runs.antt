@@ -1,0 +1,38 @@
+-- Which runs words name, and which none.
+use Rattle.std.proofs.Common.{◌≡◌, ◌∙◌, sym, ap, subst, arith, inl, inr, List, [], Option, None, Some, option_map, slice_index, codes}
+use Rattle.clap.specs.Words.{Row, Text, kind_of, subcommand_of}
+use Rattle.clap.specs.Kinds.{Kinds, IsAmong, HasKind}
+use Rattle.clap.specs.declared.error.Error.{Error}
+use Rattle.clap.specs.declared.error.kind.ErrorKind.TheVariants.{OutOfMemory}
+use Rattle.command_line.specs.Couchd.{couchd, NamesNoRun}
+use Rattle.command_line.specs.Serve.{IsServingOf}
+use Rattle.command_line.specs.declared.numbers.Serving.{Serving}
+use Rattle.command_line.specs.declared.Run.TheVariants.{Once, Serve}
+
+-- an error of no kind is want of memory
+pub of_memory : (kinds : Kinds) (e : Error) → HasKind kinds e → kinds ≡ [] → kind_of e ≡ OutOfMemory
+of_memory kinds e (inl memory) none = memory
+of_memory kinds e (inr among) none = absurd (subst (IsAmong (kind_of e)) none among)
+
+-- what an option holds is one pair
+one_name : {A B : Type 0} (o : Option (A × B)) (a b : A) (x : B) → o ≡ Some (a, x) → option_map (λ p. p.0) o ≡ Some b → a ≡ b
+one_name None a b x is named = cc
+one_name (Some p) a b x is named = cc
+
+one_value : {A B : Type 0} (o : Option (A × B)) (a b : A) (x y : B) → o ≡ Some (a, x) → o ≡ Some (b, y) → x ≡ y
+one_value None a b x y is is_too = cc
+one_value {A = A} {B = B} (Some p) a b x y is is_too =
+    let one : p ≡ (a, x) = cc in
+    let other : p ≡ (b, y) = cc in
+    sym (ap (λ (q : A × B). q.1) one) ∙ ap (λ (q : A × B). q.1) other
+
+-- words of `serve` whose numbers are none name no run
+pub no_run : (words : List Text) (given : List Row) → subcommand_of couchd words ≡ Some (codes "serve", given)
+    → ((serving : Serving) → IsServingOf given serving → ⊥) → NamesNoRun words
+no_run words given is none Once of =
+    let same = one_name (subcommand_of couchd words) (codes "serve") (codes "once") given is of in
+    let heads : 115 ≡ 111 = ap (λ (t : Text). slice_index t 0) same in
+    absurd (omega (arith, heads))
+no_run words given is none (Serve serving) (other, is_too, of) =
+    let same = one_value (subcommand_of couchd words) (codes "serve") (codes "serve") given other is is_too in
+    none serving (subst (λ (rows : List Row). IsServingOf rows serving) (sym same) of)

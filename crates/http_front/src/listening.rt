@@ -1,0 +1,102 @@
+//! Connections that come to a listener, each session with a worker of its own.
+ghost use Rattle.std.specs.Prelude.{◌≡◌, ℕ, ◌<◌, length, slice_index_or};
+ghost use Rattle.http_front.specs.Listening.{Serves, ServesAll};
+
+use crate::calls::Calls;
+use crate::connection::{serve, serve_in};
+use crate::setting::Setting;
+use serving::{Ended, Window};
+use std::net::{TcpListener, TcpStream};
+use std::thread;
+use std::thread::Threads;
+use std::time::Duration;
+use streams::Stream;
+
+/// How many seconds a read or a write may stall.
+const STALL_SECONDS: u64 = 300;
+
+/// Serves the connections that come to the listener: each session is lent to a worker of its own,
+/// which accepts so many of them, one after the other, or goes on without end where the number is 0.
+/// One that can't be accepted counts. Where no thread can be made, the caller's serves.
+pub fn listen<R: Threads + Sync, X: Sync, S: Calls<X> + Send>(
+    rt: &R,
+    listener: &TcpListener,
+    sessions: &mut [S],
+    connections: u32,
+    setting: &Setting<'_, X>,
+)
+    ensures same_number { length sessions.new ≡ length sessions.old }
+    ensures each { (i : ℕ) (d : S) → i < length sessions.old
+        → ServesAll connections (S.known (slice_index_or sessions.old i d))
+        (S.known (slice_index_or sessions.new i d)) }
+{
+    let workers = sessions.len();
+    if workers == 0 {
+        return;
+    }
+    thread::for_each_mut(
+        rt,
+        sessions,
+        workers,
+        &|_, session| work(listener, session, connections, setting),
+    );
+}
+
+/// Serves connections of one session.
+fn work<X, S: Calls<X>>(
+    listener: &TcpListener,
+    session: &mut S,
+    connections: u32,
+    setting: &Setting<'_, X>,
+)
+    ensures { ServesAll connections (S.known session.old) (S.known session.new) }
+{
+    let mut window = None;
+    for _ in 0..most_of(connections) {
+        match listener.accept() {
+            Ok((socket, _peer)) => {
+                serve_socket(&mut window, &socket, session, setting);
+            }
+            Err(_) => thread::yield_now(),
+        }
+    }
+}
+
+/// The most connections, where 0 stands for no end.
+fn most_of(connections: u32) -> u64
+    ensures { 0 < connections → result ≡ connections }
+{
+    if connections == 0 {
+        return u64::MAX;
+    }
+    connections as u64
+}
+
+/// Serves one connection, in the window if there is one by now.
+fn serve_socket<X, S: Calls<X>>(
+    window: &mut Option<Window>,
+    socket: &TcpStream,
+    session: &mut S,
+    setting: &Setting<'_, X>,
+) -> Ended
+    ensures { Serves (S.known session.old) result (S.known session.new) }
+{
+    set_up(socket);
+    if window.is_none() {
+        *window = Window::new(setting.alloc).ok();
+    }
+    let mut reader = Stream::new(socket);
+    let mut writer = Stream::new(socket);
+    match window {
+        Some(window) => serve_in(window, &mut reader, &mut writer, session, setting),
+        None => serve(setting.alloc, &mut reader, &mut writer, session, setting),
+    }
+}
+
+/// Sends without delay what is written, and gives up a peer that stalls, where that can be had.
+fn set_up(socket: &TcpStream) {
+    let stall = Some(Duration::from_secs(STALL_SECONDS));
+    let _nodelay = socket.set_nodelay(true);
+    let _read = socket.set_read_timeout(stall);
+    let _write = socket.set_write_timeout(stall);
+}
