@@ -106,7 +106,8 @@ pub fn read_words<S: AsStr>(alloc: Global, words: &[S]) -> Result<Run, WordsFaul
     // they give, or else the default.
     ensures run { IfOk result (IsRunOf (map S.text words.now)) }
 
-    // Words are refused exactly where `clap` finds a fault in them, but for memory.
+    // Words are refused exactly where `clap` finds a fault in them or they name no run, but for
+    // memory.
     ensures faultless { IfOk result (λ _. fault_of couchd (map S.text words.now) ≡ []) }
     ensures faulty { IfErr result (λ fault. fault_of couchd (map S.text words.now) ≡ []
         → (fault ≡ WordsFault.Memory) ⊎ NamesNoRun (map S.text words.now)) }
