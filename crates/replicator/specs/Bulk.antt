@@ -1,27 +1,12 @@
 -- How many documents are sent at once.
-use Rattle.std.specs.Prelude.{◌≡◌, ◌⊎◌, ℕ, ◌+◌, ◌<◌, ◌≤◌, true, List, [], ◌∷◌, ◌++◌, map, take, length, Option, Some, None, codes}
+use Rattle.std.specs.Prelude.{◌≡◌, ◌⊎◌, ℕ, ◌+◌, ◌<◌, ◌≤◌, true, List, [], ◌∷◌, ◌++◌, map, take, length, codes}
 use Rattle.std.specs.List.{join_with_byte}
 use Rattle.serde_json.specs.Written.{compact_text}
-use Rattle.document_json.specs.Written.{document_data}
+use Rattle.document_json.specs.Written.{merge_data}
 use Rattle.model.specs.Command.{Merge}
-use Rattle.model.specs.Query.{Document}
-use Rattle.replicator.specs.Readable.{path_of}
-
--- the document with its path
-abbrev pub document_of : Merge → Document
-document_of m = record {
-  id = m.id;
-  rev = m.newest;
-  deleted = m.deleted;
-  body = m.body;
-  revisions = Some (path_of m);
-  revs_info = None;
-  conflicts = [];
-  deleted_conflicts = [];
-}
 
 abbrev pub merge_text : Merge → List ℕ
-merge_text m = compact_text (document_data (document_of m))
+merge_text m = compact_text (merge_data m)
 
 -- the text of a bulk of documents with their paths
 -- CouchDB: POST /{db}/_bulk_docs, "new_edits"

@@ -1,11 +1,9 @@
 //! How many documents go at once.
 ghost use Rattle.std.specs.Prelude.{◌≡◌, ◌<◌, IfOk, length, max};
-ghost use Rattle.replicator.specs.Bulk.{IsBulkLen, document_of, merge_text};
+ghost use Rattle.replicator.specs.Bulk.{IsBulkLen, merge_text};
 
 use commands::Merge;
-use document_json::document_text;
-use queries::Document;
-use revision_id::RevId;
+use document_json::merge_text;
 use std::alloc::{AllocError, Global};
 
 /// The most bytes of a bulk of more than one document.
@@ -43,24 +41,6 @@ fn at_least_one(len: usize) -> usize
 fn text_len(alloc: Global, merge: &Merge) -> Result<usize, AllocError>
     ensures { IfOk result (λ len. len ≡ length (merge_text merge.now)) }
 {
-    let document = document_with_path(alloc, merge)?;
-    let text = document_text(alloc, &document)?;
+    let text = merge_text(alloc, merge)?;
     Ok(text.len())
-}
-
-/// A document as it is written with its path.
-fn document_with_path(alloc: Global, merge: &Merge) -> Result<Document, AllocError>
-    ensures { IfOk result (λ document. document ≡ document_of merge.now) }
-{
-    let path = merge.path();
-    Ok(Document {
-        id: merge.id().share()?,
-        rev: path[0],
-        deleted: merge.deleted(),
-        body: merge.body().clone()?,
-        revisions: Some(Vec::from_slice(alloc, path)?),
-        revs_info: None,
-        conflicts: Vec::new(alloc),
-        deleted_conflicts: Vec::new(alloc),
-    })
 }
