@@ -1,7 +1,7 @@
 -- What was asked for is answered, and what is answered and taken is covered.
-use Rattle.std.proofs.Common.{◌≡◌, ℕ, zero, suc, ◌+◌, ◌<◌, ◌≤◌, List, [], ◌∷◌, ◌++◌, length, get_or, take, drop, map, refl, ap, sym, subst, ◌∙◌, arith, rules, Bool, true, false, cond, inl, inr}
-use Rattle.std.specs.Prelude.{◌⊎◌, All, Contains, Result, Ok, Err, ◌&&◌, ◌||◌}
-use Rattle.std.specs.List.{Any, flat_map, list_all, list_any}
+use Rattle.std.proofs.Common.{◌≡◌, zero, suc, List, [], ◌∷◌, ◌++◌, get_or, map, refl, ap, sym, subst, ◌∙◌, arith, Bool, true, false, inl, inr}
+use Rattle.std.specs.Prelude.{All, Contains, Result, Ok, Err, ◌&&◌, ◌||◌}
+use Rattle.std.specs.List.{Any, list_all, list_any}
 use Rattle.std.proofs.lemmas.List.Elements.{All-nil, All-cons, All-head, All-tail, Contains-append_left, Contains-append_right}
 use Rattle.model.specs.Map.{same_key, same_key-equal}
 use Rattle.model.specs.Command.{Id, Merge, names}
@@ -9,7 +9,7 @@ use Rattle.model.specs.Query.{Difference}
 use Rattle.model.specs.Revision.{Rev, same_rev, same_rev-equal}
 use Rattle.model.proofs.ListLaws.{Contains-map}
 use Rattle.replicator.specs.Readable.{path_of, tells_of, is_of}
-use Rattle.replicator.specs.Wanted.{IsIn, absent_in, given_in, wanted_in}
+use Rattle.replicator.specs.Wanted.{absent_in, given_in, wanted_in}
 use Rattle.replicator.specs.Passing.{IsAnswered}
 use Rattle.replicator.specs.Stage.{IsLacking}
 

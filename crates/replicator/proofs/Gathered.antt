@@ -1,7 +1,7 @@
 -- Revisions that are gathered by their documents.
-use Rattle.std.proofs.Common.{◌≡◌, List, [], ◌∷◌, ◌++◌, map, refl, ap, sym, subst, ◌∙◌, Bool, true, false, cond, Option, Some, None}
-use Rattle.std.specs.Prelude.{T, ◌&&◌, option_map, unwrap_or}
-use Rattle.std.specs.BTreeMap.{BTreeMap, IsOrdered, get as get_in, is_at, keys}
+use Rattle.std.proofs.Common.{◌≡◌, List, [], ◌∷◌, ◌++◌, map, refl, ap, sym, subst, ◌∙◌, Bool, true, false, cond, Option, Some}
+use Rattle.std.specs.Prelude.{T, option_map}
+use Rattle.std.specs.BTreeMap.{BTreeMap, IsOrdered, get as get_in, is_at}
 use Rattle.std.specs.FinMap.Entries.{below_all, find, is_sorted}
 use Rattle.std.specs.List.{AllByRecursion}
 use Rattle.std.specs.List.Sorted.{IsStrictlySortedBy}
@@ -10,7 +10,7 @@ use Rattle.std.specs.Ordering.{is_eq, is_lt}
 use Rattle.std.specs.declared.alloc.Global.{Global}
 use Rattle.std.specs.declared.cmp.Ordering.TheVariants.{Less}
 use Rattle.std.specs.declared.vec.Vec.{Vec}
-use Rattle.model.specs.Map.{entries, get, get-put, put, same_key, same_key-equal, same_key_itself, same_map}
+use Rattle.model.specs.Map.{entries, get, get-put, same_key, same_key-equal, same_key_itself, same_map}
 use Rattle.model.specs.Truth.{both}
 use Rattle.model.specs.Command.{Id, names}
 use Rattle.model.specs.Query.{Row}

@@ -1,5 +1,5 @@
 -- What a stage does.
-use Rattle.std.proofs.Common.{◌≡◌, ℕ, List, refl, ap, sym, subst, ◌∙◌, Bool, true, false, cond, inl, inr}
+use Rattle.std.proofs.Common.{◌≡◌, ℕ, List, refl, ap, sym, subst, ◌∙◌, Bool, true, inl, inr}
 use Rattle.std.specs.Prelude.{Result, Ok, Err, Option, Some, None, if◌then◌else◌}
 use Rattle.model.specs.Command.{Id, Merge}
 use Rattle.model.specs.Revision.{Rev}
@@ -7,8 +7,8 @@ use Rattle.replicator.specs.declared.fault.PeerFault.{PeerFault}
 use Rattle.replicator.specs.declared.fault.PeerFault.TheVariants as fault
 use Rattle.replicator.specs.declared.progress.Progress.{Progress}
 use Rattle.replicator.specs.Call.{Call, CountsFailed, OnlyReads, OpenRevs}
-use Rattle.replicator.specs.Due.{AsksNext, Side, Source, Target}
-use Rattle.replicator.specs.Learned.{Learned, goes_on, learnt, with_opened}
+use Rattle.replicator.specs.Due.{AsksNext, Source, Target}
+use Rattle.replicator.specs.Learned.{Learned, goes_on, with_opened}
 use Rattle.replicator.specs.Readable.{is_readable_opened}
 use Rattle.replicator.specs.Run.{Called, CountsEither, Exchange, Exchanges, IsStep, stage_after, told_of}
 use Rattle.replicator.specs.Stage.{Known, Pass, Passing, Stage}

@@ -1,5 +1,5 @@
 -- What is asked of the changes.
-use Rattle.std.specs.Prelude.{List, [], ◌∷◌, ◌++◌, unwrap_or}
+use Rattle.std.specs.Prelude.{List, [], ◌++◌, unwrap_or}
 use Rattle.std.specs.List.{fold}
 use Rattle.model.specs.Map.{Map, empty, get, put}
 use Rattle.model.specs.Command.{Id, names}

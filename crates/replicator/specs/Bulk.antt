@@ -1,5 +1,5 @@
 -- How many documents are sent at once.
-use Rattle.std.specs.Prelude.{◌≡◌, ◌⊎◌, ℕ, ◌+◌, ◌<◌, ◌≤◌, true, List, [], ◌∷◌, ◌++◌, map, take, length, codes}
+use Rattle.std.specs.Prelude.{◌≡◌, ◌⊎◌, ℕ, ◌+◌, ◌<◌, ◌≤◌, List, ◌++◌, map, take, length, codes}
 use Rattle.std.specs.List.{join_with_byte}
 use Rattle.serde_json.specs.Written.{compact_text}
 use Rattle.document_json.specs.Written.{merge_data}

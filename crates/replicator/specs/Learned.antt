@@ -1,6 +1,5 @@
 -- What a worker learns from the answer to a call.
-use Rattle.std.specs.Prelude.{◌≡◌, ◌⊎◌, ℕ, ◌+◌, true, false, List, [], ◌∷◌, ◌++◌, length, Option, Some, Result, Ok, Err, if◌then◌else◌}
-use Rattle.std.specs.Result.{result_map_both}
+use Rattle.std.specs.Prelude.{ℕ, ◌+◌, true, List, [], ◌∷◌, ◌++◌, length, Some, Result, Ok, Err, if◌then◌else◌}
 use Rattle.model.specs.Map.{entries}
 use Rattle.model.specs.Command.{Id, Merge}
 use Rattle.model.specs.Query.{ChangesPage}

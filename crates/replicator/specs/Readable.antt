@@ -1,7 +1,7 @@
 -- Which answers can be read.
 use Rattle.std.specs.Prelude.{ℕ, Bool, true, ◌&&◌, List, [], ◌∷◌, length, Result, Ok, Err, nat_lt, nat_le}
 use Rattle.std.specs.List.{list_all, list_any}
-use Rattle.model.specs.Map.{Map, entries, same_key}
+use Rattle.model.specs.Map.{same_key}
 use Rattle.model.specs.Command.{Id, Merge, names}
 use Rattle.model.specs.Query.{ChangesPage, Difference, Row}
 use Rattle.model.specs.Revision.{Rev, same_rev}

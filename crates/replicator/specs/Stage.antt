@@ -1,5 +1,5 @@
 -- How far a replication has come.
-use Rattle.std.specs.Prelude.{◌≡◌, ◌⊎◌, ℕ, ◌<◌, ◌≤◌, min, Bool, false, List, [], ◌++◌, All, Contains, Option, Some, None, option_map}
+use Rattle.std.specs.Prelude.{◌≡◌, ◌⊎◌, ℕ, ◌<◌, ◌≤◌, min, Bool, false, List, [], All, Contains, Option, Some, None, option_map}
 use Rattle.std.specs.List.{Any}
 use Rattle.model.specs.Map.{Map, entries}
 use Rattle.model.specs.Command.{Id, Merge, names}

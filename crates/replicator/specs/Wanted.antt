@@ -1,5 +1,5 @@
 -- The revisions that are asked for.
-use Rattle.std.specs.Prelude.{◌≡◌, ℕ, List, [], ◌∷◌, ◌++◌, map, take, Contains, Result, Ok, Err}
+use Rattle.std.specs.Prelude.{◌≡◌, ℕ, List, [], ◌∷◌, map, take, Contains, Result, Ok, Err}
 use Rattle.std.specs.List.{Any, flat_map, take_while}
 use Rattle.model.specs.Map.{same_key}
 use Rattle.model.specs.Command.{Id, Merge, names}

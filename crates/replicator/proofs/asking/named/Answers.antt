@@ -1,12 +1,10 @@
-use Rattle.std.proofs.Common.{◌≡◌, ◌∙◌, List, map, subst, sym}
+use Rattle.std.proofs.Common.{◌∙◌}
 use Rattle.std.specs.declared.alloc.Global.{Global}
 use Rattle.std.specs.declared.vec.Vec.{Vec}
 use Rattle.std.proofs.lemmas.Map.Iter.{iter_end}
 use Rattle.model.specs.Command.{Id}
-use Rattle.model.specs.Map.{entries}
 use Rattle.model.specs.Revision.{Rev}
-use Rattle.replicator.specs.Asked.{Asked}
-use Rattle.replicator.proofs.Gathered.{ends-pairs, pair_of, rising-gathered, same-gathered}
+use Rattle.replicator.proofs.Gathered.{ends-pairs, rising-gathered, same-gathered}
 use Rattle.replicator.proofs.asking.named.Goals as goal
 
 pub unwrap-requires : goal.unwrap-requires

@@ -1,4 +1,4 @@
-use Rattle.std.proofs.Common.{ap, refl}
+use Rattle.std.proofs.Common.{ap}
 use Rattle.replicator.specs.Stage.{Paged, Ready, SourceRead, Unread}
 use Rattle.replicator.specs.Stages.{learned_of, stage_of}
 use Rattle.replicator.proofs.Turns.{of-source, of-target}

@@ -1,4 +1,4 @@
-use Rattle.std.proofs.Common.{ap, refl}
+use Rattle.std.proofs.Common.{refl}
 use Rattle.replicator.specs.Stage.{Passing}
 use Rattle.replicator.specs.Stages.{learned_of}
 use Rattle.replicator.proofs.Turns.{of-source, of-target}

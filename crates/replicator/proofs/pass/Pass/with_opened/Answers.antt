@@ -1,4 +1,4 @@
-use Rattle.std.proofs.Common.{◌≡◌, ◌++◌, ◌∙◌, List, length, ap}
+use Rattle.std.proofs.Common.{◌++◌, ◌∙◌, List, length, ap}
 use Rattle.model.specs.Command.{Id}
 use Rattle.model.specs.Revision.{Rev}
 use Rattle.replicator.specs.Stage.{Pass}

@@ -1,4 +1,4 @@
-use Rattle.std.proofs.Common.{◌≡◌, Err, Ok, ap, refl, subst, Option}
+use Rattle.std.proofs.Common.{Err, Ok, ap, refl, subst, Option}
 use Rattle.replicator.specs.declared.stage.Stage.{Stage as StageKind}
 use Rattle.replicator.specs.Run.{Exchange, Exchanges, IsStep}
 use Rattle.replicator.specs.Stage.{Known}
