@@ -1,5 +1,5 @@
 -- What stands under a name.
-use Rattle.std.specs.Prelude.{ℕ, List, Option, Some, None, option_and_then, option_map}
+use Rattle.std.specs.Prelude.{ℕ, List, option_and_then, option_map}
 use Rattle.serde_json.specs.Data.{Data}
 use Rattle.serde_json.specs.Find.{as_array, as_number, as_object, as_str, as_u64, get, get_member}
 use Rattle.model.specs.Command.{Id}

@@ -1,5 +1,5 @@
 -- The text of a bulk, in parts.
-use Rattle.std.proofs.Common.{◌≡◌, ℕ, List, ◌++◌, append_assoc, map}
+use Rattle.std.proofs.Common.{◌≡◌, List, ◌++◌, append_assoc, map}
 use Rattle.std.specs.Prelude.{codes}
 use Rattle.serde_json.specs.Data.{array}
 use Rattle.serde_json.specs.View.{items_of}
