@@ -23,6 +23,7 @@ impl NodeMaker {
     }
 
     /// The one function that makes a node: it takes over the two sides and the entry.
+    #[inline(always)]
     pub(crate) fn make<K: Drop, V: Drop>(
         &mut self,
         left: Tree<K, V>,
@@ -128,6 +129,7 @@ impl NodeMaker {
     }
 
     /// A tree over sides whose heights differ by at most two.
+    #[inline(always)]
     pub(crate) fn balance<K: Drop, V: Drop>(
         &mut self,
         left: Tree<K, V>,

@@ -142,7 +142,7 @@ fn serve_lent<R: Source, W: Sink, X, S: Calls<X>>(
         })
         (S.known front.old.session.now) (S.known front.new.session.now) result }
 {
-    let ended = serving::serve_in(window, reader, writer, front, setting);
+    let ended = serving::serve(window, reader, writer, front, setting);
     let _place = front.session.place();
     ended
 }

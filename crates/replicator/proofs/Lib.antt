@@ -4,3 +4,4 @@ pub mod Lengths
 pub mod Passes
 pub mod Turns
 pub mod Runs
+pub mod Logs

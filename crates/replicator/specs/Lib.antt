@@ -10,3 +10,4 @@ pub mod Learned
 pub mod Run
 pub mod Passing
 pub mod Stages
+pub mod Log

@@ -72,12 +72,17 @@ ends_of source target = record { since = start_of source target; source = counte
 abbrev pub IsLacking : List (Id × Difference) → Id → Rev → Type 0
 IsLacking differences id rev = Any (λ d. (d.0 ≡ id) × Contains d.1.missing rev) differences
 
--- a revision came to the target in the path of a document, or is missing at the source
-abbrev pub IsBrought : Pass → Id → Rev → Type 0
-IsBrought p id rev = IsIn p.taken id rev ⊎ Contains p.absent (id, rev)
+-- a revision came to the target in the path of one of these documents, or is missing at the source
+abbrev pub IsBrought : List Merge → List (Id × Rev) → Id → Rev → Type 0
+IsBrought taken absent id rev = IsIn taken id rev ⊎ Contains absent (id, rev)
 
--- Of each row from above the start up to the page's end, each revision was not missing at the target, or it came there,
--- or is missing at the source.
+-- Of each row above the number up to the page's end, each revision was not missing at the target, or it came there, or
+-- is missing at the source.
+abbrev pub Covers : ℕ → ChangesPage → List (Id × Difference) → List Merge → List (Id × Rev) → Type 0
+Covers since page differences taken absent =
+    All (λ row. since < row.seq → row.seq ≤ page.last_seq
+    → All (λ rev. IsLacking differences row.id rev → IsBrought taken absent row.id rev) row.changes) page.rows
+
+-- the pass covers all from its start up to the page's end
 pub record IsCovered (p : Pass) : Type 0 where
-  pub rows : All (λ row. p.ends.since < row.seq → row.seq ≤ p.page.last_seq
-      → All (λ rev. IsLacking (entries p.differences) row.id rev → IsBrought p row.id rev) row.changes) p.page.rows
+  pub rows : Covers p.ends.since p.page (entries p.differences) p.taken p.absent

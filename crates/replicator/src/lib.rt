@@ -9,6 +9,7 @@ mod checkpoint;
 mod due;
 mod ends;
 mod fault;
+mod laws;
 mod pass;
 mod peer;
 mod progress;
@@ -21,6 +22,7 @@ mod worker;
 
 pub use checkpoint::Checkpoint;
 pub use fault::PeerFault;
+pub use laws::calls_are_sound;
 pub use peer::{Opened, Peer};
 pub use progress::Progress;
 pub use worker::{MAX_BATCH, Worker};

@@ -11,7 +11,7 @@ mod window;
 
 pub use answering::{Service, write_response};
 pub use outcome::{Cause, Ended};
-pub use turns::{serve, serve_in};
+pub use turns::serve;
 pub use window::Window;
 
 #[cfg(test)]

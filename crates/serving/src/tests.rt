@@ -76,7 +76,8 @@ impl Write for Listener<'_> {
 }
 
 #[test]
-fn each_request_is_answered_before_the_next_read(rt: HostRuntime) {
+fn each_request_is_answered_before_the_next_read(rt: HostRuntime) -> Result<(), AllocError> {
+    let mut window = Window::new(rt.alloc())?;
     let answered = Cell::new(0);
     let requests = [
         b"GET /a HTTP/1.1\r\n\r\n".as_slice(),
@@ -91,9 +92,10 @@ fn each_request_is_answered_before_the_next_read(rt: HostRuntime) {
     let mut writer = Stream::new(Listener {
         answered: &answered,
     });
-    let ended = serve(rt.alloc(), &mut reader, &mut writer, &mut Echo, &());
+    let ended = serve(&mut window, &mut reader, &mut writer, &mut Echo, &());
     assert_eq!(rt; ended, Ended::after(3, Cause::Closed));
     assert_eq!(rt; answered.get(), 3);
+    Ok(())
 }
 
 const TWO: &[u8] = b"GET /a HTTP/1.1\r\n\r\nPUT /bc HTTP/1.1\r\nContent-Length: 2\r\n\r\n{}";
@@ -109,6 +111,7 @@ struct Case<'a> {
 }
 
 fn assert_case<R: Abort>(rt: &R, alloc: Global, case: &Case<'_>) -> Result<(), AllocError> {
+    let mut window = Window::new(alloc)?;
     let mut reader = Stream::new(ScriptedReader {
         rest: case.input,
         script: case.reading,
@@ -117,7 +120,7 @@ fn assert_case<R: Abort>(rt: &R, alloc: Global, case: &Case<'_>) -> Result<(), A
         taken: Vec::with_capacity(alloc, 64)?,
         script: case.writing,
     });
-    let ended = serve(alloc, &mut reader, &mut writer, &mut Echo, &());
+    let ended = serve(&mut window, &mut reader, &mut writer, &mut Echo, &());
     assert_eq!(rt; ended, case.ended);
     assert_eq!(rt; reader.failures() > 0, ended.cause == Cause::ReadFault);
     assert_eq!(rt;

@@ -5,46 +5,14 @@ use crate::answering::Service;
 use crate::outcome::{Cause, Ended};
 use crate::window::Window;
 use http_framing::front::{Front, read_front};
-use std::alloc::Global;
 use streams::{Sink, Source};
-
-/// Answers the requests of the reader in order, each as soon as it is whole.
-///
-/// Room for the largest request is taken first, and then it serves as [`serve_in`] does.
-pub fn serve<C, R: Source, W: Sink, S: Service<C>>(
-    alloc: Global,
-    reader: &mut R,
-    writer: &mut W,
-    service: &mut S,
-    context: &C,
-) -> Ended
-    ensures { Served (S.answers context.now)
-        (record {
-          left = R.left reader.old;
-          failed_reads = R.failed_reads reader.old;
-          taken = W.taken writer.old;
-          failed_writes = W.failed_writes writer.old;
-        })
-        (record {
-          left = R.left reader.new;
-          failed_reads = R.failed_reads reader.new;
-          taken = W.taken writer.new;
-          failed_writes = W.failed_writes writer.new;
-        })
-        service.old service.new result }
-{
-    let Ok(mut window) = Window::new(alloc) else {
-        return Ended::after(0, Cause::Memory);
-    };
-    serve_in(&mut window, reader, writer, service, context)
-}
 
 /// Answers the requests of the reader in order, each as soon as it is whole, in a window that served
 /// other connections before.
 ///
 /// Whatever has come is answered before more is read. Nothing is read after a response that closes
 /// the connection. It takes no memory but what the service takes.
-pub fn serve_in<C, R: Source, W: Sink, S: Service<C>>(
+pub fn serve<C, R: Source, W: Sink, S: Service<C>>(
     window: &mut Window,
     reader: &mut R,
     writer: &mut W,

@@ -4,6 +4,12 @@
 #[cfg(test)]
 mod answers;
 #[cfg(test)]
+mod asking;
+#[cfg(test)]
+mod batches;
+#[cfg(test)]
+mod peers;
+#[cfg(test)]
 mod requests;
 #[cfg(test)]
 mod responses;

@@ -1,7 +1,7 @@
 use Rattle.std.proofs.Common.{◌+◌, ◌*◌, ◌≤◌, List, length}
 use Rattle.serving.specs.Turn.{Turn}
 use Rattle.serving.proofs.Going.{Going}
-use Rattle.serving.proofs.turns.serve_in.Given as goal
+use Rattle.serving.proofs.turns.serve.Given as goal
 
 -- the connection goes on with the window as its rest, and has taken two bytes for each request
 abbrev pub invariant-turns : goal.invariant-turns

@@ -1,0 +1,4 @@
+pub mod Connection
+pub mod Asked
+pub mod Told
+pub mod Goes

@@ -1,0 +1,11 @@
+//! Another database, reached over HTTP, as one end of a replication.
+//!
+//! An [`HttpPeer`] writes each call as a request to a sink, and reads the answer from the response
+//! that comes from a source. `specs/` says of each call which request that is, and what its response
+//! tells.
+#![tactic(auto)]
+
+mod peer;
+mod told;
+
+pub use peer::HttpPeer;

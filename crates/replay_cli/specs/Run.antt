@@ -1,0 +1,56 @@
+-- A run of `replay check`.
+use Rattle.std.specs.Prelude.{◌≡◌, ◌⊎◌, ℕ, ◌<◌, List, [], ◌++◌, length, take, Option, codes, decimal}
+use Rattle.std.specs.Io.KnownBytes.{Consumes, Appends, IsAtEnd}
+use Rattle.streams.specs.Counts.{CountRose}
+use Rattle.serving.specs.Served.{Streams}
+use Rattle.replay_cli.specs.Verdicts.{IsVerdict}
+use Rattle.replay_cli.specs.declared.verdict.Verdict.{Verdict}
+use Rattle.replay_cli.specs.declared.verdict.Verdict.TheVariants as verdict
+
+-- what a verdict is called
+abbrev pub verdict_text : Verdict → List ℕ
+verdict_text (verdict.Legal places) = codes "legal " ++ decimal places
+verdict_text (verdict.WrongAt place) = codes "wrong at " ++ decimal place
+verdict_text (verdict.UnreadableLine number) = codes "unreadable line " ++ decimal number
+
+abbrev pub verdict_status : Verdict → ℕ
+verdict_status (verdict.Legal places) = 0
+verdict_status (verdict.WrongAt place) = 2
+verdict_status (verdict.UnreadableLine number) = 3
+
+-- what a run tells
+pub data Told : Type 0 where
+  Judged : Verdict → Told
+  NoMemory : Told
+  ReadFailed : Told
+
+-- in one line, or in none where a read failed
+abbrev pub told_text : Told → List ℕ
+told_text (Judged v) = verdict_text v ++ codes "\n"
+told_text NoMemory = codes "no memory\n"
+told_text ReadFailed = []
+
+-- the exit status where no write failed
+abbrev pub told_status : Told → ℕ
+told_status (Judged v) = verdict_status v
+told_status NoMemory = 4
+told_status ReadFailed = 1
+
+-- A verdict is the one on all of the input.
+abbrev pub IsFound : Streams → Streams → Told → Type 0
+IsFound before after (Judged v) =
+    ((text : List ℕ) × Consumes before.left after.left text × IsVerdict text v) × IsAtEnd after.left × (after.failed_reads ≡ before.failed_reads)
+IsFound before after NoMemory = after.failed_reads ≡ before.failed_reads
+IsFound before after ReadFailed = CountRose before.failed_reads after.failed_reads
+
+-- The text was written, and the status is the one that it wants; or else a write failed after a part of it, and the
+-- status is 1. The writer's bytes and its count of failures are those before and after.
+abbrev pub Ends : Option (List ℕ) → Option (List ℕ) → ℕ → ℕ → List ℕ → ℕ → ℕ → Type 0
+Ends old new failed_old failed_new text right status =
+    (Appends old new text × (failed_new ≡ failed_old) × (status ≡ right))
+    ⊎ (((n : ℕ) × (n < length text) × Appends old new (take n text)) × CountRose failed_old failed_new × (status ≡ 1))
+
+pub record RunsCheck (before after : Streams) (status : ℕ) : Type 0 where
+  pub told : Told
+  pub found : IsFound before after told
+  pub ends : Ends before.taken after.taken before.failed_writes after.failed_writes (told_text told) (told_status told) status

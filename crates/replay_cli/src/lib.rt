@@ -1,0 +1,22 @@
+//! The dump of a history, and its audit.
+//!
+//! A dump is a text: a first line that names its form, and a line for each entry. Whoever has it can
+//! tell whether the history in it is legal, with no word from the database that wrote it.
+#![tactic(auto)]
+
+mod audit;
+mod dumps;
+mod input;
+mod judge;
+mod lines;
+mod read;
+mod run;
+mod verdict;
+
+pub use audit::check;
+pub use dumps::dump;
+pub use run::run_check;
+pub use verdict::Verdict;
+
+#[cfg(test)]
+mod tests;

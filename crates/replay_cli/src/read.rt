@@ -1,0 +1,78 @@
+//! The entries of a dump.
+ghost use Rattle.std.specs.Prelude.{◌≡◌, ◌↔◌, ◌<◌, ◌≤◌, ◌+◌, ◌++◌, ◌∷◌, List, length, All, Some, IfOk, IfErr, IsTrue};
+ghost use Rattle.std.specs.List.{AllZip};
+ghost use Rattle.model.specs.Command as model;
+ghost use Rattle.history_json.specs.Line.{IsLine};
+ghost use Rattle.replay_cli.specs.Dump.{first_line, entry_line};
+ghost use Rattle.replay_cli.specs.Lines.{lines};
+ghost use Rattle.replay_cli.specs.Places.{last_place};
+ghost use Rattle.replay_cli.specs.Readable.{IsFirstUnreadable};
+ghost use Rattle.replay_cli.specs.Reading.{IsRead};
+ghost use Rattle.replay_cli.specs.Verdicts.{IsDump, IsUnreadable};
+
+use crate::dumps::FIRST_LINE;
+use crate::lines::cut_line;
+use commands::Entry;
+use history_json::read_line;
+use std::alloc::{AllocError, Global};
+
+/// The last place of a history.
+const LAST_PLACE: usize = 4_294_967_295;
+
+/// The entries of a dump, or else the number of the first unreadable line.
+pub(crate) fn read_dump(alloc: Global, dump: &[u8]) -> Result<Result<Vec<Entry>, u64>, AllocError>
+    ensures dump { IfOk result (λ read. IfOk read (λ entries. IsDump dump.now entries.items)) }
+    ensures only { IfOk result (λ read. IfOk read (λ entries. (others : List model.Entry)
+        → IsDump dump.now others → others ≡ entries.items)) }
+    ensures unreadable { IfOk result (λ read. IfErr read (IsUnreadable dump.now)) }
+{
+    let (first, rest) = cut_line(dump);
+    if !is_first_line(first) {
+        return Ok(Err(1));
+    }
+    read_entries(alloc, rest)
+}
+
+/// Whether a line tells the form of a dump.
+fn is_first_line(line: &[u8]) -> bool
+    ensures { IsTrue result ↔ (line.now ≡ first_line) }
+{
+    line == FIRST_LINE.as_bytes()
+}
+
+/// The entries of these lines, which follow the first one, or else the number of the first
+/// unreadable line.
+fn read_entries(alloc: Global, text: &[u8]) -> Result<Result<Vec<Entry>, u64>, AllocError>
+    ensures read { IfOk result (λ read. IfOk read (λ entries. AllZip IsRead (lines text.now) entries.items)) }
+    ensures places { IfOk result (λ read. IfOk read (λ entries. length entries.items ≤ last_place)) }
+    ensures unreadable { IfOk result (λ read. IfErr read (IsFirstUnreadable 2 (lines text.now))) }
+{
+    let mut entries = Vec::new(alloc);
+    let mut rest = text;
+    while !rest.is_empty() {
+        let (line, more) = cut_line(rest);
+        let Some(entry) = read_at(alloc, line, entries.len())? else {
+            return Ok(Err(entries.len() as u64 + 2));
+        };
+        entries.push(entry)?;
+        rest = more;
+    }
+    Ok(Ok(entries))
+}
+
+/// The entry of a line that has so many entries before it.
+fn read_at(alloc: Global, line: &[u8], before: usize) -> Result<Option<Entry>, AllocError>
+    ensures { IfOk result (λ found. (entry : model.Entry) → (found ≡ Some entry)
+        ↔ ((before < last_place) × IsLine entry × (line.now ≡ entry_line entry))) }
+{
+    if before >= LAST_PLACE {
+        return Ok(None);
+    }
+    let Some((last, text)) = line.split_last() else {
+        return Ok(None);
+    };
+    if *last != b'\n' {
+        return Ok(None);
+    }
+    read_line(alloc, text)
+}

@@ -1,0 +1,45 @@
+-- Queries that are answered over what a session sees.
+use Rattle.std.proofs.Common.{◌≡◌, ℕ, List, Option, Some, None, ap, sym, ◌∙◌, option_map}
+use Rattle.model.specs.Map.{Map, get}
+use Rattle.model.specs.Answers.{answer_to}
+use Rattle.model.specs.Body.{Body}
+use Rattle.model.specs.Changes.{changes_page, every_id}
+use Rattle.model.specs.Command.{Id, names}
+use Rattle.model.specs.Documents.{differences, opened}
+use Rattle.model.specs.History.{Chronicle, now}
+use Rattle.model.specs.Query.{OpenRevs, RevsDiff, Changes, GetLocal, Opened, Differences, Changed, FoundLocal, ChangesPage, Difference}
+use Rattle.model.specs.Revision.{Rev}
+use Rattle.model.specs.declared.style.Style.TheVariants.{AllDocs}
+use Rattle.changes_feed.specs.Shown.{local_shown}
+use Rattle.http_front.specs.Calls.{Looks}
+use Rattle.http_front.specs.Known.{Known, history_of}
+use Rattle.session_peer.specs.Goes.{Reads}
+use Rattle.session_peer.specs.Shown.{with_paths}
+
+-- of the version that is seen
+module _ (old new : Known) (looks : Looks old new) (seen : Chronicle) (is : seen ≡ history_of new) where
+  pub reads-changes : (since limit : ℕ) (page : ChangesPage) → page ≡ changes_page every_id (now seen) since (Some limit) AllDocs
+      → Reads old (Changes since (Some limit) AllDocs) (Changed page) new
+  unfolding answer_to
+  reads-changes since limit page e = record { looks = looks; answers = ap Changed (e ∙ ap (λ (h : Chronicle). changes_page every_id (now h) since (Some limit) AllDocs) is) }
+
+  pub reads-differences : (asked : Map names (List Rev)) (lacking : Map names Difference) → lacking ≡ differences (now seen) asked
+      → Reads old (RevsDiff asked) (Differences lacking) new
+  unfolding answer_to
+  reads-differences asked lacking e = record { looks = looks; answers = ap Differences (e ∙ ap (λ (h : Chronicle). differences (now h) asked) is) }
+
+  pub reads-opened : (id : Id) (revs : List Rev) → Reads old (OpenRevs id (Some revs) with_paths) (Opened (opened (now seen) id (Some revs) with_paths)) new
+  unfolding answer_to
+  reads-opened id revs = record { looks = looks; answers = ap Opened (ap (λ (h : Chronicle). opened (now h) id (Some revs) with_paths) is) }
+
+  -- of a local document as it is told
+  module _ {A : Type 0} (told : A → ℕ × Body) (id : Id) (found : Option A) (e : option_map told found ≡ option_map local_shown (get (now seen).locals id)) where
+    reads-local : (local : Option (ℕ × Body)) → option_map told found ≡ local → Reads old (GetLocal id) (FoundLocal local) new
+    unfolding answer_to
+    reads-local local same = record { looks = looks; answers = ap FoundLocal (sym same ∙ e ∙ ap (λ (h : Chronicle). option_map local_shown (get (now h).locals id)) is) }
+
+    pub reads-none : found ≡ None → Reads old (GetLocal id) (FoundLocal None) new
+    reads-none none = reads-local None (ap (option_map told) none)
+
+    pub reads-some : (a : A) → found ≡ Some a → Reads old (GetLocal id) (FoundLocal (Some (told a))) new
+    reads-some a some = reads-local (Some (told a)) (ap (option_map told) some)

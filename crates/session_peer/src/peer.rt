@@ -1,0 +1,190 @@
+//! A session as one end of a replication.
+ghost use Rattle.std.specs.Prelude.{◌≡◌, ⊤, Err, IfOk, IfErr};
+ghost use Rattle.model.specs.Command as model;
+ghost use Rattle.http_front.specs.Calls.{Looks, WritesCall};
+ghost use Rattle.http_front.specs.Known.{HasEntryAt};
+ghost use Rattle.replicator.specs.Call.{CountsFailed};
+ghost use Rattle.session_peer.specs.Goes.{Fails, Goes, IsFailure};
+
+use crate::checkpoints::checkpoint_of;
+use crate::shown::revisions;
+use crate::written::{are_taken, bulk_of, counter_in, put_of};
+use changes_feed::{changes, local_get, revs_diff};
+use commands::{Command, Merge, NamedRevisions, Reply};
+use document_id::DocId;
+use http_front::{CallFault, Calls, Viewer};
+use model::Style;
+use queries::{ChangesPage, Differences};
+use replicator::{Checkpoint, Opened, Peer, PeerFault};
+use revision_id::RevId;
+use std::alloc::Global;
+use std::marker::Model;
+
+/// A session as one end of a replication. Its calls that wait do so by the context `X`. Contracts see
+/// what the session knows, and how many calls have failed.
+#[derive(Drop)]
+pub struct SessionPeer<'c, X, S: Viewer> {
+    session: S,
+    context: &'c X,
+    failures: u64,
+}
+
+impl<'c, X, S: Viewer> Model for SessionPeer<'c, X, S> {
+    ghost use Rattle.std.specs.Coded.{codes};
+    ghost use Rattle.model.specs.JsonCode.{coded_members};
+    ghost use Rattle.session_peer.specs.End.{End};
+
+    ghost Value = { End };
+
+    ghost coded = { Prim.hlevel (codes, coded_members) };
+
+    ghost view = { λ p. record { known = S.known p.session; failures = p.failures } };
+}
+
+impl<'c, X, S: Viewer> SessionPeer<'c, X, S> {
+    /// An end of which no call has failed.
+    pub fn new(session: S, context: &'c X) -> SessionPeer<'c, X, S>
+        ensures end { result ≡ record { known = S.known session; failures = 0 } }
+    {
+        SessionPeer {
+            session,
+            context,
+            failures: 0,
+        }
+    }
+
+    /// The session.
+    pub fn session(&self) -> &S
+        ensures known { S.known result.now ≡ self.now.known }
+    {
+        &self.session
+    }
+
+    /// The session, which is no longer an end.
+    pub fn into_session(self) -> S
+        ensures known { S.known result ≡ self.entry.known }
+    {
+        self.session
+    }
+
+    /// Sees what is there now.
+    fn look(&mut self) -> Result<(), PeerFault>
+        ensures looks { Looks self.old.known self.new.known }
+        ensures failures { CountsFailed self.old.failures self.new.failures result }
+        ensures fault { IfErr result IsFailure }
+    {
+        match self.session.refresh() {
+            Ok(()) => Ok(()),
+            Err(fault) => Err(self.fail(fault)),
+        }
+    }
+
+    /// Counts a failure, unless memory was refused.
+    fn fail(&mut self, fault: CallFault) -> PeerFault
+        ensures known { self.new.known ≡ self.old.known }
+        ensures failures { CountsFailed {A = ⊤} self.old.failures self.new.failures (Err result) }
+        ensures fault { IsFailure result }
+    {
+        match fault {
+            CallFault::Memory => PeerFault::Memory,
+            CallFault::Unavailable(_) => {
+                self.failures = self.failures.saturating_add(1);
+                PeerFault::Failed
+            }
+        }
+    }
+
+    /// The reply that the history has at a place.
+    fn reply_at(&self, place: u64) -> &Reply
+        requires { (entry : model.Entry) × HasEntryAt self.now.known place entry }
+        ensures { (entry : model.Entry) → HasEntryAt self.now.known place entry → result.now ≡ entry.reply }
+    {
+        let _place = self.session.place();
+        let Some(entry) = self.session.version().entry(place) else {
+            unreachable!()
+        };
+        &entry.reply
+    }
+}
+
+impl<'c, X, S: Calls<X>> SessionPeer<'c, X, S> {
+    /// Writes a command, and answers the place of its entry.
+    fn write(&mut self, command: Command) -> Result<u64, PeerFault>
+        ensures written { IfOk result (λ place. WritesCall self.old.known command place self.new.known) }
+        ensures failures { CountsFailed self.old.failures self.new.failures result }
+        ensures none { IfErr result (λ f. Fails self.old.known f self.new.known) }
+    {
+        match self.session.write(self.context, command) {
+            Ok(place) => Ok(place),
+            Err(fault) => Err(self.fail(fault)),
+        }
+    }
+}
+
+impl<'c, X, S: Calls<X>> Peer for SessionPeer<'c, X, S> {
+    ghost goes = { λ old call new. Goes old.known call new.known };
+
+    ghost failed_calls = { λ p. p.failures };
+
+    fn changes(&mut self, alloc: Global, since: u64, limit: u64) -> Result<ChangesPage, PeerFault> {
+        self.look()?;
+        let version = self.session.version();
+        Ok(changes(alloc, version, since, Some(limit), Style::AllDocs)?)
+    }
+
+    fn diff(&mut self, alloc: Global, asked: &NamedRevisions) -> Result<Differences, PeerFault> {
+        self.look()?;
+        Ok(revs_diff(alloc, self.session.version(), asked)?)
+    }
+
+    fn open_revs(
+        &mut self,
+        alloc: Global,
+        id: &DocId,
+        revs: &[RevId],
+    ) -> Result<Opened, PeerFault> {
+        self.look()?;
+        Ok(revisions(alloc, self.session.version(), id, revs)?)
+    }
+
+    fn bulk(&mut self, alloc: Global, documents: &[Merge]) -> Result<(), PeerFault> {
+        let _place = self.session.place();
+        let command = bulk_of(alloc, documents)?;
+        let place = self.write(command)?;
+        if !are_taken(self.reply_at(place)) {
+            return Err(PeerFault::Refused);
+        }
+        Ok(())
+    }
+
+    fn local_get(&mut self, alloc: Global, id: &DocId) -> Result<Option<Checkpoint>, PeerFault> {
+        self.look()?;
+        let Some((counter, body)) = local_get(self.session.version(), id)? else {
+            return Ok(None);
+        };
+        let Some(checkpoint) = checkpoint_of(alloc, counter, &body)? else {
+            return Err(PeerFault::Unreadable);
+        };
+        Ok(Some(checkpoint))
+    }
+
+    fn local_put(
+        &mut self,
+        alloc: Global,
+        id: &DocId,
+        named: Option<u32>,
+        last_seq: u64,
+    ) -> Result<u32, PeerFault> {
+        let _place = self.session.place();
+        let command = put_of(alloc, id, named, last_seq)?;
+        let place = self.write(command)?;
+        match counter_in(self.reply_at(place)) {
+            Some(counter) => Ok(counter),
+            None => Err(PeerFault::Refused),
+        }
+    }
+
+    fn failures(&self) -> u64 {
+        self.failures
+    }
+}
