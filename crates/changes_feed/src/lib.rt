@@ -11,8 +11,6 @@ mod once;
 mod opened;
 mod page;
 mod reads;
-#[cfg(test)]
-mod tests;
 
 pub use answered::answer;
 pub use difference::revs_diff;

@@ -12,8 +12,6 @@ mod named;
 mod reply;
 mod same;
 mod seat;
-#[cfg(test)]
-mod tests;
 
 pub use command::{Command, CommandKind, MAX_EDITS};
 pub use config::{Config, Limits, MAX_PLACES};

@@ -5,8 +5,6 @@ mod compaction;
 mod fault;
 mod slices;
 mod taking;
-#[cfg(test)]
-mod tests;
 
 pub use compaction::Compaction;
 pub use fault::CopyFault;

@@ -7,8 +7,6 @@ mod map;
 mod nodes;
 mod shared;
 mod sole;
-#[cfg(test)]
-mod tests;
 mod tree;
 mod walk;
 

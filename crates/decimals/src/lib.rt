@@ -37,6 +37,3 @@ pub fn parse_number(text: &str) -> Option<u64>
     }
     text.parse().ok()
 }
-
-#[cfg(test)]
-mod tests;

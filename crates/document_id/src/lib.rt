@@ -3,8 +3,6 @@
 
 mod fault;
 mod id;
-#[cfg(test)]
-mod tests;
 
 pub use fault::IdFault;
 pub use id::DocId;

@@ -22,6 +22,3 @@ mod reply;
 mod seat;
 
 pub use line::{put_line, read_line};
-
-#[cfg(test)]
-mod tests;

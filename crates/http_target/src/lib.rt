@@ -7,8 +7,6 @@ ghost use Rattle.http_target.specs.Target.{path_of, query_of, last_segment};
 
 pub mod query;
 pub mod segment;
-#[cfg(test)]
-mod tests;
 pub mod value;
 
 /// The path and the query string of a target, which the first `?` parts; without one the query

@@ -7,8 +7,6 @@ mod fault;
 mod measure;
 mod members;
 mod object;
-#[cfg(test)]
-mod tests;
 mod value;
 
 pub use body::Body;

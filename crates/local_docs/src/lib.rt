@@ -5,8 +5,6 @@
 mod fault;
 mod local;
 mod locals;
-#[cfg(test)]
-mod tests;
 
 pub use fault::LocalFault;
 pub use local::LocalDoc;

@@ -11,8 +11,6 @@ mod event;
 mod looking;
 mod machine;
 mod record;
-#[cfg(test)]
-mod tests;
 mod views;
 
 pub use completed::Completed;

@@ -4,8 +4,6 @@
 mod cuts;
 mod log;
 mod purged;
-#[cfg(test)]
-mod tests;
 
 pub use cuts::cut_document;
 pub use log::PurgeLog;

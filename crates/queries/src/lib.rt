@@ -8,8 +8,6 @@ mod document;
 mod options;
 mod page;
 mod query;
-#[cfg(test)]
-mod tests;
 
 pub use answer::{Answer, AnswerKind};
 pub use difference::{Difference, Differences};

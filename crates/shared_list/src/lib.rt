@@ -5,8 +5,6 @@
 mod list;
 mod nodes;
 mod spine;
-#[cfg(test)]
-mod tests;
 mod tree;
 mod values;
 

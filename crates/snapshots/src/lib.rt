@@ -5,8 +5,6 @@ mod base;
 mod database;
 mod record;
 mod records;
-#[cfg(test)]
-mod tests;
 mod version;
 mod written;
 

@@ -11,8 +11,6 @@ mod restrict;
 mod shallow;
 mod stems;
 mod strips;
-#[cfg(test)]
-mod tests;
 mod unchanged;
 mod written;
 

@@ -194,14 +194,19 @@ fn a_purge(rt: HostRuntime) -> Result<(), Fail> {
     Ok(())
 }
 
-#[test]
-fn a_compaction(rt: HostRuntime) -> Result<(), Fail> {
-    for (target, body) in [("/db/_compact", ""), ("/db/_compact?x=1", "{")] {
-        let Ok(Asked::Command(form, command)) = ask(&rt, "POST", target, body)? else {
-            return Err("no command".into());
-        };
-        assert_eq!(rt; form, Form::Whole);
-        assert!(rt; matches!(command.kind(), CommandKind::Compact));
+/// Whether a request asks for a compaction.
+fn compacts(rt: &HostRuntime, target: &str, body: &str) -> Result<bool, Fail> {
+    match ask(rt, "POST", target, body)? {
+        Ok(Asked::Command(Form::Whole, command)) => {
+            Ok(matches!(command.kind(), CommandKind::Compact))
+        }
+        _ => Ok(false),
     }
+}
+
+#[test]
+fn a_compaction_ignores_its_body(rt: HostRuntime) -> Result<(), Fail> {
+    assert!(&rt; compacts(&rt, "/db/_compact", "")?);
+    assert!(&rt; compacts(&rt, "/db/_compact?x=1", "{")?);
     Ok(())
 }

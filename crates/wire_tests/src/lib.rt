@@ -1,4 +1,4 @@
-//! Tests of requests and of the texts of responses.
+//! Tests of values, of requests and of the texts of responses.
 #![tactic(auto)]
 
 #[cfg(test)]
@@ -8,10 +8,22 @@ mod asking;
 #[cfg(test)]
 mod batches;
 #[cfg(test)]
+mod ids;
+#[cfg(test)]
+mod limits;
+#[cfg(test)]
+mod lines;
+#[cfg(test)]
 mod peers;
 #[cfg(test)]
 mod requests;
 #[cfg(test)]
 mod responses;
 #[cfg(test)]
+mod revisions;
+#[cfg(test)]
+mod targets;
+#[cfg(test)]
 mod texts;
+#[cfg(test)]
+mod values;
