@@ -70,9 +70,9 @@ def edited(asked, edit, status):
 
 
 def bulk(asked):
-    changes = bodies.bulk_changes(asked.body)
+    changes, merged = bodies.bulk_changes(asked.body)
     listed = []
-    for change, reply in zip(changes, asked.session.bulk(changes)):
+    for change, reply in zip(changes, asked.session.bulk(changes, merged)):
         if isinstance(reply, Refused):
             listed.append(dict(refused(reply).value, id=change.id))
         elif isinstance(change, Edit):

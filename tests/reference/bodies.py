@@ -137,7 +137,7 @@ def local_write(data, rules):
 
 
 def bulk_changes(data):
-    """The edits, or the merges where `new_edits` is false."""
+    """The edits, or the merges where `new_edits` is false, and whether they are merges."""
     value = read_json(data)
     documents = value.get("docs") if isinstance(value, dict) else None
     listed = documents if isinstance(documents, list) else []
@@ -148,8 +148,8 @@ def bulk_changes(data):
     need(isinstance(value.get("new_edits", True), bool), "shape")
     found = read_documents(documents, bulk_rules(merged))
     if merged:
-        return [Merge(d.id, d.path, d.deleted, d.body) for d in found]
-    return [Edit(d.id, d.rev, d.deleted, d.body) for d in found]
+        return [Merge(d.id, d.path, d.deleted, d.body) for d in found], True
+    return [Edit(d.id, d.rev, d.deleted, d.body) for d in found], False
 
 
 def asked_revisions(data):

@@ -169,7 +169,7 @@ class Session:
         self.database = Database()
         self.place = 0
 
-    def bulk(self, changes):
+    def bulk(self, changes, merged=False):
         self.place += 1
         return self.database.bulk(changes)
 

@@ -8,8 +8,8 @@ from .responses import Feed, broken, feed, response
 class Connection:
     """Answers one request after another, until the input ends or the connection closes."""
 
-    def __init__(self):
-        self.session = Session()
+    def __init__(self, session=None):
+        self.session = session or Session()
 
     def responses(self, data):
         """Each response to the requests that the bytes are."""

@@ -1,5 +1,6 @@
 #!/usr/bin/env python3
-"""Writes the transcripts and the examples: of each case the bytes of its requests, and what the reference answers.
+"""Writes the transcripts and the examples: of each case the bytes of its requests, and what the reference answers; of an
+example also the dump of its history.
 
     tests/transcripts/make.py            writes them
     tests/transcripts/make.py --check    says which files are not as they would be written; status 1 where one is not
@@ -12,7 +13,7 @@ TESTS = os.path.dirname(HERE)
 sys.path[:0] = [TESTS, HERE]
 
 from cases import conflicts, edges, examples, first_path, purges, queries  # noqa: E402
-from reference import once  # noqa: E402
+from reference import history, once  # noqa: E402
 
 # the cases of each folder
 FOLDERS = {
@@ -41,6 +42,7 @@ def files():
     for name, requests in examples.CASES.items():
         path = os.path.join(os.path.dirname(TESTS), "examples", name)
         made[path + ".http"], made[path + ".expected"] = answers(requests)
+        made[path + ".dump"] = history.dump_of(b"".join(requests))
     return made
 
 

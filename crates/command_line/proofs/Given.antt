@@ -36,3 +36,7 @@ no_number given text default number (Err e') is parses e err of less =
 pub one_number : (given : Option Text) (default a b : ℕ) → IsNumberOf given default a → IsNumberOf given default b → a ≡ b
 one_number None default a b is is_too = is ∙ sym is_too
 one_number (Some text) default a b is is_too = is.1 ∙ sym is_too.1
+
+-- two texts that were given under one name are one
+pub one_text : (given : Option Text) (a b : Text) → given ≡ Some a → given ≡ Some b → a ≡ b
+one_text given a b is is_too = cc

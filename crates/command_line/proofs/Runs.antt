@@ -6,8 +6,10 @@ use Rattle.clap.specs.declared.error.Error.{Error}
 use Rattle.clap.specs.declared.error.kind.ErrorKind.TheVariants.{OutOfMemory}
 use Rattle.command_line.specs.Couchd.{couchd, NamesNoRun}
 use Rattle.command_line.specs.Serve.{IsServingOf}
+use Rattle.command_line.specs.Replicate.{IsReplicatingOf}
 use Rattle.command_line.specs.declared.numbers.Serving.{Serving}
-use Rattle.command_line.specs.declared.Run.TheVariants.{Once, Serve}
+use Rattle.command_line.specs.declared.replicate.Replicating.{Replicating}
+use Rattle.command_line.specs.declared.Run.TheVariants.{Once, Dump, Serve, Replicate}
 
 -- an error of no kind is want of memory
 pub of_memory : (kinds : Kinds) (e : Error) → HasKind kinds e → kinds ≡ [] → kind_of e ≡ OutOfMemory
@@ -33,6 +35,33 @@ no_run words given is none Once of =
     let same = one_name (subcommand_of couchd words) (codes "serve") (codes "once") given is of in
     let heads : 115 ≡ 111 = ap (λ (t : Text). slice_index t 0) same in
     absurd (omega (arith, heads))
+no_run words given is none Dump of =
+    let same = one_name (subcommand_of couchd words) (codes "serve") (codes "dump") given is of in
+    let heads : 115 ≡ 100 = ap (λ (t : Text). slice_index t 0) same in
+    absurd (omega (arith, heads))
 no_run words given is none (Serve serving) (other, is_too, of) =
     let same = one_value (subcommand_of couchd words) (codes "serve") (codes "serve") given other is is_too in
     none serving (subst (λ (rows : List Row). IsServingOf rows serving) (sym same) of)
+no_run words given is none (Replicate replicating) (other, is_too, of) =
+    let same = one_name (subcommand_of couchd words) (codes "serve") (codes "replicate") given is (ap (option_map (λ s. s.0)) is_too) in
+    let heads : 115 ≡ 114 = ap (λ (t : Text). slice_index t 0) same in
+    absurd (omega (arith, heads))
+
+-- words of `replicate` that give no addresses or no id name no run
+pub no_replication : (words : List Text) (given : List Row) → subcommand_of couchd words ≡ Some (codes "replicate", given)
+    → ((replicating : Replicating) → IsReplicatingOf given replicating → ⊥) → NamesNoRun words
+no_replication words given is none Once of =
+    let same = one_name (subcommand_of couchd words) (codes "replicate") (codes "once") given is of in
+    let heads : 114 ≡ 111 = ap (λ (t : Text). slice_index t 0) same in
+    absurd (omega (arith, heads))
+no_replication words given is none Dump of =
+    let same = one_name (subcommand_of couchd words) (codes "replicate") (codes "dump") given is of in
+    let heads : 114 ≡ 100 = ap (λ (t : Text). slice_index t 0) same in
+    absurd (omega (arith, heads))
+no_replication words given is none (Serve serving) (other, is_too, of) =
+    let same = one_name (subcommand_of couchd words) (codes "replicate") (codes "serve") given is (ap (option_map (λ s. s.0)) is_too) in
+    let heads : 114 ≡ 115 = ap (λ (t : Text). slice_index t 0) same in
+    absurd (omega (arith, heads))
+no_replication words given is none (Replicate replicating) (other, is_too, of) =
+    let same = one_value (subcommand_of couchd words) (codes "replicate") (codes "replicate") given other is is_too in
+    none replicating (subst (λ (rows : List Row). IsReplicatingOf rows replicating) (sym same) of)

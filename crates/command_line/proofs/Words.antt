@@ -1,4 +1,4 @@
--- What a parse of `couchd` that succeeds has met.
+-- What a parse that succeeds has met.
 use Rattle.std.proofs.Common.{◌≡◌, ◌∙◌, refl, ap, subst, true, false, Bool, List, ℕ, Option, Some, None, is_some, option_map, [], ◌∷◌, ◌⊎◌, find, inl, inr, sym, if◌then◌else◌}
 use Rattle.clap.specs.Words.{App, HasMatchesOf, IsParsedFrom, Row, Text, app_of, built, is_simple, is_simple_and_free, subcommand_name_of, subcommand_of, subcommand_rows, subcommand_rows_of}
 use Rattle.clap.specs.Simple.{entered, rows_at, label_of, Shape, names_of, argument_words}
@@ -12,14 +12,23 @@ use Rattle.std.specs.Prelude.{Box}
 use Rattle.std.specs.Box.{box_value}
 use Rattle.clap.proofs.OnLiterals.{clap_on_literals}
 use Rattle.command_line.specs.Couchd.{couchd}
+use Rattle.command_line.specs.Replay.{replay}
 
-couchd_is_simple : is_simple couchd ≡ true
+pub couchd_is_simple : is_simple couchd ≡ true
 unfolding clap_on_literals
 couchd_is_simple = refl
 
 pub couchd_is_simple_and_free : is_simple_and_free couchd ≡ true
 unfolding clap_on_literals
 couchd_is_simple_and_free = refl
+
+pub replay_is_simple : is_simple replay ≡ true
+unfolding clap_on_literals
+replay_is_simple = refl
+
+pub replay_is_simple_and_free : is_simple_and_free replay ≡ true
+unfolding clap_on_literals
+replay_is_simple_and_free = refl
 
 -- it is the name of one of these
 abbrev pub IsNameOf : List Shape → Option Text → Type 0
@@ -54,25 +63,26 @@ rows_of_some : {Z : Type 0} (sub : Option (Box SubCommand Z)) → is_some sub �
 rows_of_some None h = h
 rows_of_some (Some sub) h = h
 
-module _ (command : Command) (matches : ArgMatches) (words : List Text) (app : app_of command ≡ couchd) (matched : HasMatchesOf (app_of command) words matches) where
+module _ (line : App) (simple : is_simple line ≡ true) (command : Command) (matches : ArgMatches) (words : List Text) (app : app_of command ≡ line)
+    (matched : HasMatchesOf (app_of command) words matches) where
   -- the rows of the subcommand are those that the words name
-  pub rows_named : subcommand_rows_of matches ≡ subcommand_of couchd words
-  rows_named = (matched (ap is_simple app ∙ couchd_is_simple)).1 ∙ ap (λ (a : App). subcommand_of a words) app
+  pub rows_named : subcommand_rows_of matches ≡ subcommand_of line words
+  rows_named = (matched (ap is_simple app ∙ simple)).1 ∙ ap (λ (a : App). subcommand_of a words) app
 
-  -- a parse of `couchd` that succeeds has met one of its subcommands
+  -- a parse that succeeds has met one of its subcommands
   pub meets_one : (fields_of command).has_globals ≡ false → (fields_of command).subcommand_required ≡ true → IsParsedFrom command matches
-      → IsNameOf (built couchd).subs (subcommand_name_of matches)
+      → IsNameOf (built line).subs (subcommand_name_of matches)
   meets_one local required parsed =
       let used = (parsed.parsed (parsed.from.globals ∙ local)).checked.subcommand (parsed.from.needs_subcommand ∙ required) in
       let named = name_of_rows (out-ArgMatches matches).subcommand ∙ ap (option_map (λ (s : Text × List Row). s.0)) rows_named in
       let some = subst (λ (r : Option (Text × List Row)). is_some r ≡ true) rows_named (rows_of_some (out-ArgMatches matches).subcommand used) in
-      let stop = stop_after (built couchd).top.rules (names_of (built couchd)) (argument_words couchd words) in
-      subst (IsNameOf (built couchd).subs) (sym named) (entered_one (built couchd) stop some)
+      let stop = stop_after (built line).top.rules (names_of (built line)) (argument_words line words) in
+      subst (IsNameOf (built line).subs) (sym named) (entered_one (built line) stop some)
 
   -- the subcommand has this name, and rows
-  pub names : (name : Text) → subcommand_name_of matches ≡ Some name → (given : List Row) × (subcommand_of couchd words ≡ Some (name, given))
+  pub names : (name : Text) → subcommand_name_of matches ≡ Some name → (given : List Row) × (subcommand_of line words ≡ Some (name, given))
   names name is =
-      with_name (subcommand_of couchd words) (ap (option_map (λ (s : Text × List Row). s.0)) (sym rows_named) ∙ sym (name_of_rows (out-ArgMatches matches).subcommand) ∙ is)
+      with_name (subcommand_of line words) (ap (option_map (λ (s : Text × List Row). s.0)) (sym rows_named) ∙ sym (name_of_rows (out-ArgMatches matches).subcommand) ∙ is)
     where
       with_name : (rows : Option (Text × List Row)) → option_map (λ s. s.0) rows ≡ Some name → (given : List Row) × (rows ≡ Some (name, given))
       with_name None e = cc

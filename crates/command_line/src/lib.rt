@@ -1,70 +1,43 @@
-//! The command line of `couchd`.
+//! The command lines of the programs: that of `couchd`, and in [`replay`] that of `replay`.
 #![tactic(auto)]
 
-ghost use Rattle.std.specs.Prelude.{◌≡◌, ◌⊎◌, [], map, true, false, IfOk, IfErr};
-ghost use Rattle.clap.specs.Words.{app_of, fault_of, kind_of};
+ghost use Rattle.std.specs.Prelude.{◌≡◌, ◌⊎◌, [], map, true, false, IfOk, IfErr, codes};
+ghost use Rattle.clap.specs.Words.{app_of, fault_of, new_app};
 ghost use Rattle.clap.specs.declared.builder.command.Command.TheViews.{out-Command as fields_of};
-ghost use Rattle.clap.specs.declared.error.kind.ErrorKind.TheVariants.{OutOfMemory};
-ghost use Rattle.command_line.specs.declared.WordsFault.TheVariants.{Memory};
 ghost use Rattle.command_line.specs.Couchd.{couchd, IsRunOf, NamesNoRun};
 
+mod arguments;
+mod faults;
+mod lines;
 mod numbers;
+pub mod replay;
+mod replicate;
 #[cfg(test)]
 mod tests;
 
+pub use arguments::given_words;
 use clap::Command;
-use clap::error::ErrorKind;
+pub use faults::WordsFault;
+use faults::{NO_REPLICATION, NOT_TEXT, OUT_OF_RANGE, fault, refuse};
+use lines::{program, with_subcommand};
 pub use numbers::Serving;
 use numbers::{serve, serving_in};
+pub use replicate::Replicating;
+use replicate::{replicate, replicating_in};
 use std::alloc::{AllocError, Global};
 use std::convert::AsStr;
-use thiserror::Error;
 
 /// What the words of a command line ask for.
-#[derive(Clone, Copy, Debug, PartialEq, Eq)]
+#[derive(Debug, Drop, PartialEq, Eq)]
 pub enum Run {
     /// Serves standard input to standard output, with one session.
     Once,
+    /// Serves standard input with one session, and writes the dump of its history at the end.
+    Dump,
     /// Serves connections on a port of 127.0.0.1.
     Serve(Serving),
-}
-
-/// Why words name no run.
-#[derive(Debug, Drop, Error)]
-pub enum WordsFault {
-    /// Memory was refused.
-    #[error("out of memory")]
-    Memory,
-    /// The words can't be parsed, or ask for help: `clap`'s text for the user.
-    #[error("{0}")]
-    Words(String),
-}
-
-impl From<AllocError> for WordsFault {
-    ghost from_gives = { λ _ fault. fault ≡ Memory };
-
-    fn from(_error: AllocError) -> WordsFault {
-        WordsFault::Memory
-    }
-}
-
-/// What `clap` says of words that are not UTF-8.
-const NOT_TEXT: &str = "invalid UTF-8 was detected in one or more arguments";
-
-/// What is said of a number that is out of its range. `clap` refuses each such number before.
-const OUT_OF_RANGE: &str = "a number is out of its range";
-
-/// The fault that a parse ends with.
-fn fault(alloc: Global, error: &clap::Error) -> WordsFault
-    ensures memory { kind_of error.now ≡ OutOfMemory → result ≡ WordsFault.Memory }
-{
-    if error.kind() == ErrorKind::OutOfMemory {
-        return WordsFault::Memory;
-    }
-    match format!(in alloc; "{error}") {
-        Ok(text) => WordsFault::Words(text),
-        Err(_) => WordsFault::Memory,
-    }
+    /// Brings the changes of one database to another.
+    Replicate(Replicating),
 }
 
 /// The command line as `clap` takes it.
@@ -73,31 +46,33 @@ fn couchd<'a>(alloc: Global) -> Result<Command<'a>, AllocError>
     ensures local { IfOk result (λ c. (fields_of c).has_globals ≡ false) }
     ensures subcommand { IfOk result (λ c. (fields_of c).subcommand_required ≡ true) }
 {
-    let once = Command::new(alloc, "once").about("Serves standard input to standard output");
-    let serve = serve(alloc)?;
-    Command::new(alloc, "couchd")
-        .about("A replicating document store")
-        .subcommand_required(true)
-        .disable_help_subcommand(true)
-        .subcommand(once)?
-        .subcommand(serve)
+    let couchd = program(alloc, "couchd", "A replicating document store");
+    let couchd = with_subcommand(couchd, once(alloc))?;
+    let couchd = with_subcommand(couchd, dump(alloc))?;
+    let couchd = with_subcommand(couchd, serve(alloc)?)?;
+    let couchd = with_subcommand(couchd, replicate(alloc)?)?;
+    Ok(couchd)
+}
+
+fn once<'a>(alloc: Global) -> Command<'a>
+    ensures app { app_of result ≡ new_app (codes "once") }
+    ensures local { (fields_of result).has_globals ≡ false }
+{
+    Command::new(alloc, "once").about("Serves standard input to standard output")
+}
+
+fn dump<'a>(alloc: Global) -> Command<'a>
+    ensures app { app_of result ≡ new_app (codes "dump") }
+    ensures local { (fields_of result).has_globals ≡ false }
+{
+    Command::new(alloc, "dump").about(
+        "Serves standard input, and writes the dump of its history at the end",
+    )
 }
 
 /// Why words that are not all UTF-8 name no run: the text that `clap` has for them.
 pub fn refuse_bytes(alloc: Global) -> WordsFault {
-    refuse(alloc, NOT_TEXT)
-}
-
-/// A refusal of the words, for this reason.
-fn refuse(alloc: Global, reason: &str) -> WordsFault {
-    match error_of(alloc, reason) {
-        Ok(error) => fault(alloc, &error),
-        Err(_) => WordsFault::Memory,
-    }
-}
-
-fn error_of<'a>(alloc: Global, reason: &'a str) -> Result<clap::Error, AllocError> {
-    couchd(alloc)?.error(ErrorKind::ValueValidation, reason)
+    refuse(alloc, couchd(alloc), NOT_TEXT)
 }
 
 /// The run that the words ask for. The first word is the program's name, as in `std::env::args`.
@@ -118,9 +93,15 @@ pub fn read_words<S: AsStr>(alloc: Global, words: &[S]) -> Result<Run, WordsFaul
     };
     match matches.subcommand_name().unwrap() {
         "once" => Ok(Run::Once),
+        "dump" => Ok(Run::Dump),
         "serve" => match serving_in(&matches) {
             Some(serving) => Ok(Run::Serve(serving)),
-            None => Err(refuse(alloc, OUT_OF_RANGE)),
+            None => Err(refuse(alloc, couchd(alloc), OUT_OF_RANGE)),
+        },
+        "replicate" => match replicating_in(alloc, &matches) {
+            Ok(Some(replicating)) => Ok(Run::Replicate(replicating)),
+            Ok(None) => Err(refuse(alloc, couchd(alloc), NO_REPLICATION)),
+            Err(_) => Err(WordsFault::Memory),
         },
         _ => unreachable!(),
     }

@@ -45,7 +45,10 @@ pub(crate) fn serve<'a>(alloc: Global) -> Result<Command<'a>, AllocError>
 }
 
 /// The command with an option more.
-fn with_option<'a>(command: Command<'a>, option: Arg<'a>) -> Result<Command<'a>, AllocError>
+pub(crate) fn with_option<'a>(
+    command: Command<'a>,
+    option: Arg<'a>,
+) -> Result<Command<'a>, AllocError>
     requires local { option.global ≡ false }
     ensures app { IfOk result (λ c. app_of c ≡ with_rule (app_of command.entry) (rule_of option.entry)) }
     ensures local { IfOk result (λ c.

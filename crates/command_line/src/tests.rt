@@ -2,6 +2,7 @@
 
 use super::*;
 use std::alloc::Global;
+use std::net::{Ipv4Addr, Ipv6Addr, SocketAddr, SocketAddrV4, SocketAddrV6};
 use std::process::Abort;
 use std::test::Fail;
 
@@ -15,9 +16,11 @@ fn assert_refused<R: Abort>(rt: &R, alloc: Global, words: &[&str], start: &str) 
 }
 
 #[test]
-fn once_is_a_run(rt: HostRuntime) -> Result<(), Fail> {
-    let words = ["couchd", "once"];
-    assert_eq!(rt; read_words(rt.alloc(), words.as_slice())?, Run::Once);
+fn runs_without_numbers(rt: HostRuntime) -> Result<(), Fail> {
+    for (name, run) in [("once", Run::Once), ("dump", Run::Dump)] {
+        let words = ["couchd", name];
+        assert_eq!(rt; read_words(rt.alloc(), words.as_slice())?, run);
+    }
     Ok(())
 }
 
@@ -59,6 +62,29 @@ fn serve_takes_numbers_to_their_ends(rt: HostRuntime) -> Result<(), Fail> {
     Ok(())
 }
 
+#[test]
+fn replicate_takes_addresses_and_an_id(rt: HostRuntime) -> Result<(), Fail> {
+    let words = [
+        "couchd",
+        "replicate",
+        "--id",
+        "r",
+        "--target=[::1]:65535",
+        "--source",
+        "127.0.0.1:5984",
+    ];
+    let replicating = Replicating {
+        source: SocketAddr::V4(SocketAddrV4::new(Ipv4Addr::LOCALHOST, 5984)),
+        target: SocketAddr::V6(SocketAddrV6::new(Ipv6Addr::LOCALHOST, 65_535, 0, 0)),
+        id: String::from_str(rt.alloc(), "r")?,
+    };
+    assert_eq!(rt;
+        read_words(rt.alloc(), words.as_slice())?,
+        Run::Replicate(replicating)
+    );
+    Ok(())
+}
+
 // The texts are those of Rust's `clap`.
 #[test]
 fn other_words_are_refused(rt: HostRuntime) {
@@ -95,6 +121,10 @@ fn other_words_are_refused(rt: HostRuntime) {
             ["couchd", "serve", "--connections", "many"].as_slice(),
             "error: invalid value 'many' for '--connections <CONNECTIONS>': invalid digit found in string\n",
         ),
+        (
+            ["couchd", "replicate", "--id", "r"].as_slice(),
+            "error: the following required arguments were not provided:\n  --source <HOST:PORT>\n  --target <HOST:PORT>\n",
+        ),
     ];
     for (words, start) in cases {
         assert_refused(&rt, rt.alloc(), words, start);
@@ -109,4 +139,20 @@ fn words_of_other_bytes_are_refused(rt: HostRuntime) {
         WordsFault::Words(found) => assert_eq!(rt; found.as_str(), text),
         WordsFault::Memory => assert!(rt; false, "there is ample memory"),
     }
+}
+
+#[test]
+fn words_of_an_audit(rt: HostRuntime) -> Result<(), Fail> {
+    let words = ["replay", "check"];
+    assert_eq!(rt;
+        replay::read_words(rt.alloc(), words.as_slice())?,
+        replay::Run::Check
+    );
+    let words = ["replay", "check", "more"];
+    let text = "error: unexpected argument 'more' found\n\nUsage: replay check\n";
+    match replay::read_words(rt.alloc(), words.as_slice()) {
+        Err(WordsFault::Words(found)) => assert!(rt; found.as_str().starts_with(text), "{found}"),
+        _ => assert!(rt; false, "these words name no run"),
+    }
+    Ok(())
 }

@@ -10,5 +10,6 @@ pub mod Replies
 pub mod Going
 pub mod Sessions
 pub mod Once
+pub mod Dumping
 pub mod Listening
 pub mod Server

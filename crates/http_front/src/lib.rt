@@ -7,9 +7,11 @@
 
 mod calls;
 mod connection;
+mod dumping;
 mod failing;
 mod feed;
 mod listening;
+mod nowhere;
 mod once;
 mod opening;
 mod progress;
@@ -23,6 +25,7 @@ mod writing;
 
 pub use calls::{CallFault, Calls, Viewer};
 pub use connection::{serve, serve_in};
+pub use dumping::run_dump;
 pub use listening::listen;
 pub use once::run_once;
 pub use server::run_server;

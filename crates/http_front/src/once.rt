@@ -1,14 +1,14 @@
 //! What the program does with its standard streams.
-ghost use Rattle.std.specs.Prelude.{◌≡◌, [], ◌∷◌};
+ghost use Rattle.std.specs.Prelude.{◌≡◌, [], ◌∷◌, IfSome, IfNone};
 ghost use Rattle.serving.specs.Served.{Streams};
 ghost use Rattle.sessions.specs.Known.{fresh};
-ghost use Rattle.http_front.specs.Once.{ServesOnce, exit_status, max_places};
+ghost use Rattle.http_front.specs.Once.{ServesDatabase, ServesOnce, exit_status, max_places};
 
 use crate::connection::serve;
 use crate::opening::{NOT_OPENED, config};
 use crate::setting::Setting;
-use history_lock::{Opened, open};
-use serving::Cause;
+use history_lock::{Closed, Opened, open};
+use serving::{Cause, Ended};
 use std::marker::Brand;
 use std::sync::Wait;
 use std::time::Clock;
@@ -19,7 +19,7 @@ use updating::{NoGate, Opening};
 const TURNS: u64 = 1;
 
 /// The exit status after a connection that ended so.
-fn exit_status(cause: Cause) -> u8
+pub(crate) fn exit_status(cause: Cause) -> u8
     ensures { result ≡ exit_status cause }
 {
     match cause {
@@ -54,11 +54,11 @@ pub fn run_once<R: Source, W: Sink, A: AllocGlobal + Wait + Clock>(
     let Ok(opened) = Opened::new(rt.alloc(), config(1)) else {
         return NOT_OPENED;
     };
-    serve_opened::<Brand, &A, R, W, A>(reader, writer, rt, rt, opened)
+    once_opened::<Brand, &A, R, W, A>(reader, writer, rt, rt, opened)
 }
 
-/// Serves a database of one session, whose writer keeps a runtime of its own, to one connection.
-fn serve_opened<J: Opening, T: Wait + Drop, R: Source, W: Sink, A: AllocGlobal + Wait + Clock>(
+/// Serves a database of one session, and answers the exit status.
+fn once_opened<J: Opening, T: Wait + Drop, R: Source, W: Sink, A: AllocGlobal + Wait + Clock>(
     reader: &mut R,
     writer: &mut W,
     rt: &A,
@@ -87,15 +87,64 @@ fn serve_opened<J: Opening, T: Wait + Drop, R: Source, W: Sink, A: AllocGlobal +
         })
         result }
 {
-    let Ok((_master, mut sessions)) = open::<T, J, NoGate>(writer_rt, opened, NoGate) else {
+    let Some((ended, _closed)) = serve_opened::<J, T, R, W, A>(
+        reader, writer, rt, writer_rt, opened,
+    ) else {
         return NOT_OPENED;
+    };
+    exit_status(ended.cause)
+}
+
+/// Serves a database of one session, whose writer keeps a runtime of its own, to one connection, and
+/// closes it. Nothing where it was not opened.
+pub(crate) fn serve_opened<
+    J: Opening,
+    T: Wait + Drop,
+    R: Source,
+    W: Sink,
+    A: AllocGlobal + Wait + Clock,
+>(
+    reader: &mut R,
+    writer: &mut W,
+    rt: &A,
+    writer_rt: T,
+    opened: Opened,
+) -> Option<(Ended, Closed<J>)>
+    requires book { opened.book ≡ J.book }
+    requires table { opened.queue.table ≡ J.table }
+    requires capacity { opened.queue.capacity ≡ J.capacity }
+    requires sessions { opened.queue.sessions ≡ J.sessions }
+    requires max_places { opened.max_places ≡ J.max_places }
+    requires one { opened.queue.sessions ≡ 1 }
+    requires room { opened.max_places ≡ max_places }
+    ensures served { IfSome result (λ served. ServesDatabase
+        (record {
+          left = R.left reader.old;
+          failed_reads = R.failed_reads reader.old;
+          taken = W.taken writer.old;
+          failed_writes = W.failed_writes writer.old;
+        })
+        (record {
+          left = R.left reader.new;
+          failed_reads = R.failed_reads reader.new;
+          taken = W.taken writer.new;
+          failed_writes = W.failed_writes writer.new;
+        })
+        served.0 served.1) }
+    ensures same_reader { IfNone result (reader.new ≡ reader.old) }
+    ensures same_writer { IfNone result (writer.new ≡ writer.old) }
+{
+    let Ok((master, mut sessions)) = open::<T, J, NoGate>(writer_rt, opened, NoGate) else {
+        return None;
     };
     let Ok(setting) = Setting::new(rt.alloc(), rt, TURNS) else {
-        return NOT_OPENED;
+        return None;
     };
-    let Some(session) = sessions.first_mut() else {
-        return NOT_OPENED;
+    let Some(mut session) = sessions.pop() else {
+        return None;
     };
-    let ended = serve(rt.alloc(), reader, writer, session, &setting);
-    exit_status(ended.cause)
+    let ended = serve(rt.alloc(), reader, writer, &mut session, &setting);
+    let _place = session.place();
+    sessions.push_reserved(session);
+    Some((ended, master.close(sessions, rt)))
 }

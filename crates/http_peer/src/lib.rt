@@ -5,7 +5,9 @@
 //! tells.
 #![tactic(auto)]
 
+mod laws;
 mod peer;
 mod told;
 
+pub use laws::bulk_is_as_measured;
 pub use peer::HttpPeer;

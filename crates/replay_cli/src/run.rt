@@ -39,7 +39,7 @@ pub fn run_check<R: Source, W: Sink, A: AllocGlobal>(reader: &mut R, writer: &mu
 {
     match check_input(rt.alloc(), reader) {
         Ok(verdict) => tell(rt.alloc(), writer, verdict),
-        Err(InputFault::Memory) => end_with(writer, "no memory\n", NO_MEMORY),
+        Err(InputFault::Memory) => end_with(writer, "no memory\n".as_bytes(), NO_MEMORY),
         Err(InputFault::Failed) => FAILED,
     }
 }
@@ -65,9 +65,9 @@ fn tell<W: Sink>(alloc: Global, writer: &mut W, verdict: Verdict) -> u8
         (W.failed_writes writer.new) (told_text told) (told_status told) result }
 {
     let Ok(line) = format!(in alloc; "{verdict}\n") else {
-        return end_with(writer, "no memory\n", NO_MEMORY);
+        return end_with(writer, "no memory\n".as_bytes(), NO_MEMORY);
     };
-    end_with(writer, &line, exit_status(verdict))
+    end_with(writer, line.as_bytes(), exit_status(verdict))
 }
 
 /// The status of a verdict that was told.
@@ -81,12 +81,12 @@ fn exit_status(verdict: Verdict) -> u8
     }
 }
 
-/// Writes a text, and answers this status, or that of a failure.
-fn end_with<W: Sink>(writer: &mut W, text: &str, status: u8) -> u8
+/// Writes what a program tells at its end, and answers this status, or 1 where the write failed.
+pub fn end_with<W: Sink>(writer: &mut W, text: &[u8], status: u8) -> u8
     ensures { Ends (W.taken writer.old) (W.taken writer.new) (W.failed_writes writer.old)
         (W.failed_writes writer.new) text.now status result }
 {
-    match write_all(writer, text.as_bytes()) {
+    match write_all(writer, text) {
         Ok(()) => status,
         Err(Failed) => FAILED,
     }

@@ -1,11 +1,11 @@
 use Rattle.http_front.proofs.once.run_once.Given as goal
 
 -- the database that was just opened
-abbrev pub ghosts-serve_opened-J-Naming : goal.ghosts-serve_opened-J-Naming
-ghosts-serve_opened-J-Naming g a = record { book = a.opened.book }
+abbrev pub ghosts-once_opened-J-Naming : goal.ghosts-once_opened-J-Naming
+ghosts-once_opened-J-Naming g a = record { book = a.opened.book }
 
-abbrev pub ghosts-serve_opened-J-Queued : goal.ghosts-serve_opened-J-Queued
-ghosts-serve_opened-J-Queued g a = record { table = a.opened.queue.table; capacity = a.opened.queue.capacity; sessions = a.opened.queue.sessions }
+abbrev pub ghosts-once_opened-J-Queued : goal.ghosts-once_opened-J-Queued
+ghosts-once_opened-J-Queued g a = record { table = a.opened.queue.table; capacity = a.opened.queue.capacity; sessions = a.opened.queue.sessions }
 
-abbrev pub ghosts-serve_opened-J-Opening : goal.ghosts-serve_opened-J-Opening
-ghosts-serve_opened-J-Opening g a = record { max_places = a.opened.max_places }
+abbrev pub ghosts-once_opened-J-Opening : goal.ghosts-once_opened-J-Opening
+ghosts-once_opened-J-Opening g a = record { max_places = a.opened.max_places }

@@ -1,0 +1,14 @@
+-- The command line of `replay`, and what its words name.
+use Rattle.std.specs.Prelude.{◌≡◌, ℕ, List, Some, codes}
+use Rattle.clap.specs.Words.{App, new_app, with_subcommand}
+use Rattle.command_line.specs.Lines.{named_by_subcommands, subcommand_name}
+use Rattle.command_line.specs.declared.replay.Run.{Run}
+use Rattle.command_line.specs.declared.replay.Run.TheVariants.{Check}
+
+-- the command line of `replay`
+abbrev pub replay : App
+replay = with_subcommand (named_by_subcommands (new_app (codes "replay"))) (new_app (codes "check")).top
+
+-- the words, of which the first is the program's name, name this run
+abbrev pub IsRunOf : List (List ℕ) → Run → Type 0
+IsRunOf words Check = subcommand_name replay words ≡ Some (codes "check")

@@ -1,0 +1,32 @@
+-- The words of `couchd replicate`.
+use Rattle.std.specs.Prelude.{◌≡◌, ◌≤◌, true, List, Option, Some, length, codes, string_bytes}
+use Rattle.std.specs.Net.Grammar.{IsSocketText}
+use Rattle.std.specs.declared.net.socket_addr.SocketAddr.{SocketAddr}
+use Rattle.clap.specs.Words.{App, Row, Rule, Text, new_app, new_rule, with_rule, first_of}
+use Rattle.command_line.specs.declared.replicate.Replicating.{Replicating}
+
+-- an option of this name, which has to be given
+abbrev pub text_option : Text → Rule
+text_option name = record (new_rule name) { long = Some name; value_names = 1; required = true }
+
+-- `couchd replicate` with its options
+abbrev pub replicate : App
+replicate =
+    with_rule (with_rule (with_rule (new_app (codes "replicate"))
+    (text_option (codes "source")))
+    (text_option (codes "target")))
+    (text_option (codes "id"))
+
+-- the text writes this address and port
+abbrev pub IsAddressOf : Option Text → SocketAddr → Type 0
+IsAddressOf given address = (text : Text) × (given ≡ Some text) × IsSocketText text address
+
+-- the text is this id, which has 1 to 512 bytes
+abbrev pub IsIdOf : Option Text → Text → Type 0
+IsIdOf given id = (given ≡ Some id) × (1 ≤ length id) × (length id ≤ 512)
+
+-- each is the one that the words give
+pub record IsReplicatingOf (given : List Row) (replicating : Replicating) : Type 0 where
+  pub source : IsAddressOf (first_of (codes "source") given) replicating.source
+  pub target : IsAddressOf (first_of (codes "target") given) replicating.target
+  pub id : IsIdOf (first_of (codes "id") given) (string_bytes replicating.id)

@@ -1,0 +1,80 @@
+//! `couchd replicate`: the changes of one database are brought to another over two connections.
+
+use command_line::Replicating;
+use document_id::DocId;
+use replicating::{Watch, run_replication};
+use std::io;
+use std::io::IsTerminal;
+use std::net::{SocketAddr, TcpStream};
+use std::process::ExitCode;
+use std::time::Duration;
+use streams::Stream;
+
+/// How many seconds a read or a write may stall.
+const STALL_SECONDS: u64 = 300;
+
+/// Tells of each batch by a line on standard error, where that is a terminal.
+#[derive(Drop)]
+struct Lines<'r> {
+    rt: &'r HostRuntime,
+    shown: bool,
+}
+
+impl Watch for Lines<'_> {
+    fn checkpoint(&self, last_seq: u64, documents_read: u64) {
+        if self.shown {
+            let _printed = eprintln!(self.rt;
+                "checkpoint {last_seq}: documents read {documents_read}"
+            );
+        }
+    }
+}
+
+/// Replicates between the two ends that were given, and prints what came of it.
+pub(crate) fn replicate(rt: &HostRuntime, replicating: &Replicating) -> io::Result<ExitCode> {
+    let Ok(id) = DocId::new(rt.alloc(), replicating.id.as_str()) else {
+        return Ok(ExitCode::FAILURE);
+    };
+    let Some(source) = connect(rt, "source", replicating.source) else {
+        return Ok(ExitCode::FAILURE);
+    };
+    let Some(target) = connect(rt, "target", replicating.target) else {
+        return Ok(ExitCode::FAILURE);
+    };
+    let lines = Lines {
+        rt,
+        shown: rt.stderr().is_terminal(),
+    };
+    let report = run_replication(
+        rt.alloc(),
+        id,
+        (Stream::new(&source), Stream::new(&source)),
+        (Stream::new(&target), Stream::new(&target)),
+        lines,
+    );
+    println!(rt;
+        "documents read {}, written {}: {}",
+        report.documents_read,
+        report.documents_written,
+        report.ending()
+    )?;
+    Ok(ExitCode::from(report.exit_status()))
+}
+
+/// A connection to one end; nothing where it can't be reached, which is said.
+fn connect(rt: &HostRuntime, name: &str, address: SocketAddr) -> Option<TcpStream> {
+    let Ok(socket) = TcpStream::connect(rt, address) else {
+        let _printed = eprintln!(rt; "couchd: cannot reach the {name} at {address}");
+        return None;
+    };
+    set_up(&socket);
+    Some(socket)
+}
+
+/// Sends without delay what is written, and gives up an end that stalls, where that can be had.
+fn set_up(socket: &TcpStream) {
+    let stall = Some(Duration::from_secs(STALL_SECONDS));
+    let _nodelay = socket.set_nodelay(true);
+    let _read = socket.set_read_timeout(stall);
+    let _write = socket.set_write_timeout(stall);
+}

@@ -1,0 +1,11 @@
+use Rattle.http_front.proofs.dumping.run_dump.Given as goal
+
+-- the database that was just opened
+abbrev pub ghosts-dump_opened-J-Naming : goal.ghosts-dump_opened-J-Naming
+ghosts-dump_opened-J-Naming g a = record { book = a.opened.book }
+
+abbrev pub ghosts-dump_opened-J-Queued : goal.ghosts-dump_opened-J-Queued
+ghosts-dump_opened-J-Queued g a = record { table = a.opened.queue.table; capacity = a.opened.queue.capacity; sessions = a.opened.queue.sessions }
+
+abbrev pub ghosts-dump_opened-J-Opening : goal.ghosts-dump_opened-J-Opening
+ghosts-dump_opened-J-Opening g a = record { max_places = a.opened.max_places }

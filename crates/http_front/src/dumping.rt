@@ -1,0 +1,108 @@
+//! What the program does with its standard streams where the history is asked for.
+ghost use Rattle.std.specs.Prelude.{◌≡◌};
+ghost use Rattle.serving.specs.Served.{Streams};
+ghost use Rattle.http_front.specs.Once.{max_places};
+ghost use Rattle.http_front.specs.Dumping.{DumpsOnce, WritesDump};
+
+use crate::nowhere::Nowhere;
+use crate::once::{exit_status, serve_opened};
+use crate::opening::{NOT_OPENED, config};
+use history_lock::{Closed, Opened};
+use replay_cli::{dump, end_with};
+use std::alloc::Global;
+use std::marker::Brand;
+use std::sync::Wait;
+use std::time::Clock;
+use streams::{Sink, Source};
+use updating::Opening;
+
+/// The exit status where memory for the dump was refused.
+const NO_MEMORY: u8 = 1;
+
+/// Serves an empty database to one connection whose responses nobody reads, writes the dump of its
+/// history at the end, and answers the exit status: 0, or 1 where a read or a write failed, or where
+/// the database was not opened or memory was refused.
+pub fn run_dump<R: Source, W: Sink, A: AllocGlobal + Wait + Clock>(
+    reader: &mut R,
+    writer: &mut W,
+    rt: &A,
+) -> u8
+    ensures { DumpsOnce
+        (record {
+          left = R.left reader.old;
+          failed_reads = R.failed_reads reader.old;
+          taken = W.taken writer.old;
+          failed_writes = W.failed_writes writer.old;
+        })
+        (record {
+          left = R.left reader.new;
+          failed_reads = R.failed_reads reader.new;
+          taken = W.taken writer.new;
+          failed_writes = W.failed_writes writer.new;
+        })
+        result }
+{
+    let Ok(opened) = Opened::new(rt.alloc(), config(1)) else {
+        return NOT_OPENED;
+    };
+    dump_opened::<Brand, &A, R, W, A>(reader, writer, rt, rt, opened)
+}
+
+/// Serves a database of one session, writes its dump, and answers the exit status.
+fn dump_opened<J: Opening, T: Wait + Drop, R: Source, W: Sink, A: AllocGlobal + Wait + Clock>(
+    reader: &mut R,
+    writer: &mut W,
+    rt: &A,
+    writer_rt: T,
+    opened: Opened,
+) -> u8
+    requires book { opened.book ≡ J.book }
+    requires table { opened.queue.table ≡ J.table }
+    requires capacity { opened.queue.capacity ≡ J.capacity }
+    requires sessions { opened.queue.sessions ≡ J.sessions }
+    requires max_places { opened.max_places ≡ J.max_places }
+    requires one { opened.queue.sessions ≡ 1 }
+    requires room { opened.max_places ≡ max_places }
+    ensures { DumpsOnce
+        (record {
+          left = R.left reader.old;
+          failed_reads = R.failed_reads reader.old;
+          taken = W.taken writer.old;
+          failed_writes = W.failed_writes writer.old;
+        })
+        (record {
+          left = R.left reader.new;
+          failed_reads = R.failed_reads reader.new;
+          taken = W.taken writer.new;
+          failed_writes = W.failed_writes writer.new;
+        })
+        result }
+{
+    let mut nowhere = Nowhere;
+    let Some((ended, closed)) = serve_opened::<J, T, R, Nowhere, A>(
+        reader,
+        &mut nowhere,
+        rt,
+        writer_rt,
+        opened,
+    ) else {
+        return NOT_OPENED;
+    };
+    write_dump(rt.alloc(), writer, &closed, exit_status(ended.cause))
+}
+
+/// Writes the dump of what is left, and answers this status, or that of a failure.
+fn write_dump<J: Opening, W: Sink>(
+    alloc: Global,
+    writer: &mut W,
+    closed: &Closed<J>,
+    status: u8,
+) -> u8
+    ensures { WritesDump (W.taken writer.old) (W.taken writer.new) (W.failed_writes writer.old)
+        (W.failed_writes writer.new) closed.now.history status result }
+{
+    let Ok(text) = dump(alloc, closed) else {
+        return NO_MEMORY;
+    };
+    end_with(writer, &text, status)
+}

@@ -1,0 +1,11 @@
+//! One replication from its beginning to its end, as a program runs it.
+#![tactic(auto)]
+
+mod counted;
+mod report;
+mod run;
+mod watch;
+
+pub use report::Report;
+pub use run::{replicate, run_replication};
+pub use watch::{Unwatched, Watch};
