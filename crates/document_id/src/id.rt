@@ -101,7 +101,7 @@ impl Ord for DocId {
     ghost matches_eq = { λ x y. refl };
 
     fn cmp(&self, other: &DocId) -> Ordering {
-        self.as_str().as_bytes().cmp(other.as_str().as_bytes())
+        self.as_str().cmp(other.as_str())
     }
 }
 
