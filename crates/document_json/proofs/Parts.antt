@@ -3,18 +3,19 @@ use Rattle.std.proofs.Common.{◌≡◌, ◌≢◌, ℕ, ◌<◌, ◌≤◌, Lis
 use Rattle.std.specs.Prelude.{codes, nat_le}
 use Rattle.std.proofs.lemmas.Bool.{and_parts, le-leb, leb-true}
 use Rattle.std.specs.List.{list_all}
-use Rattle.serde_json.specs.Data.{object, depth, Members}
+use Rattle.std.specs.Prelude.{Option, None}
+use Rattle.serde_json.specs.Data.{Data, object, depth, Members}
 use Rattle.serde_json.specs.Find.{get_member}
-use Rattle.json_profile.specs.Objects.{without}
+use Rattle.json_profile.specs.Objects.{without, has_special}
 use Rattle.model.specs.Profile.{is_special, without_specials, max_body_nesting}
 use Rattle.json_profile.specs.declared.fault.JsonFault.{JsonFault}
 use Rattle.json_profile.specs.declared.fault.JsonFault.TheVariants as json
 use Rattle.document_json.specs.Steps.{Checked, Decides, and_then, check, refused}
 use Rattle.document_json.specs.Text.{fault_of}
-use Rattle.document_json.specs.Document.{nesting_parts, without_ignored, without_all, listed_members}
+use Rattle.document_json.specs.Document.{nesting_parts, parts_of, parts_after, without_ignored, without_all, others_listed}
 use Rattle.document_json.specs.declared.document.Parts.{Parts}
 use Rattle.document_json.specs.declared.fault.Reason.TheVariants as reason
-use Rattle.document_json.proofs.Members.{without_specials-without, get_member-without}
+use Rattle.document_json.proofs.Members.{without_specials-without, get_member-without, get_member-none, without-none}
 
 -- ---- the nesting of a body
 
@@ -53,28 +54,30 @@ left_1 ms = without (codes "_id") ms
 abbrev pub left_2 : Members → Members
 left_2 ms = without (codes "_rev") (left_1 ms)
 
-abbrev pub left_3 : Members → Members
-left_3 ms = without (codes "_deleted") (left_2 ms)
-
-abbrev pub left_4 : Members → Members
-left_4 ms = without (codes "_revisions") (left_3 ms)
-
-abbrev pub left_5 : Members → Members
-left_5 ms = without_ignored (left_4 ms)
-
 pub rev_left : (ms : Members) → get_member (codes "_rev") (left_1 ms) ≡ get_member (codes "_rev") ms
 rev_left ms = get_member-without (codes "_rev") (codes "_id") ms refl
 
-pub deleted_left : (ms : Members) → get_member (codes "_deleted") (left_2 ms) ≡ get_member (codes "_deleted") ms
-deleted_left ms =
-    get_member-without (codes "_deleted") (codes "_rev") (left_1 ms) refl
-    ∙ get_member-without (codes "_deleted") (codes "_id") ms refl
+-- ---- what is left of what stands behind the id
 
-pub revisions_left : (ms : Members) → get_member (codes "_revisions") (left_3 ms) ≡ get_member (codes "_revisions") ms
+abbrev pub after_1 : Members → Members
+after_1 ms = without (codes "_rev") ms
+
+abbrev pub after_2 : Members → Members
+after_2 ms = without (codes "_deleted") (after_1 ms)
+
+abbrev pub after_3 : Members → Members
+after_3 ms = without (codes "_revisions") (after_2 ms)
+
+abbrev pub after_4 : Members → Members
+after_4 ms = without_ignored (after_3 ms)
+
+pub deleted_left : (ms : Members) → get_member (codes "_deleted") (after_1 ms) ≡ get_member (codes "_deleted") ms
+deleted_left ms = get_member-without (codes "_deleted") (codes "_rev") ms refl
+
+pub revisions_left : (ms : Members) → get_member (codes "_revisions") (after_2 ms) ≡ get_member (codes "_revisions") ms
 revisions_left ms =
-    get_member-without (codes "_revisions") (codes "_deleted") (left_2 ms) refl
-    ∙ get_member-without (codes "_revisions") (codes "_rev") (left_1 ms) refl
-    ∙ get_member-without (codes "_revisions") (codes "_id") ms refl
+    get_member-without (codes "_revisions") (codes "_deleted") (after_1 ms) refl
+    ∙ get_member-without (codes "_revisions") (codes "_rev") ms refl
 
 without_specials-without_all : (names : List (List ℕ)) (ms : Members) → list_all is_special names ≡ true → without_specials (without_all names ms) ≡ without_specials ms
 without_specials-without_all [] ms h = refl
@@ -82,5 +85,38 @@ without_specials-without_all (name ∷ names) ms h =
     let special = and_parts _ _ h in
     without_specials-without_all names (without name ms) special.1 ∙ without_specials-without name ms special.0
 
-pub body_left : (ms : Members) → without_specials (left_5 ms) ≡ without_specials ms
-body_left ms = without_specials-without_all listed_members ms refl
+pub body_left : (ms : Members) → without_specials (after_4 ms) ≡ without_specials ms
+body_left ms = without_specials-without_all others_listed ms refl
+
+-- ---- behind the id
+
+-- the id that was taken tells all parts with what is left
+pub parts_after_id : (ms : Members) → parts_after (get_member (codes "_id") ms) (without (codes "_id") ms) ≡ parts_of ms
+parts_after_id ms = λ i. record {
+  id = get_member (codes "_id") ms;
+  rev = get_member-without (codes "_rev") (codes "_id") ms refl i;
+  deleted = get_member-without (codes "_deleted") (codes "_id") ms refl i;
+  revisions = get_member-without (codes "_revisions") (codes "_id") ms refl i;
+  has_other = has_special (without_all others_listed (without (codes "_id") ms));
+  body = without_specials-without (codes "_id") ms refl i;
+}
+
+without_all-none : (names : List (List ℕ)) (ms : Members) → list_all is_special names ≡ true → has_special ms ≡ false → without_all names ms ≡ ms
+without_all-none [] ms h none = refl
+without_all-none (name ∷ names) ms h none =
+    let special = and_parts _ _ h in
+    ap (without_all names) (without-none name ms special.0 none) ∙ without_all-none names ms special.1 none
+
+abbrev pub plain_parts : Option Data → Members → Parts
+plain_parts id body = record { id = id; rev = None; deleted = None; revisions = None; has_other = false; body = body }
+
+-- nothing else is told where nothing special is left
+pub parts_after-none : (id : Option Data) (ms : Members) → has_special ms ≡ false → parts_after id ms ≡ plain_parts id (without_specials ms)
+parts_after-none id ms none = λ i. record {
+  id = id;
+  rev = get_member-none (codes "_rev") ms refl none i;
+  deleted = get_member-none (codes "_deleted") ms refl none i;
+  revisions = get_member-none (codes "_revisions") ms refl none i;
+  has_other = (ap has_special (without_all-none others_listed ms refl none) ∙ none) i;
+  body = without_specials ms;
+}

@@ -14,12 +14,16 @@ use Rattle.document_json.specs.Text.{json_of}
 use Rattle.document_json.specs.declared.document.Parts.{Parts}
 use Rattle.document_json.specs.declared.fault.Reason.TheVariants as reason
 
+-- the special members that a document may have, beside its id
+abbrev pub others_listed : List (List ℕ)
+others_listed =
+    codes "_rev" ∷ codes "_deleted" ∷ codes "_revisions" ∷ codes "_local_seq" ∷ codes "_revs_info"
+    ∷ codes "_conflicts" ∷ codes "_deleted_conflicts" ∷ []
+
 -- the special members that a document may have
 -- CouchDB: GET /{db}/{docid}, the members that begin with "_"
 abbrev pub listed_members : List (List ℕ)
-listed_members =
-    codes "_id" ∷ codes "_rev" ∷ codes "_deleted" ∷ codes "_revisions" ∷ codes "_local_seq" ∷ codes "_revs_info"
-    ∷ codes "_conflicts" ∷ codes "_deleted_conflicts" ∷ []
+listed_members = codes "_id" ∷ others_listed
 
 abbrev pub without_all : List (List ℕ) → Members → Members
 without_all [] members = members
@@ -34,6 +38,17 @@ parts_of members = record {
   deleted = get_member (codes "_deleted") members;
   revisions = get_member (codes "_revisions") members;
   has_other = has_special (without_all listed_members members);
+  body = without_specials members;
+}
+
+-- the same of what is left behind the id
+abbrev pub parts_after : Option Data → Members → Parts
+parts_after id members = record {
+  id = id;
+  rev = get_member (codes "_rev") members;
+  deleted = get_member (codes "_deleted") members;
+  revisions = get_member (codes "_revisions") members;
+  has_other = has_special (without_all others_listed members);
   body = without_specials members;
 }
 

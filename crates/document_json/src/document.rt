@@ -1,6 +1,7 @@
 //! A document as the body of a request writes it.
-ghost use Rattle.std.specs.Prelude.{◌≡◌, Ok, option_map};
-ghost use Rattle.document_json.specs.Document.{document_in, document_of, edit_of, flag_in, has_shape, is_flag, is_text, known_document_in, names_no_other, nesting_parts, parts_in, parts_of, revision_of, text_of, without_ignored};
+ghost use Rattle.std.specs.Prelude.{◌≡◌, false, Ok, option_map};
+ghost use Rattle.json_profile.specs.Objects.{has_special};
+ghost use Rattle.document_json.specs.Document.{document_in, document_of, edit_of, flag_in, has_shape, is_flag, is_text, known_document_in, names_no_other, nesting_parts, parts_after, parts_in, parts_of, revision_of, text_of, without_ignored};
 ghost use Rattle.document_json.specs.Revisions.{rev_of};
 ghost use Rattle.document_json.specs.Steps.{Decides};
 
@@ -42,6 +43,32 @@ fn take_parts(alloc: Global, mut object: Object) -> Result<Parts, Fault>
     ensures { Decides result (nesting_parts (parts_of object)) }
 {
     let id = object.take("_id");
+    if object.has_special() {
+        return take_others(alloc, id, object);
+    }
+    take_plain(alloc, id, object)
+}
+
+/// Takes apart what is left behind the id, where nothing special is.
+fn take_plain(alloc: Global, id: Option<Json>, object: Object) -> Result<Parts, Fault>
+    requires { has_special object ≡ false }
+    ensures { Decides result (nesting_parts (parts_after id object)) }
+{
+    let body = object.into_body(alloc)?;
+    Ok(Parts {
+        id,
+        rev: None,
+        deleted: None,
+        revisions: None,
+        has_other: false,
+        body,
+    })
+}
+
+/// Takes apart what is left behind the id.
+fn take_others(alloc: Global, id: Option<Json>, mut object: Object) -> Result<Parts, Fault>
+    ensures { Decides result (nesting_parts (parts_after id object)) }
+{
     let rev = object.take("_rev");
     let deleted = object.take("_deleted");
     let revisions = object.take("_revisions");
