@@ -165,7 +165,7 @@ impl<K: IndexKey, V: Drop> CowMap<K, V> {
     }
 
     /// As [`insert`](CowMap::insert), of a map that is given up. The nodes that no other map holds
-    /// are taken apart, and nothing is counted for them.
+    /// are changed in their places, and nothing is counted for them.
     pub fn into_with(self, key: K, value: V) -> Result<Self, AllocError>
         ensures entries { IfOk result (λ m. m.entries ≡ put K.cmp key value self.entries) }
         ensures some_nodes { IfOk result (λ m. 0 < m.nodes_made) }

@@ -69,7 +69,7 @@ impl NodeMaker {
     }
 
     // The left side is two levels higher.
-    fn lean_left<K: Drop, V: Drop>(
+    pub(crate) fn lean_left<K: Drop, V: Drop>(
         &mut self,
         left: &Tree<K, V>,
         entry: &Arc<Entry<K, V>>,
@@ -99,7 +99,7 @@ impl NodeMaker {
     }
 
     // The right side is two levels higher.
-    fn lean_right<K: Drop, V: Drop>(
+    pub(crate) fn lean_right<K: Drop, V: Drop>(
         &mut self,
         left: &Tree<K, V>,
         entry: &Arc<Entry<K, V>>,

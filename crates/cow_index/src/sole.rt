@@ -1,6 +1,8 @@
-//! Insertions into a tree that is given up, and removals: a node that no other tree holds is taken
-//! apart, and any other is shared as ever.
-ghost use Rattle.std.specs.Prelude.{◌≡◌, ◌+◌, ◌*◌, ◌^◌, ◌<◌, ◌≤◌, IfOk, IfErr, OnOk, length, T};
+//! Insertions into a tree that is given up, and removals: a node that no other tree holds is changed in
+//! its place, and any other is shared as ever.
+ghost use Rattle.std.specs.Prelude.{◌≡◌, ◌+◌, ◌*◌, ◌^◌, ◌<◌, ◌≤◌, max, ◌∷◌, ◌++◌, IfOk, IfErr, OnOk, length, T};
+ghost use Rattle.std.specs.Arc.{arc_value};
+ghost use Rattle.cow_index.specs.Height.{DifferByAtMost, IsHeightAfterRebalance};
 ghost use Rattle.std.specs.FinMap.Entries.{put, is_sorted};
 ghost use Rattle.cow_index.specs.Tree.{pair_of, IsRoot};
 ghost use Rattle.cow_index.specs.NodeMaker.{MakesAtMost};
@@ -11,22 +13,145 @@ use crate::nodes::NodeMaker;
 use crate::tree::{Entry, Node, Tree};
 use std::alloc::AllocError;
 use std::cmp::Ordering;
+use std::mem::replace;
 use std::sync::Arc;
+
+/// The left side of a root, which is left with the empty tree there if no other tree holds it.
+fn take_left<K: Drop, V: Drop>(root: &mut Arc<Node<K, V>>) -> Result<Tree<K, V>, AllocError>
+    ensures left { IfOk result (λ t. t ≡ (arc_value root.old).left) }
+    ensures entry { (arc_value root.new).entry ≡ (arc_value root.old).entry }
+    ensures right { (arc_value root.new).right ≡ (arc_value root.old).right }
+{
+    match Arc::get_mut(root) {
+        Some(node) => Ok(replace(&mut node.left, Tree::new())),
+        None => root.left.share(),
+    }
+}
+
+/// The right side of a root, which is left with the empty tree there if no other tree holds it.
+fn take_right<K: Drop, V: Drop>(root: &mut Arc<Node<K, V>>) -> Result<Tree<K, V>, AllocError>
+    ensures right { IfOk result (λ t. t ≡ (arc_value root.old).right) }
+    ensures entry { (arc_value root.new).entry ≡ (arc_value root.old).entry }
+    ensures left { (arc_value root.new).left ≡ (arc_value root.old).left }
+{
+    match Arc::get_mut(root) {
+        Some(node) => Ok(replace(&mut node.right, Tree::new())),
+        None => root.right.share(),
+    }
+}
+
+impl NodeMaker {
+    /// As [`make`](NodeMaker::make), of a root with another left side, in its place if no other tree holds it.
+    fn put_left<K: Drop, V: Drop>(
+        &mut self,
+        mut root: Arc<Node<K, V>>,
+        left: Tree<K, V>,
+    ) -> Result<Tree<K, V>, AllocError>
+        requires level { DifferByAtMost 1 left.1 (arc_value root).right.1 }
+        requires fits { length left.0 + length (arc_value root).right.0 + 1 < 2 ^ 64 }
+        requires counts { self.old.made + 1 < 2 ^ 64 }
+        ensures entries { IfOk result (λ t. t.0 ≡ left.0 ++ pair_of (arc_value root).entry ∷ (arc_value root).right.0) }
+        ensures height { IfOk result (λ t. t.1 ≡ max left.1 (arc_value root).right.1 + 1) }
+        ensures counted { OnOk result (self.new.made ≡ self.old.made + 1) }
+        ensures few { MakesAtMost 1 self.old self.new }
+    {
+        let Some(node) = Arc::get_mut(&mut root) else {
+            return self.make(left, Arc::try_clone(&root.entry)?, root.right.share()?);
+        };
+        node.height = left.height().max(node.right.height()) + 1;
+        node.len = left.len() + node.right.len() + 1;
+        node.left = left;
+        self.made += 1;
+        Ok(Tree { root: Some(root) })
+    }
+
+    /// As [`make`](NodeMaker::make), of a root with another right side, in its place if no other tree holds it.
+    fn put_right<K: Drop, V: Drop>(
+        &mut self,
+        mut root: Arc<Node<K, V>>,
+        right: Tree<K, V>,
+    ) -> Result<Tree<K, V>, AllocError>
+        requires level { DifferByAtMost 1 (arc_value root).left.1 right.1 }
+        requires fits { length (arc_value root).left.0 + length right.0 + 1 < 2 ^ 64 }
+        requires counts { self.old.made + 1 < 2 ^ 64 }
+        ensures entries { IfOk result (λ t. t.0 ≡ (arc_value root).left.0 ++ pair_of (arc_value root).entry ∷ right.0) }
+        ensures height { IfOk result (λ t. t.1 ≡ max (arc_value root).left.1 right.1 + 1) }
+        ensures counted { OnOk result (self.new.made ≡ self.old.made + 1) }
+        ensures few { MakesAtMost 1 self.old self.new }
+    {
+        let Some(node) = Arc::get_mut(&mut root) else {
+            return self.make(root.left.share()?, Arc::try_clone(&root.entry)?, right);
+        };
+        node.height = node.left.height().max(right.height()) + 1;
+        node.len = node.left.len() + right.len() + 1;
+        node.right = right;
+        self.made += 1;
+        Ok(Tree { root: Some(root) })
+    }
+
+    /// As [`balance`](NodeMaker::balance), of a root with another left side.
+    pub(crate) fn balance_left<K: Drop, V: Drop>(
+        &mut self,
+        root: Arc<Node<K, V>>,
+        left: Tree<K, V>,
+    ) -> Result<Tree<K, V>, AllocError>
+        requires level { DifferByAtMost 2 left.1 (arc_value root).right.1 }
+        requires fits { length left.0 + length (arc_value root).right.0 + 1 < 2 ^ 64 }
+        requires counts { self.old.made + 3 < 2 ^ 64 }
+        ensures entries { IfOk result (λ t. t.0 ≡ left.0 ++ pair_of (arc_value root).entry ∷ (arc_value root).right.0) }
+        ensures height { IfOk result (λ t. IsHeightAfterRebalance left.1 (arc_value root).right.1 t.1) }
+        ensures some { OnOk result (self.old.made < self.new.made) }
+        ensures few { MakesAtMost 3 self.old self.new }
+    {
+        let (left_height, right_height) = (left.height(), root.right.height());
+        if left_height > right_height.saturating_add(1) {
+            self.lean_left(&left, &root.entry, &root.right)
+        } else if right_height > left_height.saturating_add(1) {
+            self.lean_right(&left, &root.entry, &root.right)
+        } else {
+            self.put_left(root, left)
+        }
+    }
+
+    /// As [`balance`](NodeMaker::balance), of a root with another right side.
+    pub(crate) fn balance_right<K: Drop, V: Drop>(
+        &mut self,
+        root: Arc<Node<K, V>>,
+        right: Tree<K, V>,
+    ) -> Result<Tree<K, V>, AllocError>
+        requires level { DifferByAtMost 2 (arc_value root).left.1 right.1 }
+        requires fits { length (arc_value root).left.0 + length right.0 + 1 < 2 ^ 64 }
+        requires counts { self.old.made + 3 < 2 ^ 64 }
+        ensures entries { IfOk result (λ t. t.0 ≡ (arc_value root).left.0 ++ pair_of (arc_value root).entry ∷ right.0) }
+        ensures height { IfOk result (λ t. IsHeightAfterRebalance (arc_value root).left.1 right.1 t.1) }
+        ensures some { OnOk result (self.old.made < self.new.made) }
+        ensures few { MakesAtMost 3 self.old self.new }
+    {
+        let (left_height, right_height) = (root.left.height(), right.height());
+        if left_height > right_height.saturating_add(1) {
+            self.lean_left(&root.left, &root.entry, &right)
+        } else if right_height > left_height.saturating_add(1) {
+            self.lean_right(&root.left, &root.entry, &right)
+        } else {
+            self.put_right(root, right)
+        }
+    }
+}
 
 impl<K: Drop, V: Drop> Tree<K, V> {
     /// The node at the root, where no other tree holds it, and else the tree again.
-    fn into_node(self) -> Result<Node<K, V>, Tree<K, V>>
-        ensures root { IfOk result (λ n. IsRoot self n) }
+    fn into_sole(self) -> Result<Arc<Node<K, V>>, Tree<K, V>>
+        ensures root { IfOk result (λ a. IsRoot self (arc_value a)) }
         ensures same { IfErr result (λ t. t ≡ self) }
     {
         let Tree { root } = self;
         let Some(root) = root else {
             return Err(Tree::new());
         };
-        match Arc::try_unwrap(root) {
-            Ok(node) => Ok(node),
-            Err(root) => Err(Tree { root: Some(root) }),
+        if Arc::strong_count(&root) != 1 {
+            return Err(Tree { root: Some(root) });
         }
+        Ok(root)
     }
 }
 
@@ -45,21 +170,23 @@ impl<K: IndexKey, V: Drop> Tree<K, V> {
         ensures some { OnOk result (nodes.old.made < nodes.new.made) }
         ensures few { MakesAtMost (3 * self.1 + 1) nodes.old nodes.new }
     {
-        let node = match self.into_node() {
-            Ok(node) => node,
+        let mut root = match self.into_sole() {
+            Ok(root) => root,
             Err(tree) => return tree.insert(entry, nodes),
         };
         let new: &Entry<K, V> = &entry;
-        match node.compare(&new.key) {
+        match root.compare(&new.key) {
             Ordering::Less => {
-                let left = node.left.into_with(entry, nodes)?;
-                nodes.balance(left, node.entry, node.right)
+                let side = take_left(&mut root)?;
+                let left = side.into_with(entry, nodes)?;
+                nodes.balance_left(root, left)
             }
             Ordering::Greater => {
-                let right = node.right.into_with(entry, nodes)?;
-                nodes.balance(node.left, node.entry, right)
+                let side = take_right(&mut root)?;
+                let right = side.into_with(entry, nodes)?;
+                nodes.balance_right(root, right)
             }
-            Ordering::Equal => nodes.make(node.left, entry, node.right),
+            Ordering::Equal => nodes.make(root.left.share()?, entry, root.right.share()?),
         }
     }
 
@@ -71,20 +198,22 @@ impl<K: IndexKey, V: Drop> Tree<K, V> {
         ensures height { IfOk result (λ t. (t.1 ≤ self.1) × (self.1 ≤ t.1 + 1)) }
         ensures few { MakesAtMost (3 * self.1) nodes.old nodes.new }
     {
-        let node = match self.into_node() {
-            Ok(node) => node,
+        let mut root = match self.into_sole() {
+            Ok(root) => root,
             Err(tree) => return tree.remove(key, nodes),
         };
-        match node.compare(key) {
+        match root.compare(key) {
             Ordering::Less => {
-                let left = node.left.into_without(key, nodes)?;
-                nodes.balance(left, node.entry, node.right)
+                let side = take_left(&mut root)?;
+                let left = side.into_without(key, nodes)?;
+                nodes.balance_left(root, left)
             }
             Ordering::Greater => {
-                let right = node.right.into_without(key, nodes)?;
-                nodes.balance(node.left, node.entry, right)
+                let side = take_right(&mut root)?;
+                let right = side.into_without(key, nodes)?;
+                nodes.balance_right(root, right)
             }
-            Ordering::Equal => nodes.join(&node.left, &node.right),
+            Ordering::Equal => nodes.join(&root.left, &root.right),
         }
     }
 }
