@@ -4,3 +4,11 @@ pub mod Marked
 pub mod InOrder
 pub mod Ranked
 pub mod Crossing
+pub mod Putting
+pub mod Pieces
+pub mod Rowed
+pub mod Grown
+pub mod Walked
+pub mod Stripped
+pub mod Grafts
+pub mod Ends

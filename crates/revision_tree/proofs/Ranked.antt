@@ -7,12 +7,12 @@ use Rattle.std.specs.Option.{option_or}
 use Rattle.std.specs.declared.cmp.Ordering.TheVariants.{Less}
 use Rattle.std.proofs.lemmas.Bool.{and_parts, and_from, not-true}
 use Rattle.std.proofs.lemmas.Option.{none-some}
-use Rattle.std.proofs.lemmas.List.{map-append}
-use Rattle.std.proofs.lemmas.List.Elements.{All-map, All-weaker, filter_passes, Contains-append_left, Contains-append_right, Contains-append_cases}
+use Rattle.std.proofs.lemmas.List.{map-append, reverse-append}
+use Rattle.std.proofs.lemmas.List.Elements.{All-map, All-weaker, filter_passes, filter-append, Contains-append_left, Contains-append_right, Contains-append_cases}
 use Rattle.std.proofs.lemmas.List.Kept.{AllPairs-filter}
 use Rattle.model.specs.Lists.{first_of}
 use Rattle.model.specs.Map.{IsRising}
-use Rattle.model.specs.Revision.{rev_cmp}
+use Rattle.model.specs.Revision.{Rev, rev_cmp}
 use Rattle.model.specs.Tree.{Leaf, IsLeafOf, leaf_cmp, leaves, has_child, is_deleted, ranks, winner, revs_of}
 use Rattle.model.proofs.ListLaws.{by_cases, Contains-map, Contains-filter, source_of}
 use Rattle.model.proofs.TreeLaws.{flag_in, childless_leaf, leaf_childless, leaf_known}
@@ -140,6 +140,32 @@ same_or (Some a) b = refl
 
 abbrev pub greatest_of : Bool → List Node → Option Found
 greatest_of d nodes = option_map found_of (find_list (is_wanted d) (reverse nodes))
+
+find-append : (p : Node → Bool) (xs ys : List Node) → find_list p (xs ++ ys) ≡ option_or (find_list p xs) (find_list p ys)
+find-append p [] ys = refl
+find-append p (x ∷ xs) ys = at (p x) (find-append p xs ys)
+  where
+    at : (b : Bool) → find_list p (xs ++ ys) ≡ option_or (find_list p xs) (find_list p ys) → cond b (Some x) (find_list p (xs ++ ys)) ≡ option_or (cond b (Some x) (find_list p xs)) (find_list p ys)
+    at true h = refl
+    at false h = h
+
+map_or : (a b : Option Node) → option_map found_of (option_or a b) ≡ option_or (option_map found_of a) (option_map found_of b)
+map_or None b = refl
+map_or (Some x) b = refl
+
+-- the later nodes first
+pub greatest_of-append : (d : Bool) (xs ys : List Node) → greatest_of d (xs ++ ys) ≡ option_or (greatest_of d ys) (greatest_of d xs)
+greatest_of-append d xs ys =
+    ap (λ ns. option_map found_of (find_list (is_wanted d) ns)) (reverse-append xs ys) ∙ ap (option_map found_of) (find-append (is_wanted d) (reverse ys) (reverse xs))
+    ∙ map_or (find_list (is_wanted d) (reverse ys)) (find_list (is_wanted d) (reverse xs))
+
+abbrev pub revs_half : Bool → List Node → List Rev
+revs_half d ns = map (λ n. n.rev) (filter (is_wanted d) (reverse ns))
+
+pub revs_half-append : (d : Bool) (xs ys : List Node) → revs_half d (xs ++ ys) ≡ revs_half d ys ++ revs_half d xs
+revs_half-append d xs ys =
+    ap (λ ns. map (λ (n : Node). n.rev) (filter (is_wanted d) ns)) (reverse-append xs ys) ∙ ap (map (λ (n : Node). n.rev)) (filter-append (is_wanted d) (reverse ys) (reverse xs))
+    ∙ map-append (λ (n : Node). n.rev) (filter (is_wanted d) (reverse ys)) (filter (is_wanted d) (reverse xs))
 
 -- the winner is the greatest live leaf, or else the greatest leaf
 module _ (nodes : List Node) (h : IsNodes nodes) (live : Option Found) (p : live ≡ greatest_of false nodes) where

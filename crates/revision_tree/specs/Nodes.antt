@@ -16,6 +16,16 @@ entry_of n = (n.rev, record { parent = n.parent; deleted = n.deleted; body = opt
 abbrev pub entries_of : List Node → List (Rev × Revision)
 entries_of nodes = map entry_of nodes
 
+-- the same with the mark of a parent
+abbrev pub Row : Type 0
+Row = Rev × (Revision × Bool)
+
+abbrev pub row_of : Node → Row
+row_of n = (n.rev, ((entry_of n).1, n.inner))
+
+abbrev pub rows_of : List Node → List Row
+rows_of nodes = map row_of nodes
+
 abbrev pub tree_of : List Node → Tree
 tree_of nodes = from_list (entries_of nodes)
 

@@ -1,12 +1,15 @@
 //! The leaves of a tree in the winner's order.
-ghost use Rattle.std.specs.Prelude.{◌≡◌, Some, IfOk, map, filter, reverse, option_map};
+ghost use Rattle.std.specs.Prelude.{◌≡◌, Some, IfOk, ◌++◌, map, filter, reverse, option_map};
 ghost use Rattle.std.specs.List.{find};
 ghost use Rattle.model.specs.Tree.{leaves as ranked, winner as winning, revs_of};
-ghost use Rattle.revision_tree.specs.Nodes.{IsNodes, is_wanted, tree_of};
+ghost use Rattle.revision_tree.specs.Nodes.{is_wanted, tree_of};
+ghost use Rattle.revision_tree.specs.Rows.{IsRows, joined, lists_of, nodes_of};
 
 use crate::node::Node;
+use crate::rows::Rows;
 use revision_id::RevId;
 use std::alloc::{AllocError, Global};
+use std::sync::Arc;
 
 /// A revision that is the parent of none.
 #[derive(Debug, Clone, Copy, PartialEq, Eq, Drop)]
@@ -15,21 +18,42 @@ pub struct Leaf {
     pub rev: RevId,
 }
 
-pub(crate) fn winner_of(nodes: &[Node]) -> Leaf
-    requires { IsNodes nodes.now }
-    ensures { winning (tree_of nodes.now) ≡ Some (record { deleted = result.deleted; rev = result.rev }) }
+pub(crate) fn winner_of(rows: &Rows) -> Leaf
+    requires { IsRows rows.now }
+    ensures { winning (tree_of (nodes_of rows.now)) ≡ Some (record { deleted = result.deleted; rev = result.rev }) }
 {
-    if let Some(live) = greatest(nodes, false) {
+    if let Some(live) = greatest(rows, false) {
         return live;
     }
-    match greatest(nodes, true) {
+    match greatest(rows, true) {
         Some(leaf) => leaf,
         None => unreachable!(),
     }
 }
 
 /// The greatest leaf with this flag.
-fn greatest(nodes: &[Node], deleted: bool) -> Option<Leaf>
+fn greatest(rows: &Rows, deleted: bool) -> Option<Leaf>
+    ensures { result ≡ option_map (λ n. record { deleted = n.deleted; rev = n.rev }) (find (is_wanted deleted) (reverse (nodes_of rows.now))) }
+{
+    if let Some(leaf) = greatest_among(&rows.last, deleted) {
+        return Some(leaf);
+    }
+    greatest_in(&rows.older, deleted)
+}
+
+/// The greatest leaf with this flag in the pieces.
+fn greatest_in(pieces: &[Arc<Vec<Node>>], deleted: bool) -> Option<Leaf>
+    ensures { result ≡ option_map (λ n. record { deleted = n.deleted; rev = n.rev }) (find (is_wanted deleted) (reverse (joined (lists_of pieces.now)))) }
+{
+    for place in (0..pieces.len()).rev() {
+        if let Some(leaf) = greatest_among(&pieces[place], deleted) {
+            return Some(leaf);
+        }
+    }
+    None
+}
+
+fn greatest_among(nodes: &[Node], deleted: bool) -> Option<Leaf>
     ensures { result ≡ option_map (λ n. record { deleted = n.deleted; rev = n.rev }) (find (is_wanted deleted) (reverse nodes.now)) }
 {
     nodes
@@ -42,14 +66,42 @@ fn greatest(nodes: &[Node], deleted: bool) -> Option<Leaf>
         })
 }
 
-pub(crate) fn leaves_of(alloc: Global, nodes: &[Node]) -> Result<Vec<RevId>, AllocError>
-    requires { IsNodes nodes.now }
-    ensures { IfOk result (λ revs. revs.items ≡ revs_of (ranked (tree_of nodes.now))) }
+pub(crate) fn leaves_of(alloc: Global, rows: &Rows) -> Result<Vec<RevId>, AllocError>
+    requires { IsRows rows.now }
+    ensures { IfOk result (λ revs. revs.items ≡ revs_of (ranked (tree_of (nodes_of rows.now)))) }
 {
-    let mut leaves = marked(alloc, nodes, false)?;
-    let deleted = marked(alloc, nodes, true)?;
-    leaves.extend_from_slice(&deleted)?;
+    let mut leaves = Vec::new(alloc);
+    add_marked(alloc, &mut leaves, rows, false)?;
+    add_marked(alloc, &mut leaves, rows, true)?;
     Ok(leaves)
+}
+
+/// Adds the leaves with this flag, the greatest first.
+fn add_marked(
+    alloc: Global,
+    leaves: &mut Vec<RevId>,
+    rows: &Rows,
+    deleted: bool,
+) -> Result<(), AllocError>
+    ensures { IfOk result (λ _. leaves.new.items ≡ leaves.old.items ++ map (λ n. n.rev) (filter (is_wanted deleted) (reverse (nodes_of rows.now)))) }
+{
+    add_among(alloc, leaves, &rows.last, deleted)?;
+    for place in (0..rows.older.len()).rev() {
+        add_among(alloc, leaves, &rows.older[place], deleted)?;
+    }
+    Ok(())
+}
+
+fn add_among(
+    alloc: Global,
+    leaves: &mut Vec<RevId>,
+    nodes: &[Node],
+    deleted: bool,
+) -> Result<(), AllocError>
+    ensures { IfOk result (λ _. leaves.new.items ≡ leaves.old.items ++ map (λ n. n.rev) (filter (is_wanted deleted) (reverse nodes.now))) }
+{
+    let more = marked(alloc, nodes, deleted)?;
+    leaves.extend_from_slice(&more)
 }
 
 /// The leaves with this flag, the greatest first.

@@ -1,12 +1,21 @@
 //! The tree of a document's revisions.
 #![tactic(auto)]
 
+mod growth;
 mod leaf;
 mod marks;
 mod node;
+mod place;
+mod put;
+mod rows;
 mod search;
+mod strip;
 mod tree;
+mod walk;
+mod whole;
 
 pub use leaf::Leaf;
 pub use node::Node;
+pub use search::place_among;
 pub use tree::RevTree;
+pub use walk::Nodes;

@@ -1,7 +1,7 @@
 //! A revision in the list that a tree is made of.
 ghost use Rattle.std.specs.Prelude.{◌≡◌, option_map, IfOk};
 ghost use Rattle.std.specs.Arc.{arc_value};
-ghost use Rattle.revision_tree.specs.Nodes.{entry_of};
+ghost use Rattle.revision_tree.specs.Nodes.{entry_of, row_of};
 
 use json_profile::Body;
 use revision_id::RevId;
@@ -36,10 +36,16 @@ impl Node {
 
     /// The same again, with the same body. It takes no memory, but is refused at the largest count of a body's owners.
     pub fn share(&self) -> Result<Node, AllocError>
-        ensures { IfOk result (λ node. entry_of node ≡ entry_of self.now) }
+        ensures entry { IfOk result (λ node. entry_of node ≡ entry_of self.now) }
+        ensures row { IfOk result (λ node. row_of node ≡ row_of self.now) }
     {
-        let body = shared(&self.body)?;
-        Ok(Node::new(self.rev, self.parent, self.deleted, body))
+        Ok(Node {
+            rev: self.rev,
+            parent: self.parent,
+            deleted: self.deleted,
+            body: shared(&self.body)?,
+            inner: self.inner,
+        })
     }
 }
 

@@ -1,15 +1,20 @@
 //! Look-ups among the nodes, which ascend.
-ghost use Rattle.std.specs.Prelude.{◌≡◌, ◌<◌, true, IsTrue, IfOk, IfSome, length, slice_index_or, is_some, option_map, option_and_then};
+ghost use Rattle.std.specs.Prelude.{◌≡◌, ◌<◌, true, IsTrue, IfOk, IfSome, length, slice_index_or, is_some, Contains, option_map, option_and_then};
 ghost use Rattle.model.specs.Map.{get};
 ghost use Rattle.model.specs.Tree.{knows, ancestors, has_child, parent_of};
-ghost use Rattle.revision_tree.specs.Nodes.{IsNodes, IsSorted, IsPlaceOf, entry_of, tree_of};
+ghost use Rattle.std.specs.FinMap.Entries.{find};
+ghost use Rattle.model.specs.Revision.{rev_cmp};
+ghost use Rattle.revision_tree.specs.Nodes.{IsSorted, IsPlaceOf, entry_of, row_of, rows_of, tree_of};
+ghost use Rattle.revision_tree.specs.Rows.{AreFilled, IsRows, lists_of, nodes_of};
 
 use crate::node::Node;
+use crate::place::piece_of;
+use crate::rows::Rows;
 use revision_id::RevId;
 use std::alloc::{AllocError, Global};
 
-/// The place of a revision.
-pub(crate) fn place_among(nodes: &[Node], rev: RevId) -> Option<usize>
+/// The place of a revision among nodes, which ascend.
+pub fn place_among(nodes: &[Node], rev: RevId) -> Option<usize>
     requires { IsSorted nodes.now }
     ensures known { is_some result ≡ knows (tree_of nodes.now) rev }
     ensures place { IfSome result (λ i. IsPlaceOf nodes.now rev i) }
@@ -38,32 +43,47 @@ fn place_by_generation(nodes: &[Node], rev: RevId) -> Option<usize>
     None
 }
 
-pub(crate) fn node_of(nodes: &[Node], rev: RevId) -> Option<&Node>
-    requires { IsNodes nodes.now }
-    ensures found { option_map (λ n. (entry_of n.now).1) result ≡ get (tree_of nodes.now) rev }
-    ensures inner { IfSome result (λ n. n.now.inner ≡ has_child (tree_of nodes.now) rev) }
+/// The node of a revision among all of them.
+pub(crate) fn among(rows: &Rows, rev: RevId) -> Option<&Node>
+    requires sorted { IsSorted (nodes_of rows.now) }
+    requires filled { AreFilled (lists_of rows.now.older.items) }
+    ensures found { option_map (λ n. (row_of n.now).1) result ≡ find rev_cmp rev (rows_of (nodes_of rows.now)) }
+    ensures listed { IfSome result (λ n. Contains (nodes_of rows.now) n.now) }
+    ensures rev { IfSome result (λ n. n.now.rev ≡ rev) }
 {
-    Some(&nodes[place_among(nodes, rev)?])
+    let piece = piece_of(rows, rev);
+    let Some(place) = place_among(piece, rev) else {
+        return None;
+    };
+    Some(&piece[place])
 }
 
-pub(crate) fn parent_in(nodes: &[Node], rev: RevId) -> Option<RevId>
-    requires { IsNodes nodes.now }
-    ensures { result ≡ parent_of (tree_of nodes.now) rev }
+pub(crate) fn node_of(rows: &Rows, rev: RevId) -> Option<&Node>
+    requires { IsRows rows.now }
+    ensures found { option_map (λ n. (entry_of n.now).1) result ≡ get (tree_of (nodes_of rows.now)) rev }
+    ensures inner { IfSome result (λ n. n.now.inner ≡ has_child (tree_of (nodes_of rows.now)) rev) }
 {
-    node_of(nodes, rev)?.parent
+    among(rows, rev)
+}
+
+pub(crate) fn parent_in(rows: &Rows, rev: RevId) -> Option<RevId>
+    requires { IsRows rows.now }
+    ensures { result ≡ parent_of (tree_of (nodes_of rows.now)) rev }
+{
+    node_of(rows, rev)?.parent
 }
 
 /// A known revision and the known ones above it, newest first.
-pub(crate) fn path_from(alloc: Global, nodes: &[Node], rev: RevId) -> Result<Vec<RevId>, AllocError>
-    requires nodes { IsNodes nodes.now }
-    requires known { knows (tree_of nodes.now) rev ≡ true }
-    ensures { IfOk result (λ path. path.items ≡ ancestors (tree_of nodes.now) (Some rev)) }
+pub(crate) fn path_from(alloc: Global, rows: &Rows, rev: RevId) -> Result<Vec<RevId>, AllocError>
+    requires rows { IsRows rows.now }
+    requires known { knows (tree_of (nodes_of rows.now)) rev ≡ true }
+    ensures { IfOk result (λ path. path.items ≡ ancestors (tree_of (nodes_of rows.now)) (Some rev)) }
 {
     let mut path = Vec::new(alloc);
     let mut next = Some(rev);
     while let Some(rev) = next {
         path.push(rev)?;
-        next = parent_in(nodes, rev);
+        next = parent_in(rows, rev);
     }
     Ok(path)
 }

@@ -1,15 +1,25 @@
 //! The tree.
-ghost use Rattle.std.specs.Prelude.{◌≡◌, ◌<◌, Some, IfOk, IfSome, length, is_some, slice_index_or, option_map};
+ghost use Rattle.std.specs.Prelude.{◌≡◌, ◌≤◌, Some, true, IfOk, All, length, min, option_map, option_copied, unwrap_or};
 ghost use Rattle.std.specs.Arc.{arc_value};
-ghost use Rattle.model.specs.Map.{entries};
-ghost use Rattle.model.specs.Revision.{Rev};
-ghost use Rattle.model.specs.Tree.{Tree, Revision, knows as is_known, parent_of as known_parent, is_leaf as is_known_leaf, body_of as kept_body, is_deleted as is_known_deleted, path_of as path_to, leaves as ranked, winner as winning, revs_of};
-ghost use Rattle.revision_tree.specs.Nodes.{IsListOf, entries_of};
+ghost use Rattle.model.specs.Map.{empty, entries};
+ghost use Rattle.model.specs.Body.{IsBody};
+ghost use Rattle.model.specs.Revision.{Rev, IsRev};
+ghost use Rattle.model.specs.Tree.{Tree, IsTree, IsInRange, knows as is_known, parent_of as known_parent, is_leaf as is_known_leaf, body_of as kept_body, is_deleted as is_known_deleted, path_of as path_to, leaves as ranked, winner as winning, revs_of};
+ghost use Rattle.model.specs.TreeChange.{IsPath, agrees as is_agreed, grafted as grafting, strip as stripping};
+ghost use Rattle.revision_tree.specs.Nodes.{IsListOf, entries_of, tree_of};
+ghost use Rattle.revision_tree.specs.Growth.{AreGround};
+ghost use Rattle.revision_tree.specs.Rows.{AreFilled, lists_of, nodes_of};
+ghost use Rattle.revision_tree.specs.Walk.{left_of};
 
+use crate::growth::grow;
 use crate::leaf::{Leaf, leaves_of, winner_of};
 use crate::marks::mark;
 use crate::node::Node;
-use crate::search::{node_of, parent_in, path_from, place_among};
+use crate::rows::Rows;
+use crate::search::{node_of, parent_in, path_from};
+use crate::strip::stripped;
+use crate::walk::Nodes;
+use crate::whole::{all, count, first, last, pieces_of};
 use json_profile::Body;
 use revision_id::RevId;
 use std::alloc::{AllocError, Global};
@@ -19,8 +29,7 @@ use std::sync::Arc;
 /// The revisions of a document: at least one, each with its parent where that is known, and each leaf with its body.
 #[derive(Drop)]
 pub struct RevTree {
-    /// In ascending order.
-    nodes: Vec<Node>,
+    rows: Rows,
 }
 
 impl Model for RevTree {
@@ -30,79 +39,134 @@ impl Model for RevTree {
 
     ghost coded = { coded_tree };
 
-    ghost use Rattle.revision_tree.specs.Nodes.{tree_of, IsNodes};
+    ghost use Rattle.revision_tree.specs.Nodes.{tree_of};
+    ghost use Rattle.revision_tree.specs.Rows.{nodes_of, IsRows};
 
-    ghost view = { λ t. tree_of t.nodes.items };
+    ghost view = { λ t. tree_of (nodes_of t.rows) };
 
-    ghost invariant = { λ t. IsNodes t.nodes.items };
+    ghost invariant = { λ t. IsRows t.rows };
 }
 
 impl RevTree {
     /// The tree that has just these revisions, which ascend.
-    pub fn from_nodes(nodes: Vec<Node>) -> RevTree
+    pub fn from_nodes(alloc: Global, nodes: Vec<Node>) -> Result<RevTree, AllocError>
         requires { (t : Tree) × IsListOf nodes.items t }
-        ensures { (t : Tree) → entries t ≡ entries_of nodes.items → result ≡ t }
+        ensures { (t : Tree) → entries t ≡ entries_of nodes.items → IfOk result (λ made. made ≡ t) }
     {
         let mut nodes = nodes;
         mark(&mut nodes);
-        RevTree { nodes }
+        Ok(RevTree {
+            rows: pieces_of(alloc, nodes)?,
+        })
+    }
+
+    /// The tree, or the empty one, with the members of a path that agrees with it, each next one the parent of the one
+    /// before, and with the body and the flag for the newest where it has no body. Shares what stands apart from these.
+    pub fn grafted(
+        alloc: Global,
+        tree: Option<&RevTree>,
+        path: &[RevId],
+        body: Arc<Body>,
+        deleted: bool,
+    ) -> Result<RevTree, AllocError>
+        requires path { IsPath path.now }
+        requires revs { All IsRev path.now }
+        requires body { IsBody (arc_value body) }
+        requires agrees { is_agreed (unwrap_or (option_copied tree) empty) path.now ≡ true }
+        ensures { IfOk result (λ t. t ≡ grafting path.now (arc_value body) deleted (unwrap_or (option_copied tree.entry) empty)) }
+    {
+        let mut rows = ground(alloc, tree)?;
+        grow(alloc, &mut rows, path, body, deleted)?;
+        Ok(RevTree { rows })
+    }
+
+    /// The tree with the bodies of its leaves alone.
+    pub fn stripped(&self, alloc: Global) -> Result<RevTree, AllocError>
+        ensures { IfOk result (λ t. t ≡ stripping self.now) }
+    {
+        Ok(RevTree {
+            rows: stripped(alloc, &self.rows)?,
+        })
     }
 
     /// The revisions, in ascending order.
-    pub fn nodes(&self) -> &[Node]
-        ensures { IsListOf result.now self.now }
+    pub fn nodes(&self) -> Nodes<'_>
+        ensures { IsListOf (left_of result) self.now }
     {
-        &self.nodes
+        Nodes::all(&self.rows)
     }
 
-    /// The place of a revision among them.
-    pub fn place_of(&self, rev: RevId) -> Option<usize>
-        ensures known { is_some result ≡ is_known self.now rev }
-        ensures place { IfSome result (λ i. (i < length (entries self.now)) × ((e : Rev × Revision) → (slice_index_or (entries self.now) i e).0 ≡ rev)) }
+    /// The same again in a list.
+    pub fn listed(&self, alloc: Global) -> Result<Vec<Node>, AllocError>
+        ensures { IfOk result (λ nodes. IsListOf nodes.items self.now) }
     {
-        place_among(&self.nodes, rev)
+        all(alloc, &self.rows)
+    }
+
+    /// How many revisions there are, up to the greatest number.
+    pub fn count(&self) -> usize
+        ensures { result ≡ min (length (entries self.now)) usize.MAX }
+    {
+        count(&self.rows)
+    }
+
+    /// A revision that none is older than.
+    pub fn oldest(&self) -> RevId
+        ensures tree { IsTree self.now }
+        ensures known { is_known self.now result ≡ true }
+        ensures oldest { (r : Rev) → is_known self.now r ≡ true → result.generation ≤ r.generation }
+    {
+        first(&self.rows)
+    }
+
+    /// A revision that none is younger than.
+    pub fn newest(&self) -> RevId
+        ensures known { is_known self.now result ≡ true }
+        ensures newest { (r : Rev) → is_known self.now r ≡ true → r.generation ≤ result.generation }
+    {
+        last(&self.rows)
     }
 
     /// Whether it is a revision of the tree.
     pub fn knows(&self, rev: RevId) -> bool
         ensures { result ≡ is_known self.now rev }
     {
-        node_of(&self.nodes, rev).is_some()
+        node_of(&self.rows, rev).is_some()
     }
 
     /// Whether it is known, and the parent of none.
     pub fn is_leaf(&self, rev: RevId) -> bool
         ensures { result ≡ is_known_leaf self.now rev }
     {
-        node_of(&self.nodes, rev).is_some_and(|node| !node.inner)
+        node_of(&self.rows, rev).is_some_and(|node| !node.inner)
     }
 
     /// The parent of a revision, where both are known.
     pub fn parent_of(&self, rev: RevId) -> Option<RevId>
         ensures { result ≡ known_parent self.now rev }
     {
-        parent_in(&self.nodes, rev)
+        parent_in(&self.rows, rev)
     }
 
     /// Whether it is known, and a deletion.
     pub fn is_deleted(&self, rev: RevId) -> bool
         ensures { result ≡ is_known_deleted self.now rev }
     {
-        node_of(&self.nodes, rev).is_some_and(|node| node.deleted)
+        node_of(&self.rows, rev).is_some_and(|node| node.deleted)
     }
 
     /// The first of the leaves.
     pub fn winner(&self) -> Leaf
         ensures { winning self.now ≡ Some (record { deleted = result.deleted; rev = result.rev }) }
     {
-        winner_of(&self.nodes)
+        winner_of(&self.rows)
     }
 
     /// The leaves: the live ones before the deleted ones, and of each the greatest first.
     pub fn leaves(&self, alloc: Global) -> Result<Vec<RevId>, AllocError>
         ensures { IfOk result (λ revs. revs.items ≡ revs_of (ranked self.now)) }
     {
-        leaves_of(alloc, &self.nodes)
+        leaves_of(alloc, &self.rows)
     }
 
     /// The known path of a revision, newest first, and nothing of one that isn't known.
@@ -112,13 +176,26 @@ impl RevTree {
         if !self.knows(rev) {
             return Ok(Vec::new(alloc));
         }
-        path_from(alloc, &self.nodes, rev)
+        path_from(alloc, &self.rows, rev)
     }
 
     /// The body of a revision, where it is kept.
     pub fn body_of(&self, rev: RevId) -> Option<&Arc<Body>>
         ensures { option_map (λ b. arc_value b.now) result ≡ kept_body self.now rev }
     {
-        node_of(&self.nodes, rev)?.body.as_ref()
+        node_of(&self.rows, rev)?.body.as_ref()
+    }
+}
+
+/// The nodes of a tree, shared, and none of no tree.
+fn ground(alloc: Global, tree: Option<&RevTree>) -> Result<Rows, AllocError>
+    ensures ground { IfOk result (λ r. AreGround (nodes_of r)) }
+    ensures tree { IfOk result (λ r. tree_of (nodes_of r) ≡ unwrap_or (option_copied tree.entry) empty) }
+    ensures range { IfOk result (λ r. IsInRange (tree_of (nodes_of r))) }
+    ensures filled { IfOk result (λ r. AreFilled (lists_of r.older.items)) }
+{
+    match tree {
+        Some(tree) => tree.rows.share(alloc),
+        None => Ok(Rows::new(alloc)),
     }
 }

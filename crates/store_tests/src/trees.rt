@@ -83,7 +83,7 @@ fn conflicts_are_listed_from_the_greatest(rt: HostRuntime) -> Result<(), Fail> {
     let tree = with_one(alloc, None, first, false)?;
     let tree = with_one(alloc, Some(&tree), second, false)?;
     assert_eq!(rt; tree.leaves(alloc)?.as_slice(), [second, first].as_slice());
-    assert!(rt; tree.is_leaf(first) && tree.knows(second) && tree.place_of(second) == Some(1));
+    assert!(rt; tree.is_leaf(first) && tree.knows(second) && tree.count() == 2);
     Ok(())
 }
 

@@ -1,11 +1,14 @@
 -- Two trees compared node by node.
-use Rattle.std.specs.Prelude.{◌≡◌, ◌↔◌, ℕ, zero, suc, ◌+◌, ◌<◌, ◌≤◌, ◌&&◌, Bool, true, false, List, [], ◌∷◌, length, get_or, drop, refl}
-use Rattle.std.proofs.Common.{sym, ap, ◌∙◌, arith, add-one}
+use Rattle.std.specs.Prelude.{◌≡◌, ◌↔◌, ℕ, min, ◌&&◌, Bool, true, false, List, [], ◌∷◌, length, not, Option, Some, None, is_some, MatchOption, refl}
+use Rattle.std.specs.Borrow.{Bor}
+use Rattle.std.proofs.Common.{sym, ap, ◌∙◌, arith}
 use Rattle.std.specs.Cmp.{both_ways}
 use Rattle.std.specs.Cmp.Lexicographic.{pointwise}
-use Rattle.std.proofs.lemmas.Bool.{and_right}
+use Rattle.std.proofs.lemmas.Bool.{and_right, true≢false}
 use Rattle.model.specs.Body.{Body, same_body}
-use Rattle.model.specs.Tree.{Tree}
+use Rattle.model.specs.Map.{entries}
+use Rattle.model.specs.Revision.{Rev}
+use Rattle.model.specs.Tree.{Tree, Revision}
 use Rattle.model.specs.Database.{same_tree, same_entry}
 use Rattle.model.proofs.SameLaws.{same_body-equal}
 use Rattle.revision_tree.specs.declared.node.Node.{Node}
@@ -21,31 +24,38 @@ pub compared : (s t : Tree) (xs ys : List Node) → IsListOf xs s → IsListOf y
 unfolding same_tree
 compared s t xs ys g h = λ i. pointwise same_entry (g.entries i) (h.entries i)
 
-pub alike_long : (xs ys : List Node) → (length xs ≡ length ys → ⊥) → Alike xs ys ≡ false
-alike_long [] [] h = absurd (h refl)
-alike_long [] (y ∷ ys) h = refl
-alike_long (x ∷ xs) [] h = refl
-alike_long (x ∷ xs) (y ∷ ys) h = and_right (same_entry (entry_of x) (entry_of y)) (Alike xs ys) (alike_long xs ys (λ e. h (omega (arith, e))))
+-- trees that are counted differently
+pub counted_apart : (s t : Tree) (a b most : ℕ) → a ≡ min (length (entries s)) most → b ≡ min (length (entries t)) most → (a ≡ b → ⊥) → same_tree s t ≡ false
+unfolding same_tree
+counted_apart s t a b most e f h = long (entries s) (entries t) (λ k. h (e ∙ ap (λ n. min n most) k ∙ sym f))
+  where
+    long : (xs ys : List (Rev × Revision)) → (length xs ≡ length ys → ⊥) → pointwise same_entry xs ys ≡ false
+    long [] [] h = absurd (h refl)
+    long [] (y ∷ ys) h = refl
+    long (x ∷ xs) [] h = refl
+    long (x ∷ xs) (y ∷ ys) h = and_right (same_entry x y) (pointwise same_entry xs ys) (long xs ys (λ e. h (omega (arith, e))))
 
-pub alike_at : (xs ys : List Node) (i : ℕ) (m n : Node) → i < length xs → i < length ys → m ≡ get_or xs i m → n ≡ get_or ys i n
-    → Alike (drop i xs) (drop i ys) ≡ (same_entry (entry_of m) (entry_of n) && Alike (drop (suc i) xs) (drop (suc i) ys))
-alike_at [] ys i m n lt below is at = absurd (omega arith)
-alike_at (x ∷ xs) [] i m n lt below is at = absurd (omega arith)
-alike_at (x ∷ xs) (y ∷ ys) zero m n lt below is at = λ j. same_entry (entry_of (sym is j)) (entry_of (sym at j)) && Alike xs ys
-alike_at (x ∷ xs) (y ∷ ys) (suc i) m n lt below is at = alike_at xs ys i m n (omega arith) (omega arith) is at
+pub alike_next : (xs ys ms ns : List Node) (m n : Node) → xs ≡ m ∷ ms → ys ≡ n ∷ ns → Alike xs ys ≡ (same_entry (entry_of m) (entry_of n) && Alike ms ns)
+alike_next xs ys ms ns m n e f = λ i. Alike (e i) (f i)
 
-pub alike_end : (xs ys : List Node) (i : ℕ) → length xs ≡ length ys → length xs ≤ i → Alike (drop i xs) (drop i ys) ≡ true
-alike_end [] [] zero e le = refl
-alike_end [] [] (suc i) e le = refl
-alike_end [] (y ∷ ys) i e le = absurd (omega (arith, e))
-alike_end (x ∷ xs) [] i e le = absurd (omega (arith, e))
-alike_end (x ∷ xs) (y ∷ ys) zero e le = absurd (omega arith)
-alike_end (x ∷ xs) (y ∷ ys) (suc i) e le = alike_end xs ys i (omega (arith, e)) (omega arith)
+pub alike_short : (xs ys ms : List Node) (m : Node) → xs ≡ m ∷ ms → ys ≡ [] → Alike xs ys ≡ false
+alike_short xs ys ms m e f = λ i. Alike (e i) (f i)
 
-pub alike_next : (xs ys : List Node) (i : ℕ) (m n : Node) → length xs ≡ length ys → i < length xs → m ≡ get_or xs i m → n ≡ get_or ys i n → same_entry (entry_of m) (entry_of n) ≡ true
-    → Alike (drop (i + 1) xs) (drop (i + 1) ys) ≡ Alike (drop i xs) (drop i ys)
-alike_next xs ys i m n long lt is at e = rw add-one (ap (λ b. b && Alike (drop (suc i) xs) (drop (suc i) ys)) (sym e) ∙ sym (alike_at xs ys i m n lt (omega (arith, long)) is at))
+pub alike_ends : (xs ys : List Node) → xs ≡ [] → ys ≡ [] → Alike xs ys ≡ true
+alike_ends xs ys e f = λ i. Alike (e i) (f i)
 
-pub alike_not : (xs ys : List Node) (i : ℕ) (m n : Node) → length xs ≡ length ys → i < length xs → m ≡ get_or xs i m → n ≡ get_or ys i n → same_entry (entry_of m) (entry_of n) ≡ false
-    → false ≡ Alike (drop i xs) (drop i ys)
-alike_not xs ys i m n long lt is at e = ap (λ b. b && Alike (drop (suc i) xs) (drop (suc i) ys)) (sym e) ∙ sym (alike_at xs ys i m n lt (omega (arith, long)) is at)
+pub alike_longer : (xs ys ns : List Node) (n : Node) → xs ≡ [] → ys ≡ n ∷ ns → Alike xs ys ≡ false
+alike_longer xs ys ns n e f = λ i. Alike (e i) (f i)
+
+other_of : (b : Bool) → true ≡ not b → b ≡ false
+other_of true e = absurd (true≢false e)
+other_of false e = refl
+
+none_of : (b : Bool) → false ≡ not b → b ≡ true
+none_of true e = refl
+none_of false e = absurd (true≢false (sym e))
+
+-- at the end of one, whether the other ends too
+pub alike_last : (xs ys zs : List Node) (o : Option (Bor Node)) (b : Bool) → xs ≡ [] → is_some o ≡ not b → MatchOption o ((ys ≡ []) × (zs ≡ [])) (λ n. ys ≡ n.now ∷ zs) → b ≡ Alike xs ys
+alike_last xs ys zs None b e is h = none_of b is ∙ sym (alike_ends xs ys e h.0)
+alike_last xs ys zs (Some n) b e is h = other_of b is ∙ sym (alike_longer xs ys zs n.now e h)

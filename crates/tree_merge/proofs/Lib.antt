@@ -1,7 +1,4 @@
-pub mod Puts
-pub mod Merged
 pub mod Agreement
-pub mod Parts
 pub mod Grafted
 pub mod Reached
 pub mod Restricted

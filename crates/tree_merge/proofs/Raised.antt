@@ -14,9 +14,11 @@ use Rattle.model.proofs.ListLaws.{by_cases, AllPairs-head, AllPairs-tail}
 use Rattle.model.proofs.MapLaws.{Contains-entries, same_key-apart}
 use Rattle.model.proofs.PathLaws.{same_rev-symm}
 use Rattle.revision_tree.specs.declared.node.Node.{Node}
-use Rattle.revision_tree.specs.Nodes.{IsListOf, entry_of, entries_of}
+use Rattle.revision_tree.specs.Nodes.{IsListOf, IsPlaceOf, IsSorted, entry_of, entries_of, tree_of}
 use Rattle.revision_tree.proofs.Listed.{sorted_list, tree_of-list}
 use Rattle.revision_tree.proofs.Places.{got}
+use Rattle.revision_tree.proofs.Pieces.{some_of}
+use Rattle.tree_merge.proofs.Reached.{rising_entries}
 use Rattle.tree_merge.specs.Reach.{first_mark, raised, reach, kept_of}
 
 abbrev Entry : Type 0
@@ -107,21 +109,36 @@ marked_more g nodes i m n old new lt is before e made =
 pub list_long : (nodes : List Node) (t : Tree) → IsListOf nodes t → length (entries t) ≡ length nodes
 list_long nodes t h = ap length h.entries ∙ length-map nodes entry_of
 
+pub list_itself : (nodes : List Node) (t : Tree) → IsListOf nodes t → IsListOf nodes (tree_of nodes)
+list_itself nodes t h = subst (IsListOf nodes) (sym (tree_of-list nodes t h.entries)) h
+
 pub listed_got : (nodes : List Node) (t : Tree) (i : ℕ) (n : Node) → IsListOf nodes t → i < length nodes → n ≡ get_or nodes i n → get t n.rev ≡ Some (entry_of n).1
 listed_got nodes t i n h lt is = subst (λ s. get s n.rev ≡ Some (entry_of n).1) (tree_of-list nodes t h.entries) (got nodes (sorted_list nodes t h.entries) n (i, lt, sym is))
 
-pub entry_at : (nodes : List Node) (t : Tree) (i : ℕ) (n : Node) → IsListOf nodes t → i < length nodes → get_or (entries t) i (entry_of n) ≡ entry_of (get_or nodes i n)
-entry_at nodes t i n h lt = ap (λ es. get_or es i (entry_of n)) h.entries ∙ get_or-map entry_of nodes i n (entry_of n) lt
+pub sorted_in_list : (nodes : List Node) (t : Tree) → IsListOf nodes t → IsSorted nodes
+sorted_in_list nodes t h = sorted_list nodes t h.entries
 
-pub carry_step : (g : Rev → ℕ) (t : Tree) (nodes : List Node) (i : ℕ) (n : Node) (marks new : List ℕ) (mark : ℕ) → IsListOf nodes t → 0 < i → i ≤ length nodes
-    → marks ≡ marks_by (reach g (drop i (entries t))) (entries t) → mark ≡ get_or marks (i - 1) 0 - 1
-    → new ≡ marks_by (raised (get_or nodes (i - 1) n).parent mark (reach g (drop i (entries t)))) (entries t) → new ≡ marks_by (reach g (drop (i - 1) (entries t))) (entries t)
-carry_step g t nodes i n marks new mark h some le is at e =
-    let es = entries t in
+-- the place of a node is that of its entry
+pub place_entry : (nodes : List Node) (i : ℕ) (p : Rev) → IsPlaceOf nodes p i → (i < length (entries_of nodes)) × ((e : Entry) → (get_or (entries_of nodes) i e).0 ≡ p)
+place_entry nodes i p at =
+    let n = some_of nodes i at.within in
+    (omega (arith, at.within, length-map nodes entry_of), λ e. ap (λ (x : Entry). x.0) (get_or-map entry_of nodes i n e at.within) ∙ at.rev n)
+
+pub rising_nodes : (nodes : List Node) (t : Tree) → IsListOf nodes t → AllPairs Above (entries_of nodes)
+rising_nodes nodes t h = subst (AllPairs Above) h.entries (rising_entries t)
+
+pub raise_unknown_node : (g : Rev → ℕ) (mark : ℕ) (nodes : List Node) (p : Rev) → IsListOf nodes (tree_of nodes) → knows (tree_of nodes) p ≡ false → marks_by g (entries_of nodes) ≡ marks_by (raised (Some p) mark g) (entries_of nodes)
+raise_unknown_node g mark nodes p h k = subst (λ es. marks_by g es ≡ marks_by (raised (Some p) mark g) es) h.entries (raise_unknown g mark (tree_of nodes) p k)
+
+pub carry_step : (g : Rev → ℕ) (nodes : List Node) (i : ℕ) (n : Node) (marks new : List ℕ) (mark : ℕ) → 0 < i → i ≤ length nodes
+    → marks ≡ marks_by (reach g (drop i (entries_of nodes))) (entries_of nodes) → mark ≡ get_or marks (i - 1) 0 - 1
+    → new ≡ marks_by (raised (get_or nodes (i - 1) n).parent mark (reach g (drop i (entries_of nodes)))) (entries_of nodes) → new ≡ marks_by (reach g (drop (i - 1) (entries_of nodes))) (entries_of nodes)
+carry_step g nodes i n marks new mark some le is at e =
+    let es = entries_of nodes in
     let d = entry_of n in
     let f = reach g (drop i es) in
-    let long = list_long nodes t h in
-    let here = entry_at nodes t (i - 1) n h (omega arith) in
+    let long = length-map nodes entry_of in
+    let here = get_or-map entry_of nodes (i - 1) n d (omega arith) in
     let parent : (get_or nodes (i - 1) n).parent ≡ (get_or es (i - 1) d).1.parent = ap (λ (x : Entry). x.1.parent) (sym here) in
     let own : mark ≡ f (get_or es (i - 1) d).0 - 1 = at ∙ ap (λ ms. get_or ms (i - 1) 0 - 1) is ∙ ap (λ m. m - 1) (get_or-map (λ (x : Entry). f x.0) es (i - 1) d 0 (omega arith)) in
     e ∙ (λ j. marks_by (raised (parent j) (own j) f) es) ∙ reach_next g es i d some (omega arith)

@@ -14,7 +14,7 @@ use Rattle.model.proofs.RisingLaws.{AllPairs-map}
 use Rattle.model.proofs.TreeLaws.{is_at-equal, parent_in, known_of, knows_child}
 use Rattle.model.proofs.ReachLaws.{IsReached, Stepped, reached_more, reached_itself, reached_above, reached_cases}
 use Rattle.tree_merge.specs.Reach.{first_mark, raised, reach, is_reached}
-use Rattle.tree_merge.proofs.Puts.{younger}
+use Rattle.revision_tree.proofs.Ends.{younger}
 
 -- the leaf isn't named, and k more steps are allowed
 abbrev pub Within : ℕ → List Rev → ℕ → Rev → ℕ → Type 0

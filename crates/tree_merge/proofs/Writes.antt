@@ -1,26 +1,22 @@
--- A write of a path, a strip and the leaves that a cut takes.
+-- A write of a path, and the leaves that a cut takes.
 use Rattle.std.specs.Prelude.{◌≡◌, ◌↔◌, ℕ, ◌+◌, ◌<◌, ◌≤◌, Bool, true, false, not, ◌&&◌, ◌||◌, cond, List, [], ◌∷◌, ◌++◌, length, get_or, take, Option, Some, None, unwrap_or, Result, Ok, Err, IsErrAnd, if◌then◌else◌, refl}
 use Rattle.std.proofs.Common.{sym, ap, ◌∙◌}
 use Rattle.std.specs.BTreeSet.{BTreeSet, contains, Updates}
 use Rattle.std.specs.Cmp.{both_ways}
 use Rattle.std.proofs.lemmas.Bool.{true≢false, and_left, and_from, cond-true, cond-false}
-use Rattle.std.proofs.lemmas.List.{take_all, take_more, map-append}
+use Rattle.std.proofs.lemmas.List.{take_more}
 use Rattle.std.proofs.lemmas.List.Folds.{list_any-append}
-use Rattle.model.specs.Map.{entries, empty, refine_list}
+use Rattle.model.specs.Map.{empty}
 use Rattle.model.specs.Body.{Body}
-use Rattle.model.specs.Revision.{Rev, revs, rev_cmp, same_rev}
-use Rattle.model.specs.Tree.{Tree, Revision, is_leaf, among}
-use Rattle.model.specs.TreeChange.{graft, stem, strip, removed_leaves}
+use Rattle.model.specs.Revision.{Rev, rev_cmp, same_rev}
+use Rattle.model.specs.Tree.{Tree, is_leaf, among}
+use Rattle.model.specs.TreeChange.{graft, stem, removed_leaves}
 use Rattle.model.specs.declared.refusal.Refusal.TheVariants.{BadHistory}
 use Rattle.model.specs.Edit.{stemmed, with_path}
-use Rattle.model.proofs.StripLaws.{IsTree-strip, IsInRange-strip}
 use Rattle.model.proofs.OnceLaws.{Contains-removed_leaves, removed_leaves-push}
 use Rattle.model.proofs.AncestorLaws.{Contains-among}
 use Rattle.model.proofs.PathLaws.{same_rev-symm}
-use Rattle.revision_tree.specs.declared.node.Node.{Node}
-use Rattle.revision_tree.specs.Nodes.{IsListOf, entry_of, entries_of}
 use Rattle.tree_merge.specs.Seen.{AreSeen}
-use Rattle.tree_merge.specs.Strip.{bared_in}
 use Rattle.tree_merge.specs.declared.fault.MergeFault.{MergeFault}
 
 -- ---- writes
@@ -41,22 +37,6 @@ module _ (limit : ℕ) (o : Option Tree) (path : List Rev) (body : Body) (delete
 pub same_fault : {X : Type 0} (r : Result X MergeFault) (e : MergeFault) → IsErrAnd r (λ f. f ≡ e) → r ≡ Err e
 same_fault (Ok x) e h = absurd h
 same_fault (Err f) e h = ap Err h
-
--- ---- strips
-
-pub strip_entries : (t : Tree) → entries (strip t) ≡ refine_list revs (bared_in t) (entries t)
-unfolding strip
-strip_entries t = refl
-
-pub stripped_list : (t : Tree) (nodes made : List Node) (i : ℕ) → IsListOf nodes t → length nodes ≤ i → entries_of made ≡ refine_list revs (bared_in t) (entries_of (take i nodes)) → IsListOf made (strip t)
-stripped_list t nodes made i h le e = record {
-  entries = strip_entries t ∙ ap (refine_list revs (bared_in t)) h.entries ∙ ap (λ ns. refine_list revs (bared_in t) (entries_of ns)) (sym (take_all i nodes le)) ∙ sym e;
-  tree = IsTree-strip t h.tree;
-  range = IsInRange-strip t h.range;
-}
-
-pub pushed_entries : (old new : List Node) (n : Node) (xs : List (Rev × Revision)) → new ≡ old ++ n ∷ [] → xs ≡ entry_of n ∷ [] → entries_of new ≡ entries_of old ++ xs
-pushed_entries old new n xs e is = ap entries_of e ∙ map-append entry_of old (n ∷ []) ∙ ap (λ ys. entries_of old ++ ys) (sym is)
 
 -- ---- the leaves that a cut takes
 

@@ -1,20 +1,16 @@
 //! Grafts of paths.
 ghost use Rattle.std.specs.Prelude.{◌≡◌, ◌↔◌, Some, None, IfOk, All, unwrap_or, option_copied};
 ghost use Rattle.std.specs.Arc.{arc_value};
-ghost use Rattle.model.specs.Map.{entries, empty};
+ghost use Rattle.model.specs.Map.{empty};
 ghost use Rattle.model.specs.Body.{IsBody};
 ghost use Rattle.model.specs.Revision.{IsRev};
-ghost use Rattle.model.specs.Tree.{IsForest, IsInRange, parent_of};
 ghost use Rattle.model.specs.TreeChange.{IsPath, fits as is_fit, agrees as is_agreed, graft as grafting};
-ghost use Rattle.revision_tree.specs.Nodes.{entries_of};
-ghost use Rattle.tree_merge.specs.Merging.{IsBase};
 ghost use Rattle.tree_merge.specs.declared.fault.MergeFault.TheVariants.{Contradiction};
 
 use crate::fault::MergeFault;
-use crate::merge::merged;
 use json_profile::Body;
 use revision_id::RevId;
-use revision_tree::{Node, RevTree};
+use revision_tree::RevTree;
 use std::alloc::Global;
 use std::sync::Arc;
 
@@ -36,18 +32,8 @@ pub fn graft(
     }
     revs_in_range(path);
     body_in_range(&body);
-    let nodes = merged(alloc, known(tree), path, body, deleted)?;
-    Ok(RevTree::from_nodes(nodes))
-}
-
-/// The revisions of a tree, and none of no tree.
-fn known(tree: Option<&RevTree>) -> &[Node]
-    ensures { IsBase result.now (unwrap_or (option_copied tree.entry) empty) }
-{
-    match tree {
-        Some(tree) => tree.nodes(),
-        None => &[],
-    }
+    let grafted = RevTree::grafted(alloc, tree, path, body, deleted)?;
+    Ok(grafted)
 }
 
 fn agrees(tree: Option<&RevTree>, path: &[RevId]) -> bool

@@ -4,7 +4,6 @@
 mod fault;
 mod grafts;
 mod matches;
-mod merge;
 mod reach;
 mod removed;
 mod restrict;

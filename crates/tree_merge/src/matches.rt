@@ -14,17 +14,20 @@ use std::sync::Arc;
 pub fn is_same(one: &RevTree, other: &RevTree) -> bool
     ensures { result ≡ same_tree one.now other.now }
 {
-    let mine = one.nodes();
-    let theirs = other.nodes();
-    if mine.len() != theirs.len() {
+    if one.count() != other.count() {
         return false;
     }
-    for place in 0..mine.len() {
-        if !is_same_node(&mine[place], &theirs[place]) {
+    let mut mine = one.nodes();
+    let mut theirs = other.nodes();
+    while let Some(node) = mine.next() {
+        let Some(other) = theirs.next() else {
+            return false;
+        };
+        if !is_same_node(node, other) {
             return false;
         }
     }
-    true
+    theirs.next().is_none()
 }
 
 fn is_same_node(one: &Node, other: &Node) -> bool

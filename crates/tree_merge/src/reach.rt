@@ -4,11 +4,12 @@ ghost use Rattle.std.specs.BTreeSet.{contains};
 ghost use Rattle.model.specs.Map.{entries};
 ghost use Rattle.model.specs.Revision.{Rev, rev_cmp};
 ghost use Rattle.model.specs.Tree.{is_leaf as is_known_leaf};
+ghost use Rattle.revision_tree.specs.Nodes.{IsListOf, entries_of, tree_of};
 ghost use Rattle.tree_merge.specs.Reach.{first_mark, reach, raised};
 ghost use Rattle.tree_merge.specs.Seen.{AreSeen};
 
 use revision_id::RevId;
-use revision_tree::RevTree;
+use revision_tree::{Node, RevTree, place_among};
 use std::alloc::{AllocError, Global};
 use std::collections::BTreeSet;
 
@@ -17,26 +18,29 @@ use std::collections::BTreeSet;
 pub(crate) fn marks(
     alloc: Global,
     tree: &RevTree,
+    nodes: &[Node],
     named: &[RevId],
     limit: u32,
 ) -> Result<Vec<u32>, AllocError>
+    requires { IsListOf nodes.now tree.now }
     ensures { IfOk result (λ marks. marks.items ≡ map (λ e. reach (first_mark limit named.now tree.now) (entries tree.now) e.0) (entries tree.now)) }
 {
-    let mut marks = first_marks(alloc, tree, named, limit)?;
-    carry(tree, &mut marks);
+    let mut marks = first_marks(alloc, tree, nodes, named, limit)?;
+    carry(nodes, &mut marks);
     Ok(marks)
 }
 
 fn first_marks(
     alloc: Global,
     tree: &RevTree,
+    nodes: &[Node],
     named: &[RevId],
     limit: u32,
 ) -> Result<Vec<u32>, AllocError>
+    requires { IsListOf nodes.now tree.now }
     ensures { IfOk result (λ marks. marks.items ≡ map (λ e. first_mark limit named.now tree.now e.0) (entries tree.now)) }
 {
     let named = set_of(alloc, named)?;
-    let nodes = tree.nodes();
     let mut marks = Vec::new(alloc);
     for node in nodes {
         marks.push(mark_of(tree, &named, limit, node.rev))?;
@@ -63,26 +67,27 @@ fn mark_of(tree: &RevTree, named: &BTreeSet<RevId>, limit: u32, rev: RevId) -> u
 }
 
 /// Carries the marks up, from the youngest on.
-fn carry(tree: &RevTree, marks: &mut [u32])
-    requires { length marks.old ≡ length (entries tree.now) }
-    ensures { (g : Rev → ℕ) → marks.old ≡ map (λ e. g e.0) (entries tree.now) → marks.new ≡ map (λ e. reach g (entries tree.now) e.0) (entries tree.now) }
+fn carry(nodes: &[Node], marks: &mut [u32])
+    requires listed { IsListOf nodes.now (tree_of nodes.now) }
+    requires long { length marks.old ≡ length nodes.now }
+    ensures { (g : Rev → ℕ) → marks.old ≡ map (λ e. g e.0) (entries_of nodes.now) → marks.new ≡ map (λ e. reach g (entries_of nodes.now) e.0) (entries_of nodes.now) }
 {
-    let nodes = tree.nodes();
     for place in (0..nodes.len()).rev() {
         let mark = marks[place].saturating_sub(1);
-        raise(tree, marks, nodes[place].parent, mark);
+        raise(nodes, marks, nodes[place].parent, mark);
     }
 }
 
 /// Raises the mark of a parent.
-fn raise(tree: &RevTree, marks: &mut [u32], parent: Option<RevId>, mark: u32)
-    requires { length marks.old ≡ length (entries tree.now) }
-    ensures { (g : Rev → ℕ) → marks.old ≡ map (λ e. g e.0) (entries tree.now) → marks.new ≡ map (λ e. raised parent mark g e.0) (entries tree.now) }
+fn raise(nodes: &[Node], marks: &mut [u32], parent: Option<RevId>, mark: u32)
+    requires listed { IsListOf nodes.now (tree_of nodes.now) }
+    requires long { length marks.old ≡ length nodes.now }
+    ensures { (g : Rev → ℕ) → marks.old ≡ map (λ e. g e.0) (entries_of nodes.now) → marks.new ≡ map (λ e. raised parent mark g e.0) (entries_of nodes.now) }
 {
     let Some(parent) = parent else {
         return;
     };
-    if let Some(place) = tree.place_of(parent) {
+    if let Some(place) = place_among(nodes, parent) {
         marks[place] = marks[place].max(mark);
     }
 }

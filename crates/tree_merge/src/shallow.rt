@@ -10,11 +10,7 @@ pub(crate) fn is_shallow(tree: &RevTree, limit: u32) -> bool
     ensures kept { result ≡ true → stemming limit tree.now ≡ tree.now }
     ensures tree { IsTree tree.now }
 {
-    let nodes = tree.nodes();
-    let [oldest, ..] = nodes else {
-        return false;
-    };
-    let oldest = oldest.rev.generation();
-    let newest = nodes[nodes.len() - 1].rev.generation();
+    let oldest = tree.oldest().generation();
+    let newest = tree.newest().generation();
     newest.saturating_sub(oldest) < limit
 }

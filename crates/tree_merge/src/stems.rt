@@ -16,7 +16,7 @@ pub fn stem(alloc: Global, tree: &RevTree, limit: u32) -> Result<RevTree, AllocE
     ensures { IfOk result (λ t. t ≡ stemming limit tree.now) }
 {
     let nodes = restricted(alloc, tree, &[], limit)?;
-    Ok(RevTree::from_nodes(nodes))
+    RevTree::from_nodes(alloc, nodes)
 }
 
 /// What is left where the named leaves go, and nothing where no leaf stays.
@@ -31,5 +31,6 @@ pub fn cut_leaves(
     if nodes.is_empty() {
         return Ok(None);
     }
-    Ok(Some(RevTree::from_nodes(nodes)))
+    let left = RevTree::from_nodes(alloc, nodes)?;
+    Ok(Some(left))
 }

@@ -1,13 +1,11 @@
-use Rattle.std.proofs.Common.{◌++◌, ap, ◌∙◌, map}
-use Rattle.std.specs.Prelude.{filter, reverse, true}
-use Rattle.revision_tree.specs.Nodes.{is_wanted}
-use Rattle.revision_tree.proofs.Ranked.{revs_of_leaves}
+use Rattle.std.proofs.Common.{◌++◌, ap, ◌∙◌}
+use Rattle.std.specs.Prelude.{true, false}
+use Rattle.revision_tree.specs.Rows.{nodes_of}
+use Rattle.revision_tree.proofs.Ranked.{revs_of_leaves, revs_half}
 use Rattle.revision_tree.proofs.leaf.leaves_of.Goals as goal
 
 pub returns : goal.returns
 returns c =
-    let dead = c.deref.ensures.value ∙ c.in_ok-deleted.ensures in
-    c.in_ok-extend_from_slice.ensures.items
-    ∙ ap (λ xs. c.in_ok-leaves.leaves.items ++ xs) dead
-    ∙ ap (λ xs. xs ++ map (λ n. n.rev) (filter (is_wanted true) (reverse c.args.nodes.now))) c.in_ok-leaves.ensures
-    ∙ revs_of_leaves c.args.nodes.now c.requires
+    let ns = nodes_of c.args.rows.now in
+    c.in_ok-add_marked-2.ensures ∙ ap (λ xs. xs ++ revs_half true ns) (c.in_ok-add_marked.ensures ∙ ap (λ xs. xs ++ revs_half false ns) c.new-leaves.ensures.items)
+    ∙ revs_of_leaves ns c.requires.nodes

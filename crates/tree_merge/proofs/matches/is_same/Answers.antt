@@ -1,27 +1,28 @@
-use Rattle.std.proofs.Common.{◌∙◌, sym}
-use Rattle.tree_merge.proofs.Compared.{compared, alike_long, alike_next, alike_not, alike_end}
+use Rattle.std.proofs.Common.{◌∙◌, ◌&&◌, sym, ap}
+use Rattle.revision_tree.specs.Nodes.{entry_of}
+use Rattle.revision_tree.specs.Walk.{left_of}
+use Rattle.tree_merge.proofs.Compared.{Alike, compared, counted_apart, alike_next, alike_short, alike_last}
 use Rattle.tree_merge.proofs.matches.is_same.Goals as goal
 
-pub returns-then-mine-theirs : goal.returns-then-mine-theirs
-returns-then-mine-theirs c =
-    let mine = c.nodes-mine.result.now in
-    let theirs = c.nodes-theirs.result.now in
-    sym (alike_long mine theirs c.if-mine-theirs.true) ∙ sym (compared c.args.one.now c.args.other.now mine theirs c.nodes-mine.ensures c.nodes-theirs.ensures)
+pub returns-then-count : goal.returns-then-count
+returns-then-count c = sym (counted_apart c.args.one.now c.args.other.now c.count.result c.count-2.result 18446744073709551615 c.count.ensures c.count-2.ensures c.if-count.true)
+
+pub loop-node-init : goal.loop-node-init
+loop-node-init c = sym (compared c.args.one.now c.args.other.now (left_of c.nodes-mine.result) (left_of c.nodes-theirs.result) c.nodes-mine.ensures c.nodes-theirs.ensures)
+
+pub returns-in_default-next : goal.returns-in_default-next
+returns-in_default-next c =
+    sym (alike_short (left_of c.loop-node.mine) (left_of c.loop-node.theirs) (left_of c.next.new.self) c.in-Some.node.now c.in-Some.ensures.steps c.in_default-next.ensures.steps.0) ∙ c.loop-node.invariant
 
 pub returns-then-not-is_same_node : goal.returns-then-not-is_same_node
 returns-then-not-is_same_node c =
-    let mine = c.nodes-mine.result.now in
-    let theirs = c.nodes-theirs.result.now in
-    alike_not mine theirs c.loop-place.place c.index-mine-place.result c.index-theirs-place.result c.if-mine-theirs.false c.loop-place-test.true c.index-mine-place.is c.index-theirs-place.is (sym c.is_same_node.ensures ∙ c.if-not-is_same_node.true)
-    ∙ c.loop-place.invariant ∙ sym (compared c.args.one.now c.args.other.now mine theirs c.nodes-mine.ensures c.nodes-theirs.ensures)
-
-pub loop-place-preserved : goal.loop-place-preserved
-loop-place-preserved c =
-    alike_next c.nodes-mine.result.now c.nodes-theirs.result.now c.loop-place.place c.index-mine-place.result c.index-theirs-place.result c.if-mine-theirs.false c.loop-place-test.true c.index-mine-place.is c.index-theirs-place.is (sym c.is_same_node.ensures ∙ c.if-not-is_same_node.false)
-    ∙ c.loop-place.invariant
+    let m = c.in-Some.node.now in
+    let n = c.in-Some-next.other.now in
+    let ms = left_of c.next.new.self in
+    let ns = left_of c.next-in-Some.new.self in
+    ap (λ b. b && Alike ms ns) (sym c.if-not-is_same_node.true ∙ c.is_same_node.ensures)
+    ∙ sym (alike_next (left_of c.loop-node.mine) (left_of c.loop-node.theirs) ms ns m n c.in-Some.ensures.steps c.in-Some-next.ensures.steps) ∙ c.loop-node.invariant
 
 pub returns : goal.returns
 returns c =
-    let mine = c.nodes-mine.result.now in
-    let theirs = c.nodes-theirs.result.now in
-    sym (alike_end mine theirs c.loop-place.place c.if-mine-theirs.false c.loop-place-test.false) ∙ c.loop-place.invariant ∙ sym (compared c.args.one.now c.args.other.now mine theirs c.nodes-mine.ensures c.nodes-theirs.ensures)
+    alike_last (left_of c.loop-node.mine) (left_of c.loop-node.theirs) (left_of c.next-2.new.self) c.next-2.result c.is_none.result c.in_default.ensures.steps.0 c.is_none.ensures c.next-2.ensures.steps ∙ c.loop-node.invariant

@@ -12,11 +12,11 @@ loop-node-preserved c =
     let t = c.args.tree.now in
     let n = c.node-item.result in
     let told = told_mark c.args.limit named t n.rev (contains rev_cmp c.in_ok-named.named n.rev) (c.in_ok-named.ensures.has n.rev) in
-    marked_more (first_mark c.args.limit named t) c.nodes-nodes.result.now c.loop-node.node-index c.mark_of.result n c.loop-node.marks.items c.push.new.self.items c.loop-node-test.true c.node-item.is c.loop-node.invariant
+    marked_more (first_mark c.args.limit named t) c.args.nodes.now c.loop-node.node-index c.mark_of.result n c.loop-node.marks.items c.push.new.self.items c.loop-node-test.true c.node-item.is c.loop-node.invariant
     (c.mark_of.ensures ∙ told) c.in_ok-push.ensures.items
 
 pub returns : goal.returns
 returns c =
     let g = first_mark c.args.limit c.args.named.now c.args.tree.now in
-    let nodes = c.nodes-nodes.result.now in
-    c.loop-node.invariant ∙ ap (map (λ n. g n.rev)) (take_all c.loop-node.node-index nodes c.loop-node-test.false) ∙ marks_of_nodes g nodes ∙ ap (marks_by g) (sym c.nodes-nodes.ensures.entries)
+    let nodes = c.args.nodes.now in
+    c.loop-node.invariant ∙ ap (map (λ n. g n.rev)) (take_all c.loop-node.node-index nodes c.loop-node-test.false) ∙ marks_of_nodes g nodes ∙ ap (marks_by g) (sym c.requires.entries)

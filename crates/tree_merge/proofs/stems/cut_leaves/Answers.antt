@@ -10,18 +10,18 @@ pub returns-then-is_empty : goal.returns-then-is_empty
 returns-then-is_empty c =
     let nodes = c.in_ok-nodes.nodes in
     let none : nodes.len ≡ 0 = eqb-true nodes.len 0 (sym c.is_empty.ensures ∙ c.if-is_empty.true) in
-    sym (cut_empty c.args.tree.now c.restricted.ensures.tree.forest c.args.named.now c.restricted.ensures.range nodes.items (omega (arith, nodes.ok.0, none)) c.in_ok-nodes.ensures.kept)
+    sym (cut_empty c.args.tree.now c.in_ok-nodes.ensures.tree.forest c.args.named.now c.in_ok-nodes.ensures.range nodes.items (omega (arith, nodes.ok.0, none)) c.in_ok-nodes.ensures.kept)
 
 pub from_nodes-requires : goal.from_nodes-requires
 from_nodes-requires c =
     let t = c.args.tree.now in
     let nodes = c.in_ok-nodes.nodes in
-    let cuts = cut_list t c.restricted.ensures.tree.forest c.args.named.now c.restricted.ensures.range nodes.items (λ e. filled nodes.len (sym c.is_empty.ensures ∙ c.if-is_empty.false) (omega (arith, nodes.ok.0, e))) c.in_ok-nodes.ensures.kept in
-    (left t c.restricted.ensures.tree.forest c.args.named.now c.restricted.ensures.range, cuts.1)
+    let cuts = cut_list t c.in_ok-nodes.ensures.tree.forest c.args.named.now c.in_ok-nodes.ensures.range nodes.items (λ e. filled nodes.len (sym c.is_empty.ensures ∙ c.if-is_empty.false) (omega (arith, nodes.ok.0, e))) c.in_ok-nodes.ensures.kept in
+    (left t c.in_ok-nodes.ensures.tree.forest c.args.named.now c.in_ok-nodes.ensures.range, cuts.1)
 
 pub returns : goal.returns
 returns c =
     let t = c.args.tree.now in
     let nodes = c.in_ok-nodes.nodes in
-    let cuts = cut_list t c.restricted.ensures.tree.forest c.args.named.now c.restricted.ensures.range nodes.items (λ e. filled nodes.len (sym c.is_empty.ensures ∙ c.if-is_empty.false) (omega (arith, nodes.ok.0, e))) c.in_ok-nodes.ensures.kept in
-    ap Some (c.from_nodes.ensures (left t c.restricted.ensures.tree.forest c.args.named.now c.restricted.ensures.range) cuts.1.entries) ∙ sym cuts.0
+    let cuts = cut_list t c.in_ok-nodes.ensures.tree.forest c.args.named.now c.in_ok-nodes.ensures.range nodes.items (λ e. filled nodes.len (sym c.is_empty.ensures ∙ c.if-is_empty.false) (omega (arith, nodes.ok.0, e))) c.in_ok-nodes.ensures.kept in
+    ap Some (c.in_ok-left.ensures (left t c.in_ok-nodes.ensures.tree.forest c.args.named.now c.in_ok-nodes.ensures.range) cuts.1.entries) ∙ sym cuts.0

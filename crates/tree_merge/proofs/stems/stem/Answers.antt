@@ -5,10 +5,10 @@ use Rattle.tree_merge.proofs.stems.stem.Goals as goal
 pub from_nodes-requires : goal.from_nodes-requires
 from_nodes-requires c =
     let t = c.args.tree.now in
-    (stem c.args.limit t, stem_list t c.restricted.ensures.tree.forest c.args.limit c.in_ok-nodes.nodes.items c.requires c.restricted.ensures.tree c.restricted.ensures.range c.in_ok-nodes.ensures.kept)
+    (stem c.args.limit t, stem_list t c.in_ok-nodes.ensures.tree.forest c.args.limit c.in_ok-nodes.nodes.items c.requires c.in_ok-nodes.ensures.tree c.in_ok-nodes.ensures.range c.in_ok-nodes.ensures.kept)
 
 pub returns : goal.returns
 returns c =
     let t = c.args.tree.now in
-    let listed = stem_list t c.restricted.ensures.tree.forest c.args.limit c.in_ok-nodes.nodes.items c.requires c.restricted.ensures.tree c.restricted.ensures.range c.in_ok-nodes.ensures.kept in
+    let listed = stem_list t c.in_ok-nodes.ensures.tree.forest c.args.limit c.in_ok-nodes.nodes.items c.requires c.in_ok-nodes.ensures.tree c.in_ok-nodes.ensures.range c.in_ok-nodes.ensures.kept in
     c.from_nodes.ensures (stem c.args.limit t) listed.entries

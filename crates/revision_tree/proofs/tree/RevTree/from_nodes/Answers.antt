@@ -11,11 +11,14 @@ invariant_of-result c =
     let nodes = c.args.nodes.items in
     let same = c.mark.ensures ∙ ap (λ ns. marked_by (entries_of ns) ns) c.deref_mut.ensures.value in
     let long : length c.mark.new.nodes ≡ c.args.nodes.len = omega (arith, ap length same, length-map nodes (marked_in (entries_of nodes)), c.args.nodes.ok.0) in
-    subst IsNodes (sym (with_items_is c.args.nodes c.mark.new.nodes long ∙ same)) (IsNodes-marked nodes c.requires.0 c.requires.1)
+    record {
+      nodes = subst IsNodes (sym (c.in_ok-pieces_of.ensures.nodes ∙ with_items_is c.args.nodes c.mark.new.nodes long ∙ same)) (IsNodes-marked nodes c.requires.0 c.requires.1);
+      filled = c.in_ok-pieces_of.ensures.filled;
+    }
 
 pub returns : goal.returns
 returns c = λ t e.
     let nodes = c.args.nodes.items in
     let same = c.mark.ensures ∙ ap (λ ns. marked_by (entries_of ns) ns) c.deref_mut.ensures.value in
     let long : length c.mark.new.nodes ≡ c.args.nodes.len = omega (arith, ap length same, length-map nodes (marked_in (entries_of nodes)), c.args.nodes.ok.0) in
-    ap tree_of (with_items_is c.args.nodes c.mark.new.nodes long ∙ same) ∙ tree_of-list (marked_by (entries_of nodes) nodes) t (e ∙ sym (entries-marked_by (entries_of nodes) nodes))
+    ap tree_of (c.in_ok-pieces_of.ensures.nodes ∙ with_items_is c.args.nodes c.mark.new.nodes long ∙ same) ∙ tree_of-list (marked_by (entries_of nodes) nodes) t (e ∙ sym (entries-marked_by (entries_of nodes) nodes))
