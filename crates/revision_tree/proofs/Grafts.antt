@@ -1,21 +1,22 @@
 -- A graft of a path on the nodes of a tree.
-use Rattle.std.specs.Prelude.{◌≡◌, ℕ, zero, suc, ◌+◌, ◌-◌, ◌<◌, ◌≤◌, T, Bool, true, ◌||◌, List, [], ◌∷◌, map, length, get_or, take, drop, All, Option, Some, None, Result, Ok, Err, IfOk, refl}
+use Rattle.std.specs.Prelude.{◌≡◌, ℕ, zero, suc, ◌+◌, ◌-◌, ◌<◌, ◌≤◌, T, Bool, true, ◌||◌, List, [], ◌∷◌, map, length, get_or, take, drop, All, Contains, Option, Some, None, Result, Ok, Err, IfOk, refl}
 use Rattle.std.specs.declared.vec.Vec.{Vec}
 use Rattle.std.specs.declared.alloc.Global.{Global}
 use Rattle.std.proofs.Common.{sym, ap, subst, ◌∙◌, arith, sub-one, length-drop, drop-cons}
 use Rattle.std.specs.FinMap.Entries.{is_sorted, put}
 use Rattle.std.proofs.lemmas.Bool.{cond-true}
 use Rattle.std.proofs.lemmas.List.{take_all, drop_all}
-use Rattle.model.specs.Map.{entries, from_list}
+use Rattle.std.proofs.lemmas.List.Elements.{All-weaker, All-contains_itself}
+use Rattle.model.specs.Map.{entries, from_list, refine_list}
 use Rattle.model.specs.Body.{Body, IsBody}
-use Rattle.model.specs.Revision.{Rev, IsRev, rev_cmp}
+use Rattle.model.specs.Revision.{Rev, IsRev, rev_cmp, revs}
 use Rattle.model.specs.Tree.{Tree, Revision, IsForest, IsTree, IsInRange, has_child, among}
 use Rattle.model.specs.TreeChange.{IsPath, agrees, graft, grafted}
 use Rattle.model.proofs.UnionLaws.{IsTree-graft, IsInRange-graft}
 use Rattle.revision_tree.specs.declared.node.Node.{Node}
 use Rattle.revision_tree.specs.Nodes.{Row, IsNodes, IsSorted, IsListOf, entries_of, rows_of, tree_of}
 use Rattle.revision_tree.specs.Growth.{AreLinked, AreGround, IsRest, as_parent, as_newest, seen_in, marked_with, grown}
-use Rattle.revision_tree.proofs.Grown.{parent_added, newest_added, grown_marks, tree_marked, nodes_marked}
+use Rattle.revision_tree.proofs.Grown.{parent_added, newest_added, grown_marks, with_marks, rows_marked, tree_marked, nodes_marked}
 use Rattle.revision_tree.proofs.Listed.{IsListOf-nodes, entries-tree_of}
 use Rattle.revision_tree.proofs.Rowed.{sorted_from_rows, entries_of-rows, bare_entry}
 
@@ -83,12 +84,12 @@ grown_tree (r ∷ rs) body deleted t ns path is = tree_marked ns (grafted (r ∷
 
 pub grown_nodes : (path : List Rev) (body : Body) (deleted : Bool) (t : Tree) (ns : List Node) → IsPath path → All IsRev path → IsBody body → agrees t path ≡ true → IsForest t → IsInRange t
     → rows_of ns ≡ entries (grown path body deleted t) → IsNodes ns
-grown_nodes [] body deleted t ns path revs is_body h f range is = absurd path
-grown_nodes (r ∷ rs) body deleted t ns path revs is_body h f range is =
+grown_nodes [] body deleted t ns path each is_body h f range is = absurd path
+grown_nodes (r ∷ rs) body deleted t ns path each is_body h f range is =
     let e = graft_agreed (r ∷ rs) body deleted t h in
     nodes_marked ns (grafted (r ∷ rs) body deleted t) (λ q. has_child t q || among rs q) is (grown_marks t r rs path body deleted f e)
     (IsTree-graft (r ∷ rs) body deleted t (grafted (r ∷ rs) body deleted t) path f e)
-    (IsInRange-graft (r ∷ rs) body deleted t (grafted (r ∷ rs) body deleted t) path revs is_body range e)
+    (IsInRange-graft (r ∷ rs) body deleted t (grafted (r ∷ rs) body deleted t) path each is_body range e)
 
 -- ---- the same rows
 
@@ -113,3 +114,9 @@ listed_if_ok (Err f) ns h e = tt
 pub ground_if_ok : {X E : Type 0} {P Q : X → Type 0} (r : Result X E) → ((x : X) → P x → Q x) → IfOk r P → IfOk r Q
 ground_if_ok (Ok x) f h = f x h
 ground_if_ok (Err e) f h = tt
+
+pub nodes_alike : (ms ns : List Node) → rows_of ms ≡ rows_of ns → IsNodes ns → IsNodes ms
+nodes_alike ms ns e h =
+    let is : rows_of ms ≡ entries (with_marks (has_child (tree_of ns)) (tree_of ns)) = e ∙ rows_marked (has_child (tree_of ns)) ns (All-weaker (Contains ns) (λ n. n.inner ≡ has_child (tree_of ns) n.rev) (λ n c. h.inner n c) ns (All-contains_itself ns))
+    ∙ ap (refine_list revs (λ q v. Some (v, has_child (tree_of ns) q))) (sym (entries-tree_of ns h.sorted)) in
+    nodes_marked ms (tree_of ns) (has_child (tree_of ns)) is (λ q. refl) h.tree h.range

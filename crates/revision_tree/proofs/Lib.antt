@@ -12,3 +12,4 @@ pub mod Walked
 pub mod Stripped
 pub mod Grafts
 pub mod Ends
+pub mod Shortened

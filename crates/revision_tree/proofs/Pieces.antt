@@ -305,3 +305,6 @@ pub put_rows : (i : ℕ) (nss : List (List Node)) (ns all : List Node) (xs : Lis
 put_rows i nss ns all xs e f =
     ap rows_of f ∙ map-append row_of (joined (take i nss)) (ns ++ joined (drop (suc i) nss))
     ∙ ap (λ ys. rows_of (joined (take i nss)) ++ ys) (map-append row_of ns (joined (drop (suc i) nss)) ∙ ap (λ ys. ys ++ rows_of (joined (drop (suc i) nss))) e)
+
+pub piece_filled : (ps : List Piece) (i : ℕ) (p : Piece) → AreFilled (lists_of ps) → i < length ps → p ≡ get_or ps i p → 0 < length (items_of p)
+piece_filled ps i p h lt is = subst (λ ns. 0 < length ns) (list_read ps i p lt is) (h i [] (omega (arith, lt, length-map ps items_of)))

@@ -9,6 +9,7 @@ mod place;
 mod put;
 mod rows;
 mod search;
+mod shorten;
 mod strip;
 mod tree;
 mod walk;

@@ -1,11 +1,11 @@
 //! The tree.
-ghost use Rattle.std.specs.Prelude.{◌≡◌, ◌≤◌, Some, true, IfOk, All, length, min, option_map, option_copied, unwrap_or};
+ghost use Rattle.std.specs.Prelude.{◌≡◌, ◌<◌, ◌≤◌, Some, true, IfOk, All, length, min, option_map, option_copied, unwrap_or};
 ghost use Rattle.std.specs.Arc.{arc_value};
 ghost use Rattle.model.specs.Map.{empty, entries};
 ghost use Rattle.model.specs.Body.{IsBody};
 ghost use Rattle.model.specs.Revision.{Rev, IsRev};
 ghost use Rattle.model.specs.Tree.{Tree, IsTree, IsInRange, knows as is_known, parent_of as known_parent, is_leaf as is_known_leaf, body_of as kept_body, is_deleted as is_known_deleted, path_of as path_to, leaves as ranked, winner as winning, revs_of};
-ghost use Rattle.model.specs.TreeChange.{IsPath, agrees as is_agreed, grafted as grafting, strip as stripping};
+ghost use Rattle.model.specs.TreeChange.{IsPath, agrees as is_agreed, grafted as grafting, stem as stemming, strip as stripping};
 ghost use Rattle.revision_tree.specs.Nodes.{IsListOf, entries_of, tree_of};
 ghost use Rattle.revision_tree.specs.Growth.{AreGround};
 ghost use Rattle.revision_tree.specs.Rows.{AreFilled, lists_of, nodes_of};
@@ -17,6 +17,7 @@ use crate::marks::mark;
 use crate::node::Node;
 use crate::rows::Rows;
 use crate::search::{node_of, parent_in, path_from};
+use crate::shorten::{above, are_level};
 use crate::strip::stripped;
 use crate::walk::Nodes;
 use crate::whole::{all, count, first, last, pieces_of};
@@ -86,6 +87,36 @@ impl RevTree {
     {
         Ok(RevTree {
             rows: stripped(alloc, &self.rows)?,
+        })
+    }
+
+    /// Whether each leaf is of the newest generation: then a stem takes the oldest revisions alone.
+    pub fn is_level(&self) -> bool
+        ensures { result ≡ true → (l r : Rev) → is_known_leaf self.now l ≡ true → is_known self.now r ≡ true → r.generation ≤ l.generation }
+    {
+        let newest = last(&self.rows);
+        are_level(&self.rows, newest.generation())
+    }
+
+    /// The revisions of a level tree that are fewer than `limit` steps above some leaf. Shares what stands apart from the oldest.
+    pub fn shortened(self, alloc: Global, limit: u32) -> Result<RevTree, AllocError>
+        requires limit { 0 < limit }
+        requires level { (l r : Rev) → is_known_leaf self l ≡ true → is_known self r ≡ true → r.generation ≤ l.generation }
+        ensures { IfOk result (λ t. t ≡ stemming limit self) }
+    {
+        let newest = last(&self.rows);
+        let oldest = newest.generation().saturating_sub(limit);
+        Ok(RevTree {
+            rows: above(alloc, self.rows, oldest)?,
+        })
+    }
+
+    /// The same tree, which shares what it can.
+    pub fn share(&self, alloc: Global) -> Result<RevTree, AllocError>
+        ensures { IfOk result (λ t. t ≡ self.now) }
+    {
+        Ok(RevTree {
+            rows: self.rows.share(alloc)?,
         })
     }
 

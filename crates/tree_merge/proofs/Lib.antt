@@ -7,3 +7,4 @@ pub mod Writes
 pub mod Compared
 pub mod Depths
 pub mod Unaltered
+pub mod Cuts

@@ -1,5 +1,7 @@
 //! Stems and cuts.
-ghost use Rattle.std.specs.Prelude.{◌≡◌, ◌<◌, IfOk};
+ghost use Rattle.std.specs.Prelude.{◌≡◌, ◌<◌, true, false, IfOk};
+ghost use Rattle.model.specs.Revision.{Rev};
+ghost use Rattle.model.specs.Tree.{IsTree, among, is_leaf as is_known_leaf};
 ghost use Rattle.model.specs.TreeChange.{stem as stemming, cut};
 
 use crate::restrict::restricted;
@@ -19,6 +21,18 @@ pub fn stem(alloc: Global, tree: &RevTree, limit: u32) -> Result<RevTree, AllocE
     RevTree::from_nodes(alloc, nodes)
 }
 
+/// The same of a tree that is given up. Where each leaf is of the newest generation, as in a history with no conflicts, the
+/// oldest revisions alone are looked at one by one.
+pub(crate) fn stemmed(alloc: Global, tree: RevTree, limit: u32) -> Result<RevTree, AllocError>
+    requires { 0 < limit }
+    ensures { IfOk result (λ t. t ≡ stemming limit tree) }
+{
+    if tree.is_level() {
+        return tree.shortened(alloc, limit);
+    }
+    stem(alloc, &tree, limit)
+}
+
 /// What is left where the named leaves go, and nothing where no leaf stays.
 pub fn cut_leaves(
     alloc: Global,
@@ -27,10 +41,28 @@ pub fn cut_leaves(
 ) -> Result<Option<RevTree>, AllocError>
     ensures { IfOk result (λ left. left ≡ cut named.now tree.now) }
 {
+    if !has_leaf(tree, named) {
+        let same = tree.share(alloc)?;
+        return Ok(Some(same));
+    }
     let nodes = restricted(alloc, tree, named, NO_LIMIT)?;
     if nodes.is_empty() {
         return Ok(None);
     }
     let left = RevTree::from_nodes(alloc, nodes)?;
     Ok(Some(left))
+}
+
+/// Whether one of the named revisions is a leaf.
+fn has_leaf(tree: &RevTree, named: &[RevId]) -> bool
+    ensures tree { IsTree tree.now }
+    ensures none { result ≡ false → (r : Rev) → is_known_leaf tree.now r ≡ true → among named.now r ≡ false }
+{
+    let _oldest = tree.oldest();
+    for rev in named {
+        if tree.is_leaf(*rev) {
+            return true;
+        }
+    }
+    false
 }

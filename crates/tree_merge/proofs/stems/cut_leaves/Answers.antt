@@ -1,10 +1,14 @@
 use Rattle.std.proofs.Common.{◌≡◌, ◌==◌, ◌∙◌, ℕ, false, sym, ap, Some, eqb-true, eq-eqb, arith}
 use Rattle.std.proofs.lemmas.Bool.{true≢false}
+use Rattle.model.proofs.CutLaws.{cut_whole}
 use Rattle.tree_merge.proofs.Restricted.{cut_empty, cut_list, left}
 use Rattle.tree_merge.proofs.stems.cut_leaves.Goals as goal
 
 filled : (n : ℕ) → (n == 0) ≡ false → n ≡ 0 → ⊥
 filled n more e = true≢false (sym (eq-eqb n 0 e) ∙ more)
+
+pub returns-then-not-has_leaf : goal.returns-then-not-has_leaf
+returns-then-not-has_leaf c = ap Some c.in_ok-same.ensures ∙ sym (cut_whole c.args.named.now c.args.tree.now c.has_leaf.ensures.tree (c.has_leaf.ensures.none c.if-not-has_leaf.true))
 
 pub returns-then-is_empty : goal.returns-then-is_empty
 returns-then-is_empty c =

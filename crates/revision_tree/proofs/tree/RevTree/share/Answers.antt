@@ -1,0 +1,11 @@
+use Rattle.std.proofs.Common.{◌∙◌}
+use Rattle.revision_tree.specs.Rows.{nodes_of}
+use Rattle.revision_tree.proofs.Grafts.{same_tree_of, nodes_alike}
+use Rattle.revision_tree.proofs.tree.RevTree.share.Goals as goal
+
+pub invariant_of-result : goal.invariant_of-result
+invariant_of-result c =
+    record { nodes = nodes_alike (nodes_of c.in_ok-share.field-0) (nodes_of c.self.inside.rows) c.in_ok-share.ensures.nodes c.self.invariant.nodes; filled = c.in_ok-share.ensures.filled c.self.invariant.filled }
+
+pub returns : goal.returns
+returns c = same_tree_of (nodes_of c.in_ok-share.field-0) (nodes_of c.self.inside.rows) c.in_ok-share.ensures.nodes ∙ c.self.view_is

@@ -1,0 +1,29 @@
+use Rattle.std.proofs.Common.{◌≡◌, ◌∙◌, ◌-◌, ap, sym, subst}
+use Rattle.std.specs.List.{filter_map}
+use Rattle.model.specs.TreeChange.{stem}
+use Rattle.revision_tree.specs.Nodes.{rows_of}
+use Rattle.revision_tree.specs.Rows.{nodes_of}
+use Rattle.revision_tree.specs.Shortened.{row_above}
+use Rattle.revision_tree.proofs.Shortened.{IsLevelTree, shortened_nodes, shortened_tree}
+use Rattle.revision_tree.proofs.tree.RevTree.shortened.Goals as goal
+
+pub invariant_of-result : goal.invariant_of-result
+invariant_of-result c =
+    let ns = nodes_of c.self.inside.rows in
+    let made = nodes_of c.in_ok-above.field-0 in
+    let newest = c.last-newest.result in
+    let level = subst IsLevelTree (sym c.self.view_is) c.requires.level in
+    let is = c.in_ok-above.ensures.rows ∙ ap (λ g. filter_map (row_above g) (rows_of ns)) (c.saturating_sub-oldest.ensures ∙ ap (λ g. g - c.args.limit) c.generation.ensures.value) in
+    record {
+      nodes = shortened_nodes ns c.self.invariant.nodes c.args.limit c.requires.limit newest c.last-newest.ensures.known c.last-newest.ensures.newest level made is;
+      filled = c.in_ok-above.ensures.filled;
+    }
+
+pub returns : goal.returns
+returns c =
+    let ns = nodes_of c.self.inside.rows in
+    let made = nodes_of c.in_ok-above.field-0 in
+    let newest = c.last-newest.result in
+    let level = subst IsLevelTree (sym c.self.view_is) c.requires.level in
+    let is = c.in_ok-above.ensures.rows ∙ ap (λ g. filter_map (row_above g) (rows_of ns)) (c.saturating_sub-oldest.ensures ∙ ap (λ g. g - c.args.limit) c.generation.ensures.value) in
+    shortened_tree ns c.self.invariant.nodes c.args.limit c.requires.limit newest c.last-newest.ensures.known c.last-newest.ensures.newest level made is ∙ ap (stem c.args.limit) c.self.view_is
