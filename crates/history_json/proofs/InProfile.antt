@@ -30,12 +30,12 @@ use Rattle.history_json.specs.Replies.{refusal_name, outcome_data, local_outcome
 use Rattle.history_json.proofs.OneLine.{one-compact_text}
 use Rattle.history_json.proofs.Sound.{Sound, SoundMembers, sound_boolean, sound_number, sound_string, sound_body, sound_deeper, sound_array, sound_item, sound_items, sound_object, sound_none, sound_member, sound_text}
 
-sound_named : (n : ℕ) (k : List ℕ) (d : Data) (ms : Members) → are_ascii k ≡ true → is_before k ms ≡ true → Sound n d → SoundMembers n ms → SoundMembers n (member k d ms)
+pub sound_named : (n : ℕ) (k : List ℕ) (d : Data) (ms : Members) → are_ascii k ≡ true → is_before k ms ≡ true → Sound n d → SoundMembers n ms → SoundMembers n (member k d ms)
 sound_named n k d ms name before g h = sound_member n k d ms (is_utf8-from_IsUtf8 k (IsUtf8-are_ascii k name)) before g h
 
 -- ---- ids and revisions
 
-sound_id : (n : ℕ) (id : Id) → IsId id → Sound n (string id)
+pub sound_id : (n : ℕ) (id : Id) → IsId id → Sound n (string id)
 sound_id n id h = sound_string n id h.text
 
 utf8_rev : (rev : Rev) → IsRev rev → IsUtf8 (rev_text rev)
@@ -45,10 +45,10 @@ utf8_rev rev h =
     (IsUtf8-from_ascii (decimal rev.generation) (IsAscii-decimal rev.generation (omega arith)))
     (IsUtf8-append (45 ∷ []) (encode_lower rev.hash) (IsUtf8-are_ascii (45 ∷ []) refl) (utf8_lower rev.hash))
 
-sound_rev : (n : ℕ) (rev : Rev) → IsRev rev → Sound n (rev_data rev)
+pub sound_rev : (n : ℕ) (rev : Rev) → IsRev rev → Sound n (rev_data rev)
 sound_rev n rev h = sound_string n (rev_text rev) (utf8_rev rev h)
 
-sound_revs : (n : ℕ) (revs : List Rev) → All IsRev revs → Sound (n + 1) (revs_data revs)
+pub sound_revs : (n : ℕ) (revs : List Rev) → All IsRev revs → Sound (n + 1) (revs_data revs)
 sound_revs n revs h = sound_array n _ (sound_items n rev_data IsRev (sound_rev n) revs h)
 
 -- ---- edits and merges
@@ -113,7 +113,7 @@ sound_documents n (e ∷ f ∷ es) rises h =
     sound_member (n + 1) e.0 (revs_data e.1) (members_from (map named_leaves (f ∷ es))) (is_utf8-from_IsUtf8 e.0 here.0.text) (ap is_lt (rises-first e f es rises)) (sound_revs n e.1 here.1)
     (sound_documents n (f ∷ es) (rises-rest e f es rises) (All-tail NamesRevs e (f ∷ es) h))
 
-sound_removed : (n : ℕ) (named : Map names (List Rev)) → All NamesRevs (entries named) → Sound (n + 1 + 1) (removed_data named)
+pub sound_removed : (n : ℕ) (named : Map names (List Rev)) → All NamesRevs (entries named) → Sound (n + 1 + 1) (removed_data named)
 sound_removed n named h = sound_object (n + 1) _ (sound_documents n (entries named) named.sorted h)
 
 sound_command : (c : Command) → IsCommand c → Sound 67 (command_data c)

@@ -1,0 +1,16 @@
+mod Bulked
+mod Bytes
+mod Checkpoints
+mod Decided
+mod Differing
+mod Heads
+mod Lists
+mod Merging
+mod Paths
+mod Putting
+mod Queried
+mod Queries
+mod Routed
+mod Special
+mod Takes
+mod Targets
