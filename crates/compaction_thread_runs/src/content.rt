@@ -6,7 +6,7 @@ use crate::told::{Content, Kept, Replied, Told};
 use commands::{Entry, ReplyKind};
 use document_id::DocId;
 use revision_id::RevId;
-use revision_tree::Node;
+use revision_tree::RevTree;
 use sessions::{Fault, Receipt};
 use snapshots::Version;
 use std::alloc::Global;
@@ -100,11 +100,17 @@ pub(crate) fn sample_of(alloc: Global, version: &Version, document: usize) -> Op
 /// How many revisions of a document have a body.
 fn bodies(version: &Version, id: &DocId) -> usize {
     match version.database().documents().get(id) {
-        Some(record) => bodies_in(record.tree().nodes()),
+        Some(record) => bodies_in(record.tree()),
         None => 0,
     }
 }
 
-fn bodies_in(nodes: &[Node]) -> usize {
-    nodes.iter().filter(|node| node.body.is_some()).count()
+fn bodies_in(tree: &RevTree) -> usize {
+    let mut bodies = 0usize;
+    for node in tree.nodes() {
+        if node.body.is_some() {
+            bodies = bodies.saturating_add(1);
+        }
+    }
+    bodies
 }
