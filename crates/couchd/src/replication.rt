@@ -7,11 +7,7 @@ use std::io;
 use std::io::IsTerminal;
 use std::net::{SocketAddr, TcpStream};
 use std::process::ExitCode;
-use std::time::Duration;
-use streams::Stream;
-
-/// How many seconds a read or a write may stall.
-const STALL_SECONDS: u64 = 300;
+use streams::{Stream, set_up};
 
 /// Tells of each batch by a line on standard error, where that is a terminal.
 #[derive(Drop)]
@@ -69,12 +65,4 @@ fn connect(rt: &HostRuntime, name: &str, address: SocketAddr) -> Option<TcpStrea
     };
     set_up(&socket);
     Some(socket)
-}
-
-/// Sends without delay what is written, and gives up an end that stalls, where that can be had.
-fn set_up(socket: &TcpStream) {
-    let stall = Some(Duration::from_secs(STALL_SECONDS));
-    let _nodelay = socket.set_nodelay(true);
-    let _read = socket.set_read_timeout(stall);
-    let _write = socket.set_write_timeout(stall);
 }

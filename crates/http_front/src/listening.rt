@@ -9,11 +9,7 @@ use serving::{Ended, Window};
 use std::net::{TcpListener, TcpStream};
 use std::thread;
 use std::thread::Threads;
-use std::time::Duration;
-use streams::Stream;
-
-/// How many seconds a read or a write may stall.
-const STALL_SECONDS: u64 = 300;
+use streams::{Stream, set_up};
 
 /// Serves the connections that come to the listener: each session is lent to a worker of its own,
 /// which accepts so many of them, one after the other, or goes on without end where the number is 0.
@@ -91,12 +87,4 @@ fn serve_socket<X, S: Calls<X>>(
         Some(window) => serve_in(window, &mut reader, &mut writer, session, setting),
         None => serve(setting.alloc, &mut reader, &mut writer, session, setting),
     }
-}
-
-/// Sends without delay what is written, and gives up a peer that stalls, where that can be had.
-fn set_up(socket: &TcpStream) {
-    let stall = Some(Duration::from_secs(STALL_SECONDS));
-    let _nodelay = socket.set_nodelay(true);
-    let _read = socket.set_read_timeout(stall);
-    let _write = socket.set_write_timeout(stall);
 }

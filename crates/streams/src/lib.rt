@@ -6,9 +6,11 @@
 
 mod counted;
 pub mod scripted;
+mod sockets;
 mod traits;
 mod writes;
 
 pub use counted::Stream;
+pub use sockets::set_up;
 pub use traits::{Failed, Sink, Source};
 pub use writes::{write_all, write_both};
