@@ -20,6 +20,7 @@ use local_docs::Locals;
 use purge::PurgeLog;
 use std::alloc::{AllocError, Global};
 use std::marker::Model;
+use std::mem;
 
 /// How many revisions of a path a new database keeps.
 const DEFAULT_REVS_LIMIT: u32 = 1000;
@@ -135,11 +136,13 @@ impl Database {
         }
     }
 
+    /// Where memory is refused, no calls are left.
     fn count_call(&mut self, session: u16, call: u64) -> Result<(), AllocError>
         requires { call ≡ calls_of self.old session + 1 }
         ensures { IfOk result (λ _. self.new ≡ counted self.old session) }
     {
-        self.calls = self.calls.insert(session, call)?;
+        let calls = mem::replace(&mut self.calls, CowMap::new(self.alloc));
+        self.calls = calls.into_with(session, call)?;
         Ok(())
     }
 }

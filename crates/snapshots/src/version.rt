@@ -81,7 +81,17 @@ impl Version {
         requires room { length self.now.entries < 4294967295 }
         ensures pushed { IfOk result (λ v. v ≡ extended self.now (entry_of (now self.now) seat command.now ∷ [])) }
     {
-        let mut database = self.database.share()?;
+        self.share()?.into_act(seat, command)
+    }
+
+    /// As [`act`](Version::act), of a version that is given up: what no other version holds is changed in
+    /// its place.
+    pub fn into_act(self, seat: Seat, command: &Command) -> Result<Version, AllocError>
+        requires next { seat.call ≡ calls_of (now self) seat.session + 1 }
+        requires room { length self.entries < 4294967295 }
+        ensures pushed { IfOk result (λ v. v ≡ extended self (entry_of (now self) seat command.now ∷ [])) }
+    {
+        let mut database = self.database;
         let reply = database.act(seat, command)?;
         let command = command.copy(self.alloc)?;
         let history = self.history.push(Entry {
@@ -91,7 +101,7 @@ impl Version {
         })?;
         Ok(Version {
             alloc: self.alloc,
-            base: self.base.share()?,
+            base: self.base,
             database,
             history,
         })
