@@ -8,6 +8,7 @@ ghost use Rattle.replay_cli.specs.Places.{last_place, IsFirstWrong};
 use commands::{Entry, Reply};
 use snapshots::Version;
 use std::alloc::{AllocError, Global};
+use std::mem;
 
 /// The place of the first wrong entry.
 pub(crate) fn first_wrong(alloc: Global, entries: Vec<Entry>) -> Result<Option<u64>, AllocError>
@@ -16,33 +17,38 @@ pub(crate) fn first_wrong(alloc: Global, entries: Vec<Entry>) -> Result<Option<u
     ensures wrong { IfOk result (λ wrong. IfSome wrong (IsFirstWrong entries.items)) }
 {
     let mut version = Version::empty(alloc);
-    judge_all(&mut version, entries)
+    judge_all(alloc, &mut version, entries)
 }
 
 /// The place of the first wrong entry, where nothing stands yet.
-fn judge_all(version: &mut Version, entries: Vec<Entry>) -> Result<Option<u64>, AllocError>
+fn judge_all(
+    alloc: Global,
+    version: &mut Version,
+    entries: Vec<Entry>,
+) -> Result<Option<u64>, AllocError>
     requires empty { version.old ≡ record { base = empty_database; entries = [] } }
     requires places { length entries.items ≤ last_place }
     ensures legal { IfOk result (λ wrong. IfNone wrong (IsLegal empty_database entries.items)) }
     ensures wrong { IfOk result (λ wrong. IfSome wrong (IsFirstWrong entries.items)) }
 {
     for entry in entries {
-        if !judge_one(version, &entry)? {
-            return Ok(Some(version.place() + 1));
+        let place = version.place() + 1;
+        if !judge_one(alloc, version, &entry)? {
+            return Ok(Some(place));
         }
     }
     Ok(None)
 }
 
 /// Goes on by an entry, where that is the next one of a legal history, and answers whether it is.
-fn judge_one(version: &mut Version, entry: &Entry) -> Result<bool, AllocError>
+fn judge_one(alloc: Global, version: &mut Version, entry: &Entry) -> Result<bool, AllocError>
     requires { length version.old.entries < last_place }
     ensures next { result ≡ Ok true → IsNext (now version.old) entry.now
         × (version.new ≡ extended version.old (entry.now ∷ [])) }
-    ensures wrong { result ≡ Ok false → (IsNext (now version.old) entry.now → ⊥)
-        × (version.new ≡ version.old) }
+    ensures wrong { result ≡ Ok false → IsNext (now version.old) entry.now → ⊥ }
 {
-    let Some(next) = after(version, entry)? else {
+    let before = mem::replace(version, Version::empty(alloc));
+    let Some(next) = after(before, entry)? else {
         return Ok(false);
     };
     *version = next;
@@ -50,16 +56,16 @@ fn judge_one(version: &mut Version, entry: &Entry) -> Result<bool, AllocError>
 }
 
 /// The version after an entry, where that is the next one of a legal history.
-fn after(version: &Version, entry: &Entry) -> Result<Option<Version>, AllocError>
-    requires { length version.now.entries < last_place }
-    ensures next { IfOk result (λ found. IfSome found (λ next. IsNext (now version.now) entry.now
-        × (next ≡ extended version.now (entry.now ∷ [])))) }
-    ensures wrong { IfOk result (λ found. IfNone found (IsNext (now version.now) entry.now → ⊥)) }
+fn after(version: Version, entry: &Entry) -> Result<Option<Version>, AllocError>
+    requires { length version.entries < last_place }
+    ensures next { IfOk result (λ found. IfSome found (λ next. IsNext (now version) entry.now
+        × (next ≡ extended version (entry.now ∷ [])))) }
+    ensures wrong { IfOk result (λ found. IfNone found (IsNext (now version) entry.now → ⊥)) }
 {
     if entry.seat.call() != version.next_call(entry.seat.session()) {
         return Ok(None);
     }
-    let next = version.act(entry.seat, &entry.command)?;
+    let next = version.into_act(entry.seat, &entry.command)?;
     if !is_last_reply(&next, &entry.reply) {
         return Ok(None);
     }
