@@ -3,8 +3,8 @@
 //! The program takes no words. In each case two sessions do what it says, on threads: while session 0 is
 //! held within its compaction, session 1 does its part. They meet, session 1 does the rest, and the
 //! database is closed; each act is a line, and the end of the database is one. Then comes the soak, in
-//! which many sessions write, purge, compact and read at once. Each history is acted again in one thread.
-//! The status is 1 where memory was refused.
+//! which many sessions write, purge, compact and read at once. Each history is acted again in one thread,
+//! and its dump is audited. The status is 1 where memory was refused.
 #![tactic(auto)]
 
 mod act;

@@ -5,6 +5,7 @@ use crate::case::Case;
 use crate::notes::Notes;
 use crate::run::Ending;
 use crate::told::{Content, Kept, Line, Replied, Told};
+use replay_cli::Verdict;
 use std::io;
 use std::sync::Wait;
 
@@ -63,12 +64,24 @@ fn print_ending(rt: &impl Print, notes: &Notes, ending: Ending) -> io::Result<()
         Some(place) if place == ending.place => println!(rt; "all acted again")?,
         _ => println!(rt; "acted again: other replies")?,
     }
+    print_audit(rt, ending)?;
     let late = notes.marks.late();
     println!(rt;
         "{} lost, {late} late, {} failed",
         ending.lost,
         notes.counts().failed
     )
+}
+
+/// Prints what is said of the dump of the history.
+fn print_audit(rt: &impl Print, ending: Ending) -> io::Result<()> {
+    match ending.audit {
+        Some(Verdict::Legal(places)) if places == ending.place => {
+            println!(rt; "its dump is legal")
+        }
+        Some(verdict) => println!(rt; "its dump: {verdict}"),
+        None => println!(rt; "no dump"),
+    }
 }
 
 fn print_session(rt: &(impl Wait + Print), notes: &Notes, session: usize) -> io::Result<()> {

@@ -8,7 +8,8 @@ use crate::part::{meet, part};
 use crate::replay::replayed;
 use crate::soak::soak;
 use commands::{Config, Limits};
-use history_lock::{Opened, open};
+use history_lock::{Closed, Opened, open};
+use replay_cli::{Verdict, check, dump};
 use sessions::Session;
 use snapshots::Version;
 use std::alloc::Global;
@@ -49,6 +50,8 @@ pub(crate) struct Ending {
     pub(crate) lost: usize,
     /// How many entries were answered the same in one thread.
     pub(crate) again: Option<u64>,
+    /// What is said of its dump.
+    pub(crate) audit: Option<Verdict>,
 }
 
 /// Does the work on a new database, if memory is not refused before.
@@ -85,7 +88,8 @@ fn worked<J: Opening + Send + Sync, R: Threads + Wait + Clock + Sync>(
     };
     all_work(rt, alloc, work, notes, sessions.as_mut_slice());
     let closed = master.close(sessions, rt);
-    Some(ended(rt, alloc, notes, closed.version(), closed.lost()))
+    let audit = audited(alloc, &closed);
+    Some(ended(rt, alloc, notes, closed.version(), closed.lost(), audit))
 }
 
 /// Has each session work on a thread of its own.
@@ -133,7 +137,20 @@ fn meet_in<X: Wait, C: Wait + Drop, J: Opening, G: Gate + Drop>(
     }
 }
 
-fn ended(rt: &impl Wait, alloc: Global, notes: &Notes, last: &Version, lost: &[u16]) -> Ending {
+/// What an audit of its dump says of a closed history. Nothing where memory was refused.
+fn audited<J: Opening>(alloc: Global, closed: &Closed<J>) -> Option<Verdict> {
+    let text = dump(alloc, closed).ok()?;
+    check(alloc, text.as_slice()).ok()
+}
+
+fn ended(
+    rt: &impl Wait,
+    alloc: Global,
+    notes: &Notes,
+    last: &Version,
+    lost: &[u16],
+    audit: Option<Verdict>,
+) -> Ending {
     let mut samples = notes.samples.lock(rt);
     let again = replayed_with(alloc, last, &mut *samples);
     Ending {
@@ -141,6 +158,7 @@ fn ended(rt: &impl Wait, alloc: Global, notes: &Notes, last: &Version, lost: &[u
         calls: [last.next_call(0) - 1, last.next_call(1) - 1],
         lost: lost.len(),
         again,
+        audit,
     }
 }
 
