@@ -1,0 +1,11 @@
+use Rattle.loopback_runs.proofs.served.with_sessions.Given as goal
+
+-- the database that was just opened
+abbrev pub ghosts-worked-J-Naming : goal.ghosts-worked-J-Naming
+ghosts-worked-J-Naming g a = record { book = a.opened.book }
+
+abbrev pub ghosts-worked-J-Queued : goal.ghosts-worked-J-Queued
+ghosts-worked-J-Queued g a = record { table = a.opened.queue.table; capacity = a.opened.queue.capacity; sessions = a.opened.queue.sessions }
+
+abbrev pub ghosts-worked-J-Opening : goal.ghosts-worked-J-Opening
+ghosts-worked-J-Opening g a = record { max_places = a.opened.max_places }

@@ -1,0 +1,108 @@
+//! A database whose sessions work on threads.
+ghost use Rattle.std.specs.Prelude.{◌≡◌};
+
+use crate::ends::Ends;
+use crate::follow::follow_others;
+use crate::held::serve_held;
+use crate::hold::Hold;
+use crate::marks::Marks;
+use crate::write::WRITERS;
+use commands::{Config, Limits};
+use history_lock::{Opened, open};
+use http_front::Calls;
+use std::alloc::Global;
+use std::io;
+use std::io::ErrorKind;
+use std::marker::Brand;
+use std::sync::Wait;
+use std::thread::Threads;
+use std::time::Clock;
+use updating::{Opening, Point};
+
+/// What the sessions of a database do.
+#[derive(Drop)]
+pub(crate) enum Work {
+    /// Two serve connections of which the first one's write is held.
+    Held(Ends),
+    /// One follows what the others write.
+    Followed,
+}
+
+impl Work {
+    fn sessions(&self) -> u16 {
+        match self {
+            Work::Held(_ends) => 2,
+            Work::Followed => 1 + WRITERS,
+        }
+    }
+
+    fn point(&self) -> Option<Point> {
+        match self {
+            Work::Held(_ends) => Some(Point::Popped),
+            Work::Followed => None,
+        }
+    }
+}
+
+/// Has the sessions of a new database do their work, and answers what is told of it.
+pub(crate) fn with_sessions<R: AllocGlobal + Threads + Wait + Clock + Sync>(
+    rt: &R,
+    work: Work,
+) -> io::Result<String> {
+    let Some(opened) = opened(rt.alloc(), work.sessions()) else {
+        return Err(io::Error::from(ErrorKind::OutOfMemory));
+    };
+    let marks = Marks::new();
+    match worked::<Brand, _>(rt, work, &marks, opened) {
+        Some(told) => told,
+        None => Err(io::Error::from(ErrorKind::OutOfMemory)),
+    }
+}
+
+/// What a database of so many sessions is opened with.
+fn opened(alloc: Global, sessions: u16) -> Option<Opened> {
+    let config = Config::new(Limits {
+        sessions,
+        queue: 4,
+        gather: 4,
+        slice: 16,
+        slack: 16,
+        tries: 8,
+        max_places: 10_000,
+    })?;
+    Opened::new(alloc, config).ok()
+}
+
+/// The work of the sessions of a database; nothing where it isn't opened.
+fn worked<J: Opening + Send + Sync, R: AllocGlobal + Threads + Wait + Clock + Sync>(
+    rt: &R,
+    work: Work,
+    marks: &Marks,
+    opened: Opened,
+) -> Option<io::Result<String>>
+    requires book { opened.book ≡ J.book }
+    requires table { opened.queue.table ≡ J.table }
+    requires capacity { opened.queue.capacity ≡ J.capacity }
+    requires sessions { opened.queue.sessions ≡ J.sessions }
+    requires max_places { opened.max_places ≡ J.max_places }
+{
+    let hold = Hold::new(rt, marks, work.point());
+    let Ok((master, mut sessions)) = open::<&R, J, Hold<'_, R>>(rt, opened, hold) else {
+        return None;
+    };
+    let told = work_of(rt, work, marks, sessions.as_mut_slice());
+    let _closed = master.close(sessions, rt);
+    Some(told)
+}
+
+fn work_of<R: AllocGlobal + Threads + Wait + Clock + Sync, S: Calls<R> + Send>(
+    rt: &R,
+    work: Work,
+    marks: &Marks,
+    sessions: &mut [S],
+) -> io::Result<String> {
+    match work {
+        Work::Held(ends) => serve_held(rt, ends, marks, sessions),
+        Work::Followed => follow_others(rt, marks, sessions),
+    }
+}
