@@ -1,0 +1,11 @@
+use Rattle.replication_runs.proofs.databases.tell_case.Given as goal
+
+-- the database that was just opened, as the source
+abbrev pub ghosts-tell_from-J-Naming : goal.ghosts-tell_from-J-Naming
+ghosts-tell_from-J-Naming g a = record { book = a.source.book }
+
+abbrev pub ghosts-tell_from-J-Queued : goal.ghosts-tell_from-J-Queued
+ghosts-tell_from-J-Queued g a = record { table = a.source.queue.table; capacity = a.source.queue.capacity; sessions = a.source.queue.sessions }
+
+abbrev pub ghosts-tell_from-J-Opening : goal.ghosts-tell_from-J-Opening
+ghosts-tell_from-J-Opening g a = record { max_places = a.source.max_places }

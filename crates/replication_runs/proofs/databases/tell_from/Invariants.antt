@@ -1,0 +1,11 @@
+use Rattle.replication_runs.proofs.databases.tell_from.Given as goal
+
+-- the database that was just opened, as the target
+abbrev pub ghosts-tell_between-J-Naming : goal.ghosts-tell_between-J-Naming
+ghosts-tell_between-J-Naming g a = record { book = a.target.book }
+
+abbrev pub ghosts-tell_between-J-Queued : goal.ghosts-tell_between-J-Queued
+ghosts-tell_between-J-Queued g a = record { table = a.target.queue.table; capacity = a.target.queue.capacity; sessions = a.target.queue.sessions }
+
+abbrev pub ghosts-tell_between-J-Opening : goal.ghosts-tell_between-J-Opening
+ghosts-tell_between-J-Opening g a = record { max_places = a.target.max_places }

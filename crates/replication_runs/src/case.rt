@@ -1,0 +1,98 @@
+//! The cases.
+
+use crate::conflict::LOSER;
+use crate::flaw::Flaw;
+
+/// Which worker makes the second run.
+#[derive(Clone, Copy)]
+pub(crate) enum Second {
+    SameWorker,
+    NewWorker,
+    /// There is no second run, unless the first was refused memory.
+    IfRefusedMemory,
+}
+
+/// The ends of the first run, and the second one.
+#[derive(Clone, Copy)]
+pub(crate) struct Script {
+    pub(crate) name: &'static str,
+    pub(crate) source: Flaw,
+    pub(crate) target: Flaw,
+    pub(crate) second: Second,
+}
+
+/// A case, named for its first run.
+#[derive(Clone, Copy)]
+pub(crate) enum Case {
+    Plain,
+    TargetFails,
+    SourceFails,
+    LeftOut,
+    Refused,
+    /// One run, and a second one only where memory was refused.
+    Retried,
+}
+
+/// The cases that are told with no words.
+pub(crate) const CASES: [Case; 5] = [
+    Case::Plain,
+    Case::TargetFails,
+    Case::SourceFails,
+    Case::LeftOut,
+    Case::Refused,
+];
+
+impl Case {
+    pub(crate) fn script(self) -> Script {
+        match self {
+            Case::Plain => PLAIN,
+            Case::TargetFails => TARGET_FAILS,
+            Case::SourceFails => SOURCE_FAILS,
+            Case::LeftOut => LEFT_OUT,
+            Case::Refused => REFUSED,
+            Case::Retried => RETRIED,
+        }
+    }
+}
+
+const PLAIN: Script = Script {
+    name: "two leaves come to an empty target",
+    source: Flaw::None,
+    target: Flaw::None,
+    second: Second::SameWorker,
+};
+
+const TARGET_FAILS: Script = Script {
+    name: "the target takes the bulk and fails",
+    source: Flaw::None,
+    target: Flaw::FailsAfterBulk,
+    second: Second::NewWorker,
+};
+
+const SOURCE_FAILS: Script = Script {
+    name: "the source fails at its checkpoint",
+    source: Flaw::FailsAtCheckpoint,
+    target: Flaw::None,
+    second: Second::NewWorker,
+};
+
+const LEFT_OUT: Script = Script {
+    name: "the source leaves a revision out",
+    source: Flaw::LeavesOut(LOSER),
+    target: Flaw::None,
+    second: Second::NewWorker,
+};
+
+const REFUSED: Script = Script {
+    name: "the target refuses a document",
+    source: Flaw::None,
+    target: Flaw::RefusesBulk,
+    second: Second::NewWorker,
+};
+
+const RETRIED: Script = Script {
+    name: "again where memory is refused",
+    source: Flaw::None,
+    target: Flaw::None,
+    second: Second::IfRefusedMemory,
+};

@@ -1,0 +1,118 @@
+//! The two databases of a case.
+ghost use Rattle.std.specs.Prelude.{◌≡◌};
+
+use crate::case::{Case, Script};
+use crate::conflict::{Ids, both_leaves};
+use crate::run::tell_runs;
+use commands::{Config, Limits};
+use history_lock::{Opened, open};
+use http_front::Calls;
+use session_peer::SessionPeer;
+use sessions::Session;
+use std::alloc::{AllocError, Global};
+use std::io;
+use std::marker::Brand;
+use std::sync::Wait;
+use std::time::Clock;
+use updating::{Core, NoGate, Opening};
+
+const LIMITS: Limits = Limits {
+    sessions: 1,
+    queue: 1,
+    gather: 1,
+    slice: 1,
+    slack: 0,
+    tries: 1,
+    max_places: 100,
+};
+
+/// Goes through a case with two new databases, and prints it.
+pub(crate) fn tell_case<R: Wait + Clock + Print + AllocGlobal + Drop>(
+    rt: &R,
+    case: Case,
+) -> io::Result<()> {
+    let source = new_database(rt.alloc())?;
+    tell_from::<Brand, _>(rt, case, source)
+}
+
+fn new_database(alloc: Global) -> Result<Opened, AllocError> {
+    let Some(config) = Config::new(LIMITS) else {
+        unreachable!()
+    };
+    Opened::new(alloc, config)
+}
+
+/// Goes through a case whose source is this database.
+fn tell_from<J: Opening, R: Wait + Clock + Print + AllocGlobal + Drop>(
+    rt: &R,
+    case: Case,
+    source: Opened,
+) -> io::Result<()>
+    requires book { source.book ≡ J.book }
+    requires table { source.queue.table ≡ J.table }
+    requires capacity { source.queue.capacity ≡ J.capacity }
+    requires sessions { source.queue.sessions ≡ J.sessions }
+    requires max_places { source.max_places ≡ J.max_places }
+{
+    let session = session_of::<J, R>(rt, source)?;
+    let target = new_database(rt.alloc())?;
+    tell_between::<Brand, _, _>(rt, case, session, target)
+}
+
+/// Goes through a case from the source of a session to this database.
+fn tell_between<J: Opening, R: Wait + Clock + Print + AllocGlobal + Drop, S: Calls<R> + Drop>(
+    rt: &R,
+    case: Case,
+    source: S,
+    target: Opened,
+) -> io::Result<()>
+    requires book { target.book ≡ J.book }
+    requires table { target.queue.table ≡ J.table }
+    requires capacity { target.queue.capacity ≡ J.capacity }
+    requires sessions { target.queue.sessions ≡ J.sessions }
+    requires max_places { target.max_places ≡ J.max_places }
+{
+    let session = session_of::<J, R>(rt, target)?;
+    tell_sessions(rt, rt.alloc(), case.script(), source, session)
+}
+
+/// Has the source take both leaves, and goes through a case from one session to the other.
+fn tell_sessions<X: Print + Drop, S: Calls<X> + Drop, T: Calls<X> + Drop>(
+    rt: &X,
+    alloc: Global,
+    script: Script,
+    mut source: S,
+    target: T,
+) -> io::Result<()> {
+    let ids = Ids::new(alloc).ok_or(AllocError)?;
+    write_leaves(rt, alloc, &mut source)?;
+    let source = SessionPeer::new(source, rt);
+    let target = SessionPeer::new(target, rt);
+    tell_runs(rt, alloc, script, &ids, source, target)
+}
+
+/// Writes both leaves. A session that is alone is refused nothing but memory.
+fn write_leaves<X, S: Calls<X>>(rt: &X, alloc: Global, session: &mut S) -> Result<(), AllocError> {
+    let command = both_leaves(alloc).ok_or(AllocError)?;
+    match session.write(rt, command) {
+        Ok(_place) => Ok(()),
+        Err(_fault) => Err(AllocError),
+    }
+}
+
+/// The one session of a database.
+fn session_of<'r, J: Opening, R: Wait>(
+    rt: &'r R,
+    opened: Opened,
+) -> Result<Session<Core<&'r R, J>, J, NoGate>, AllocError>
+    requires book { opened.book ≡ J.book }
+    requires table { opened.queue.table ≡ J.table }
+    requires capacity { opened.queue.capacity ≡ J.capacity }
+    requires sessions { opened.queue.sessions ≡ J.sessions }
+    requires max_places { opened.max_places ≡ J.max_places }
+{
+    let Ok((_master, mut sessions)) = open::<&R, J, NoGate>(rt, opened, NoGate) else {
+        return Err(AllocError);
+    };
+    sessions.pop().ok_or(AllocError)
+}

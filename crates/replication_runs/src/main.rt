@@ -1,0 +1,42 @@
+//! Replications between sessions of two databases, of which an end may fail or lie.
+//!
+//! With no words the program goes through the cases. In each a source has a document with two leaves, a
+//! target is empty, and a worker brings the one to the other; then comes a second run, between ends that
+//! do as they should. Of each run is printed how it ended, and what both databases then have.
+//! `replication_runs replicate` makes one replication, and one more by a new worker where memory was
+//! refused. The status is 1 where memory was refused outside of a replication, and 2 for other words.
+#![tactic(auto)]
+
+mod case;
+mod conflict;
+mod databases;
+mod end;
+mod flaw;
+mod print;
+mod run;
+
+use crate::case::{CASES, Case};
+use crate::databases::tell_case;
+use std::process::ExitCode;
+use std::sync::Wait;
+use std::time::Clock;
+use std::{env, io};
+
+const UNREADABLE_WORDS: u8 = 2;
+
+fn tell_all<R: Wait + Clock + Print + AllocGlobal + Drop>(rt: &R) -> io::Result<()> {
+    for case in CASES {
+        tell_case(rt, case)?;
+    }
+    Ok(())
+}
+
+fn main(rt: HostRuntime) -> io::Result<ExitCode> {
+    let words: Vec<String> = env::args(&rt)?.collect(rt.alloc())?;
+    match words.as_slice() {
+        [_] => tell_all(&rt)?,
+        [_, word] if word.as_str() == "replicate" => tell_case(&rt, Case::Retried)?,
+        _ => return Ok(ExitCode::from(UNREADABLE_WORDS)),
+    }
+    Ok(ExitCode::SUCCESS)
+}
