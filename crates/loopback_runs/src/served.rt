@@ -14,10 +14,10 @@ use std::alloc::Global;
 use std::io;
 use std::io::ErrorKind;
 use std::marker::Brand;
-use std::sync::Wait;
+use std::sync::{Arc, Wait};
 use std::thread::Threads;
 use std::time::Clock;
-use updating::{Opening, Point};
+use updating::{Gate, Opening, Point};
 
 /// What the sessions of a database do.
 #[derive(Drop)]
@@ -49,11 +49,12 @@ pub(crate) fn with_sessions<R: AllocGlobal + Threads + Wait + Clock + Sync>(
     rt: &R,
     work: Work,
 ) -> io::Result<String> {
+    let marks = Arc::new(rt.alloc(), Marks::new())?;
+    let hold = Hold::new(rt, marks.clone()?, work.point());
     let Some(opened) = opened(rt.alloc(), work.sessions()) else {
         return Err(io::Error::from(ErrorKind::OutOfMemory));
     };
-    let marks = Marks::new();
-    match worked::<Brand, _>(rt, work, &marks, opened) {
+    match worked::<Brand, &R, R, Hold<&R>>(rt, rt, work, &marks, hold, opened) {
         Some(told) => told,
         None => Err(io::Error::from(ErrorKind::OutOfMemory)),
     }
@@ -73,11 +74,18 @@ fn opened(alloc: Global, sessions: u16) -> Option<Opened> {
     Opened::new(alloc, config).ok()
 }
 
-/// The work of the sessions of a database; nothing where it isn't opened.
-fn worked<J: Opening + Send + Sync, R: AllocGlobal + Threads + Wait + Clock + Sync>(
+/// The work of the sessions of a database, which keeps a runtime of its own; nothing where it isn't opened.
+fn worked<
+    J: Opening + Send + Sync,
+    T: Wait + Send + Drop,
+    R: AllocGlobal + Threads + Wait + Clock + Sync,
+    G: Gate + Send + Sync + Drop,
+>(
     rt: &R,
+    core_rt: T,
     work: Work,
     marks: &Marks,
+    gate: G,
     opened: Opened,
 ) -> Option<io::Result<String>>
     requires book { opened.book ≡ J.book }
@@ -86,8 +94,7 @@ fn worked<J: Opening + Send + Sync, R: AllocGlobal + Threads + Wait + Clock + Sy
     requires sessions { opened.queue.sessions ≡ J.sessions }
     requires max_places { opened.max_places ≡ J.max_places }
 {
-    let hold = Hold::new(rt, marks, work.point());
-    let Ok((master, mut sessions)) = open::<&R, J, Hold<'_, R>>(rt, opened, hold) else {
+    let Ok((master, mut sessions)) = open::<T, J, G>(core_rt, opened, gate) else {
         return None;
     };
     let told = work_of(rt, work, marks, sessions.as_mut_slice());

@@ -1,7 +1,7 @@
 //! The two databases of a case.
 ghost use Rattle.std.specs.Prelude.{◌≡◌};
 
-use crate::case::{Case, Script};
+use crate::case::Case;
 use crate::conflict::{Ids, both_leaves};
 use crate::run::tell_runs;
 use commands::{Config, Limits};
@@ -32,7 +32,7 @@ pub(crate) fn tell_case<R: Wait + Clock + Print + AllocGlobal + Drop>(
     case: Case,
 ) -> io::Result<()> {
     let source = new_database(rt.alloc())?;
-    tell_from::<Brand, _>(rt, case, source)
+    tell_from::<Brand, &R, R>(rt, rt, case, source)
 }
 
 fn new_database(alloc: Global) -> Result<Opened, AllocError> {
@@ -42,9 +42,10 @@ fn new_database(alloc: Global) -> Result<Opened, AllocError> {
     Opened::new(alloc, config)
 }
 
-/// Goes through a case whose source is this database.
-fn tell_from<J: Opening, R: Wait + Clock + Print + AllocGlobal + Drop>(
+/// Goes through a case whose source is this database, which keeps a runtime of its own.
+fn tell_from<J: Opening, T: Wait + Drop, R: Wait + Clock + Print + AllocGlobal + Drop>(
     rt: &R,
+    source_rt: T,
     case: Case,
     source: Opened,
 ) -> io::Result<()>
@@ -54,33 +55,33 @@ fn tell_from<J: Opening, R: Wait + Clock + Print + AllocGlobal + Drop>(
     requires sessions { source.queue.sessions ≡ J.sessions }
     requires max_places { source.max_places ≡ J.max_places }
 {
-    let session = session_of::<J, R>(rt, source)?;
+    let session = session_of::<J, T>(source_rt, source)?;
     let target = new_database(rt.alloc())?;
-    tell_between::<Brand, _, _>(rt, case, session, target)
+    tell_between::<Brand, &R, R, _>(rt, rt, case, session, target)
 }
 
-/// Goes through a case from the source of a session to this database.
-fn tell_between<J: Opening, R: Wait + Clock + Print + AllocGlobal + Drop, S: Calls<R> + Drop>(
-    rt: &R,
-    case: Case,
-    source: S,
-    target: Opened,
-) -> io::Result<()>
+/// Goes through a case from the source of a session to this database, which keeps a runtime of its own.
+fn tell_between<
+    J: Opening,
+    T: Wait + Drop,
+    R: Wait + Clock + Print + AllocGlobal + Drop,
+    S: Calls<R> + Drop,
+>(rt: &R, target_rt: T, case: Case, source: S, target: Opened) -> io::Result<()>
     requires book { target.book ≡ J.book }
     requires table { target.queue.table ≡ J.table }
     requires capacity { target.queue.capacity ≡ J.capacity }
     requires sessions { target.queue.sessions ≡ J.sessions }
     requires max_places { target.max_places ≡ J.max_places }
 {
-    let session = session_of::<J, R>(rt, target)?;
-    tell_sessions(rt, rt.alloc(), case.script(), source, session)
+    let session = session_of::<J, T>(target_rt, target)?;
+    tell_sessions(rt, rt.alloc(), case, source, session)
 }
 
 /// Has the source take both leaves, and goes through a case from one session to the other.
 fn tell_sessions<X: Print + Drop, S: Calls<X> + Drop, T: Calls<X> + Drop>(
     rt: &X,
     alloc: Global,
-    script: Script,
+    case: Case,
     mut source: S,
     target: T,
 ) -> io::Result<()> {
@@ -88,7 +89,7 @@ fn tell_sessions<X: Print + Drop, S: Calls<X> + Drop, T: Calls<X> + Drop>(
     write_leaves(rt, alloc, &mut source)?;
     let source = SessionPeer::new(source, rt);
     let target = SessionPeer::new(target, rt);
-    tell_runs(rt, alloc, script, &ids, source, target)
+    tell_runs(rt, alloc, case, &ids, source, target)
 }
 
 /// Writes both leaves. A session that is alone is refused nothing but memory.
@@ -101,17 +102,17 @@ fn write_leaves<X, S: Calls<X>>(rt: &X, alloc: Global, session: &mut S) -> Resul
 }
 
 /// The one session of a database.
-fn session_of<'r, J: Opening, R: Wait>(
-    rt: &'r R,
+fn session_of<J: Opening, T: Wait + Drop>(
+    rt: T,
     opened: Opened,
-) -> Result<Session<Core<&'r R, J>, J, NoGate>, AllocError>
+) -> Result<Session<Core<T, J>, J, NoGate>, AllocError>
     requires book { opened.book ≡ J.book }
     requires table { opened.queue.table ≡ J.table }
     requires capacity { opened.queue.capacity ≡ J.capacity }
     requires sessions { opened.queue.sessions ≡ J.sessions }
     requires max_places { opened.max_places ≡ J.max_places }
 {
-    let Ok((_master, mut sessions)) = open::<&R, J, NoGate>(rt, opened, NoGate) else {
+    let Ok((_master, mut sessions)) = open::<T, J, NoGate>(rt, opened, NoGate) else {
         return Err(AllocError);
     };
     sessions.pop().ok_or(AllocError)

@@ -1,6 +1,6 @@
 //! The runs of a case.
 
-use crate::case::{Script, Second};
+use crate::case::{Case, Second};
 use crate::conflict::Ids;
 use crate::end::End;
 use crate::flaw::Flawed;
@@ -21,16 +21,17 @@ pub(crate) struct Told {
     pub(crate) target_failures: u64,
 }
 
-/// Runs a replication and then, where the script has it, a second one between ends with no flaw, and
+/// Runs a replication and then, where the case has it, a second one between ends with no flaw, and
 /// prints what each came to.
 pub(crate) fn tell_runs<S: End + Drop, T: End + Drop>(
     rt: &impl Print,
     alloc: Global,
-    script: Script,
+    case: Case,
     ids: &Ids,
     source: S,
     target: T,
 ) -> io::Result<()> {
+    let script = case.script();
     let mut source = Flawed::new(source, script.source);
     let mut target = Flawed::new(target, script.target);
     let mut worker = new_worker(ids)?;
