@@ -7,7 +7,7 @@
 No contract counts the growths that were refused, so a body that answers want of memory too often is proved. Each place at
 which the code names it to answer it has a line in `places`, under the reason why it is right there. A place is its file,
 its function, the blocks that it stands in and its own statement, so code may move within its file. What patterns, types,
-declarations, contracts, tests and programs that are tests name is no place. The last line is `N passed, M failed`; status 1 where one failed.
+declarations, contracts and tests name is no place. The last line is `N passed, M failed`; status 1 where one failed.
 """
 import os
 import re
@@ -178,9 +178,9 @@ def places(path):
 
 
 def is_tested(crate, path):
-    """Whether the file is of tests, of a program that is a test, or of a bench."""
+    """Whether the file is of tests or benches."""
     parts = path.split(os.sep)
-    return crate.endswith(("_tests", "_bench", "_runs")) or "tests" in parts or parts[-1] == "tests.rt"
+    return crate.endswith(("_tests", "_bench")) or "tests" in parts or parts[-1] == "tests.rt"
 
 
 def found_places():
