@@ -1,5 +1,5 @@
 -- What the sessions of a server come to.
-use Rattle.std.proofs.Common.{◌≡◌, ℕ, ◌<◌, ◌-◌, List, length, map, take, drop, ◌++◌, [], ◌∷◌, Option, None, Some, false, filter, refl, sym, ◌∙◌, ap, subst, arith, slice_index_or, All, inl}
+use Rattle.std.proofs.Common.{◌≡◌, ℕ, ◌<◌, ◌-◌, List, length, map, take, drop, ◌++◌, [], ◌∷◌, Option, None, Some, false, filter, refl, sym, ◌∙◌, ap, subst, arith, slice_index_or, inl}
 use Rattle.std.specs.Prelude.{IfNone, cond}
 use Rattle.std.specs.List.{range_with_len}
 use Rattle.std.proofs.lemmas.Option.{none-some}

@@ -1,11 +1,11 @@
 -- A batch put into a world, as one step.
-use Rattle.std.specs.Prelude.{◌≡◌, ℕ, ◌+◌, List, [], ◌∷◌, ◌++◌, length, refl}
+use Rattle.std.specs.Prelude.{◌≡◌, ◌+◌, List, [], ◌∷◌, ◌++◌, length, refl}
 use Rattle.std.proofs.Common.{sym, ap, ◌∙◌, append_assoc, length-append}
 use Rattle.std.proofs.lemmas.List.{append-nil}
 use Rattle.model.specs.Command.{Job, Entry}
 use Rattle.model.specs.Database.{Database}
 use Rattle.model.specs.History.{entry_of, batch_entries}
-use Rattle.model.specs.World.{World, Completed, database_of, commit, commit_all}
+use Rattle.model.specs.World.{World, database_of, commit, commit_all}
 use Rattle.model.proofs.HistoryLaws.{replay-push}
 use Rattle.machine.specs.Events.{wrote_at, wrote_from}
 

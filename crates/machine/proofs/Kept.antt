@@ -1,30 +1,28 @@
 -- What each event leaves of what a machine is made of.
-use Rattle.std.specs.Prelude.{◌≡◌, ℕ, zero, suc, ◌+◌, ◌-◌, ◌==◌, ◌<◌, ◌≤◌, ◌&&◌, Bool, true, false, not, min, nat_lt, nat_le, List, [], ◌∷◌, ◌++◌, length, map, take, drop, slice_get, All, Option, Some, None, is_none, option_map, unwrap_or, IfSome, refl}
-use Rattle.std.proofs.Common.{sym, ap, subst, ◌∙◌, arith, append_assoc}
+use Rattle.std.specs.Prelude.{◌≡◌, ℕ, ◌+◌, ◌-◌, ◌==◌, ◌<◌, ◌&&◌, true, false, not, min, nat_lt, nat_le, List, [], ◌∷◌, ◌++◌, length, map, take, drop, slice_get, All, Option, Some, None, option_map, unwrap_or, IfSome, refl}
+use Rattle.std.proofs.Common.{sym, ap, subst, ◌∙◌, arith}
 use Rattle.std.proofs.lemmas.Bool.{lt-ltb, false≢true}
 use Rattle.std.proofs.lemmas.Option.{slice_get_within}
 use Rattle.std.proofs.lemmas.List.{append-nil, map-append}
 use Rattle.std.proofs.Math.Seq.{take-append_seam}
 use Rattle.model.specs.Map.{Map, entries}
-use Rattle.model.specs.Command.{numbers, Command, Job, Entry}
+use Rattle.model.specs.Command.{numbers, Command, Job}
 use Rattle.model.specs.Query.{Query}
-use Rattle.model.specs.PurgeLog.{is_overrun}
-use Rattle.model.specs.Database.{Database, calls_of}
+use Rattle.model.specs.Database.{calls_of}
 use Rattle.model.specs.History.{Chronicle, Extends, now, extended, replay, batch_entries}
 use Rattle.model.specs.Answers.{answer_to}
-use Rattle.model.specs.Compaction.{marks_of, touched, passed}
 use Rattle.model.specs.World as model
-use Rattle.model.specs.World.{Config, Event, Ask, Take, Put, GiveUp, Look, Read, Start, Slice, CatchUp, Swap, Abort, World, View, OpenCopy, free_in, place_in, viewing, all_at, is_compact, database_of, put_batch, commit_all, next_seat}
+use Rattle.model.specs.World.{Config, Event, Ask, Take, Put, GiveUp, Look, Read, World, View, free_in, place_in, viewing, all_at, is_compact}
 use Rattle.machine.specs.declared.completed.Completed.{Completed}
 use Rattle.machine.specs.declared.copying.Copying.{Copying}
 use Rattle.machine.specs.declared.views.SessionView.{SessionView}
-use Rattle.machine.specs.Events.{completed_of, wrote_at, wrote_from}
+use Rattle.machine.specs.Events.{completed_of, wrote_from}
 use Rattle.machine.specs.Views.{view_of, views_of, seeing, all_seeing, seen_by, freed_one, all_free}
 use Rattle.machine.specs.States.{State, stepped, state_of, open_copy, IsOfSession, IsUnderWay, IsMachine}
 use Rattle.machine.proofs.ViewLists.{get-views_of, views_of-seeing, views_of-all_seeing, views_of-freed_one, views_of-all_free}
-use Rattle.machine.proofs.Committed.{with_entries, commit_all-entries}
+use Rattle.machine.proofs.Committed.{commit_all-entries}
 use Rattle.machine.proofs.Reached.{reached_by}
-use Rattle.machine.proofs.Steps.{with_world, ask_some, take_some, put_some, give_up_none, give_up_some, look_some, read_some, start_some, slice_some, abort_some}
+use Rattle.machine.proofs.Steps.{with_world, ask_some, take_some, put_some, give_up_none, give_up_some, look_some, read_some}
 
 -- a session that is free is one of them
 pub free-within : (vs : List SessionView) (n : ℕ) → free_in (views_of vs) n ≡ true → n < length vs

@@ -1,23 +1,22 @@
 -- What the events of a compaction leave of what a machine is made of.
-use Rattle.std.specs.Prelude.{◌≡◌, ℕ, ◌+◌, ◌-◌, ◌==◌, ◌<◌, ◌≤◌, ◌&&◌, Bool, true, false, nat_lt, List, [], ◌∷◌, ◌++◌, length, map, take, Option, Some, None, is_none, option_map, unwrap_or, refl}
+use Rattle.std.specs.Prelude.{◌≡◌, ℕ, ◌+◌, ◌-◌, ◌==◌, ◌<◌, ◌&&◌, true, false, List, [], ◌∷◌, ◌++◌, length, map, take, Option, Some, None, is_none, option_map, refl}
 use Rattle.std.proofs.Common.{sym, ap, ◌∙◌, length-append}
 use Rattle.std.proofs.lemmas.List.{map-append}
-use Rattle.std.proofs.lemmas.Bool.{and_parts}
 use Rattle.model.specs.Map.{Map, entries}
 use Rattle.model.specs.Command.{numbers, Job}
 use Rattle.model.specs.PurgeLog.{is_overrun}
-use Rattle.model.specs.History.{Chronicle, Extends, now, extended}
+use Rattle.model.specs.History.{Chronicle, now, extended}
 use Rattle.model.specs.Compaction.{marks_of, touched, passed}
 use Rattle.model.specs.World as model
-use Rattle.model.specs.World.{Config, Start, Slice, CatchUp, Swap, Abort, View, OpenCopy, free_in, place_in, viewing}
+use Rattle.model.specs.World.{Config, Start, Slice, CatchUp, Abort, View, OpenCopy, free_in, place_in, viewing}
 use Rattle.machine.specs.declared.completed.Completed.{Completed}
 use Rattle.machine.specs.declared.copying.Copying.{Copying}
 use Rattle.machine.specs.declared.views.SessionView.{SessionView}
 use Rattle.machine.specs.Events.{completed_of, wrote_at}
-use Rattle.machine.specs.Views.{views_of, seeing, all_seeing, freed_one}
-use Rattle.machine.specs.States.{State, stepped, swapped_in, state_of, open_copy, compact_entry, chronicle_in}
+use Rattle.machine.specs.Views.{views_of, seeing, freed_one}
+use Rattle.machine.specs.States.{State, stepped, swapped_in, state_of, open_copy, compact_entry}
 use Rattle.machine.proofs.ViewLists.{views_of-seeing, views_of-freed_one}
-use Rattle.machine.proofs.Steps.{with_world, start_some, slice_some, catch_up_some, abort_none, abort_some}
+use Rattle.machine.proofs.Steps.{with_world, start_some, slice_some, catch_up_some, abort_some}
 
 module _ (v : Chronicle) (c : Config) (w b : List Job) (vs : List SessionView) (k : Option Copying) (cs : List Completed) where
   abbrev swapped_with : Chronicle → Map numbers View → List model.Completed → State

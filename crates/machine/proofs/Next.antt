@@ -1,5 +1,5 @@
 -- Each event leads from a machine to a machine.
-use Rattle.std.specs.Prelude.{◌≡◌, ℕ, zero, suc, ◌+◌, ◌==◌, ◌<◌, ◌≤◌, ◌&&◌, Bool, true, false, not, min, nat_lt, nat_le, List, [], ◌∷◌, ◌++◌, length, map, take, drop, slice_get, All, Option, Some, None, IfSome, refl}
+use Rattle.std.specs.Prelude.{◌≡◌, ℕ, zero, suc, ◌+◌, ◌==◌, ◌<◌, ◌&&◌, true, false, not, min, nat_lt, nat_le, List, [], ◌∷◌, ◌++◌, length, map, take, drop, slice_get, All, Option, Some, None, IfSome, refl}
 use Rattle.std.proofs.Common.{sym, ap, subst, ◌∙◌, arith}
 use Rattle.std.proofs.lemmas.Bool.{and_parts}
 use Rattle.std.proofs.lemmas.Option.{none-some, same_Some}
@@ -10,14 +10,14 @@ use Rattle.model.specs.Database.{calls_of}
 use Rattle.model.specs.History.{Chronicle, Extends, now, extended, batch_entries}
 use Rattle.model.specs.Answers.{answer_to}
 use Rattle.model.specs.World as model
-use Rattle.model.specs.World.{Config, Ask, Take, Put, GiveUp, Look, Read, free_in, is_compact}
+use Rattle.model.specs.World.{Config, Ask, Take, Put, GiveUp, Read, free_in, is_compact}
 use Rattle.model.proofs.HistoryLaws.{Extends-itself, Extends-through, Extends-extended}
 use Rattle.machine.specs.declared.completed.Completed.{Completed}
 use Rattle.machine.specs.declared.copying.Copying.{Copying}
 use Rattle.machine.specs.declared.views.SessionView.{SessionView}
 use Rattle.machine.specs.Events.{completed_of, wrote_from}
 use Rattle.machine.specs.Views.{views_of, all_seeing, seen_by, freed_one, all_free}
-use Rattle.machine.specs.States.{State, state_of, IsOfSession, IsUnderWay, IsMachine}
+use Rattle.machine.specs.States.{state_of, IsOfSession, IsUnderWay, IsMachine}
 use Rattle.machine.proofs.ViewLists.{length-all_seeing, All-all_seeing, length-freed_one, All-freed_one, length-all_free, All-all_free}
 use Rattle.machine.proofs.Kept.{free-within, next_machine, ask_stepped, take_stepped, put_stepped, give_up_stepped, read_stepped}
 

@@ -16,7 +16,7 @@ use Rattle.machine.specs.declared.copying.Copying.{Copying}
 use Rattle.machine.specs.declared.views.SessionView.{SessionView}
 use Rattle.machine.specs.Events.{completed_of, wrote_at}
 use Rattle.machine.specs.Views.{views_of, seeing, freed_one}
-use Rattle.machine.specs.States.{State, stepped, swapped_in, state_of, open_copy, compact_entry, IsReached, IsUnderWay, IsMachine}
+use Rattle.machine.specs.States.{stepped, swapped_in, state_of, open_copy, compact_entry, IsReached, IsUnderWay, IsMachine}
 use Rattle.machine.proofs.ViewLists.{length-seeing, All-seeing, length-freed_one, All-freed_one}
 use Rattle.machine.proofs.Kept.{free-within, next_machine}
 use Rattle.machine.proofs.KeptCopies.{start_stepped, slice_stepped, catch_up_stepped, abort_stepped, swap_stepped}

@@ -1,13 +1,13 @@
 -- Two puts into a map of views.
 use Rattle.std.specs.Prelude.{◌≡◌, ℕ, Bool, true, false, cond, Option, Some, refl}
 use Rattle.std.proofs.Common.{sym, ap, ◌∙◌}
-use Rattle.std.proofs.lemmas.Bool.{cond-true, cond-false, false≢true}
-use Rattle.model.specs.Map.{Map, get, put, get-put, same_key, same_key-equal, same_key_itself, same_map}
+use Rattle.std.proofs.lemmas.Bool.{cond-true, cond-false}
+use Rattle.model.specs.Map.{Map, get, put, get-put, same_key-equal, same_map}
 use Rattle.model.specs.Command.{numbers}
 use Rattle.model.specs.World.{View, place_in, viewing}
 use Rattle.model.proofs.ListLaws.{by_cases}
 use Rattle.model.proofs.JobLaws.{same-apart}
-use Rattle.model.proofs.ViewLaws.{same, place-own, place-other}
+use Rattle.model.proofs.ViewLaws.{same, place-other}
 
 -- the later one at the same key
 pub put_again : (m : Map numbers View) (a : ℕ) (x y : View) → put (put m a x) a y ≡ put m a y

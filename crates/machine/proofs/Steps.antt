@@ -1,14 +1,13 @@
 -- What each event does, by whether its condition holds.
-use Rattle.std.specs.Prelude.{◌≡◌, ℕ, ◌+◌, ◌-◌, ◌==◌, ◌<◌, ◌≤◌, ◌&&◌, Bool, true, false, cond, not, min, nat_lt, nat_le, List, [], ◌∷◌, ◌++◌, length, take, drop, Option, Some, None, is_none, option_map, unwrap_or, refl}
+use Rattle.std.specs.Prelude.{◌≡◌, ℕ, ◌+◌, ◌-◌, ◌==◌, ◌&&◌, true, false, not, min, nat_lt, nat_le, length, take, Some, None, is_none, option_map, unwrap_or, refl}
 use Rattle.std.proofs.Common.{sym, ap, ◌∙◌}
 use Rattle.std.proofs.lemmas.Bool.{cond-true, cond-false}
 use Rattle.model.specs.Map.{entries}
 use Rattle.model.specs.Command.{Command}
 use Rattle.model.specs.Query.{Query}
 use Rattle.model.specs.PurgeLog.{is_overrun}
-use Rattle.model.specs.Database.{Database}
 use Rattle.model.specs.Compaction.{marks_of, touched, passed}
-use Rattle.model.specs.World.{Config, Event, Ask, Take, Put, GiveUp, Look, Read, Start, Slice, CatchUp, Swap, Abort, World, OpenCopy, free_in, is_compact, database_of, put_batch, give_up, abort, swap, catch_up, step}
+use Rattle.model.specs.World.{Ask, Take, Put, GiveUp, Look, Read, Start, Slice, CatchUp, Swap, Abort, World, OpenCopy, free_in, is_compact, database_of, put_batch, give_up, abort, step}
 use Rattle.model.proofs.EventLaws.{asked, taken, looked, answered, started}
 use Rattle.machine.specs.States.{State, stepped, swapped_in}
 

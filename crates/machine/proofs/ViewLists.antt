@@ -1,14 +1,14 @@
 -- The views of the sessions, as a list and as a map.
-use Rattle.std.specs.Prelude.{◌≡◌, ℕ, zero, suc, ◌+◌, ◌<◌, ◌≤◌, Bool, true, false, cond, List, [], ◌∷◌, length, map, replicate, slice_get, slice_set, All, Option, Some, None, option_map, unwrap_or, refl}
+use Rattle.std.specs.Prelude.{◌≡◌, ℕ, zero, suc, ◌+◌, ◌<◌, Bool, true, false, List, [], ◌∷◌, length, map, replicate, slice_get, slice_set, All, Option, Some, None, option_map, unwrap_or, refl}
 use Rattle.std.specs.List.{range_with_len}
-use Rattle.std.proofs.Common.{sym, ap, subst, ◌∙◌, arith, get_or}
+use Rattle.std.proofs.Common.{sym, ap, subst, ◌∙◌, arith}
 use Rattle.std.proofs.lemmas.Bool.{cond-true, cond-false, false_from_ne_true}
 use Rattle.std.proofs.lemmas.List.{length-set}
 use Rattle.std.proofs.lemmas.List.Elements.{All-set}
 use Rattle.model.specs.Map.{Map, get, put, from_list, get-put, same_key-equal, same_key_itself}
 use Rattle.model.specs.Command.{numbers, Job}
 use Rattle.model.specs.History.{Chronicle}
-use Rattle.model.specs.World.{Config, View, start_world, free_in, place_in, viewing, all_at, all_freed}
+use Rattle.model.specs.World.{Config, View, start_world, viewing, all_at, all_freed}
 use Rattle.model.proofs.ViewLaws.{same}
 use Rattle.machine.specs.declared.views.SessionView.{SessionView}
 use Rattle.machine.specs.declared.views.Seen.{Seen}

@@ -1,5 +1,5 @@
 -- Two ways to cut a list in front of an element.
-use Rattle.std.proofs.Common.{◌≡◌, ◌⊎◌, inl, inr, suc, List, [], ◌∷◌, ◌++◌, length, refl, ap, sym, ◌∙◌}
+use Rattle.std.proofs.Common.{◌≡◌, ◌⊎◌, inl, inr, suc, List, [], ◌∷◌, ◌++◌, length, refl, ap, sym}
 
 module _ {X : Type 0} where
   -- one front goes on with the element that the other was cut at

@@ -1,6 +1,6 @@
 -- The lines of a dump.
 use Rattle.std.proofs.Common.{◌≡◌, ℕ, List, [], ◌∷◌, ◌++◌, Bool, true, false, All, map, refl, sym, ap, ◌∙◌}
-use Rattle.std.specs.Prelude.{◌==◌, ◌&&◌, not, codes}
+use Rattle.std.specs.Prelude.{◌==◌, not, codes}
 use Rattle.std.specs.List.{concat, flat_map}
 use Rattle.std.proofs.lemmas.Bool.{and_parts}
 use Rattle.std.proofs.lemmas.List.{append_assoc}
@@ -11,7 +11,7 @@ use Rattle.history_json.specs.Lines.{is_one_line}
 use Rattle.history_json.proofs.InProfile.{line-one}
 use Rattle.replay_cli.specs.Dump.{first_line, entry_line, dump_text}
 use Rattle.replay_cli.specs.Lines.{onto, lines, lines_or_one}
-use Rattle.replay_cli.proofs.Cuts.{ends_here, goes_on, concat-lines_or_one}
+use Rattle.replay_cli.proofs.Cuts.{goes_on, concat-lines_or_one}
 
 no_feed : (b : Bool) → not b ≡ true → b ≡ false
 no_feed true h = cc

@@ -1,6 +1,6 @@
 -- The first and the last node, and nodes counted piece by piece.
-use Rattle.std.specs.Prelude.{◌≡◌, ℕ, zero, suc, ◌+◌, ◌-◌, ◌<◌, ◌≤◌, min, ◌==◌, true, false, List, [], ◌∷◌, ◌++◌, map, length, get_or, take, drop, AllPairs, Contains, is_some, refl}
-use Rattle.std.proofs.Common.{sym, ap, subst, ◌∙◌, arith, append_assoc, add-one}
+use Rattle.std.specs.Prelude.{◌≡◌, ℕ, zero, suc, ◌+◌, ◌-◌, ◌<◌, ◌≤◌, min, ◌==◌, true, false, List, [], ◌∷◌, ◌++◌, length, get_or, take, drop, AllPairs, Contains, is_some, refl}
+use Rattle.std.proofs.Common.{sym, ap, subst, ◌∙◌, arith, append_assoc}
 use Rattle.std.specs.declared.cmp.Ordering.{Ordering}
 use Rattle.std.specs.declared.cmp.Ordering.TheVariants.{Less, Equal, Greater}
 use Rattle.std.specs.Ordering.{nat_cmp, ordering_then}
@@ -10,14 +10,13 @@ use Rattle.std.proofs.lemmas.Cmp.{ranked}
 use Rattle.std.proofs.Math.ListN.{length-map}
 use Rattle.std.proofs.lemmas.List.{map-append, get_or-map, take_more, length-append, append-nil}
 use Rattle.std.proofs.lemmas.List.Elements.{Contains-append_right}
-use Rattle.model.specs.Map.{get}
 use Rattle.model.specs.Revision.{Rev, rev_cmp}
-use Rattle.model.specs.Tree.{Tree, IsTree, knows}
+use Rattle.model.specs.Tree.{IsTree, knows}
 use Rattle.model.proofs.ListLaws.{Contains-head}
 use Rattle.revision_tree.specs.declared.node.Node.{Node}
-use Rattle.revision_tree.specs.Nodes.{IsNodes, IsSorted, row_of, rows_of, tree_of}
+use Rattle.revision_tree.specs.Nodes.{IsSorted, row_of, rows_of, tree_of}
 use Rattle.revision_tree.specs.Rows.{Piece, items_of, lists_of, joined, AreFilled}
-use Rattle.revision_tree.proofs.Pieces.{joined-append, joined_from, joined_at}
+use Rattle.revision_tree.proofs.Pieces.{joined-append, joined_from}
 use Rattle.revision_tree.proofs.Places.{Before, rising, got, node_known}
 
 -- ---- generations

@@ -1,5 +1,5 @@
 -- A graft of a path on the nodes of a tree.
-use Rattle.std.specs.Prelude.{◌≡◌, ℕ, zero, suc, ◌+◌, ◌-◌, ◌<◌, ◌≤◌, T, Bool, true, ◌||◌, List, [], ◌∷◌, map, length, get_or, take, drop, All, Contains, Option, Some, None, Result, Ok, Err, IfOk, refl}
+use Rattle.std.specs.Prelude.{◌≡◌, ℕ, zero, suc, ◌+◌, ◌-◌, ◌<◌, ◌≤◌, T, Bool, true, ◌||◌, List, [], ◌∷◌, map, length, get_or, take, drop, All, Contains, Some, None, Result, Ok, Err, IfOk, refl}
 use Rattle.std.specs.declared.vec.Vec.{Vec}
 use Rattle.std.specs.declared.alloc.Global.{Global}
 use Rattle.std.proofs.Common.{sym, ap, subst, ◌∙◌, arith, sub-one, length-drop, drop-cons}
@@ -10,14 +10,14 @@ use Rattle.std.proofs.lemmas.List.Elements.{All-weaker, All-contains_itself}
 use Rattle.model.specs.Map.{entries, from_list, refine_list}
 use Rattle.model.specs.Body.{Body, IsBody}
 use Rattle.model.specs.Revision.{Rev, IsRev, rev_cmp, revs}
-use Rattle.model.specs.Tree.{Tree, Revision, IsForest, IsTree, IsInRange, has_child, among}
+use Rattle.model.specs.Tree.{Tree, IsForest, IsInRange, has_child, among}
 use Rattle.model.specs.TreeChange.{IsPath, agrees, graft, grafted}
 use Rattle.model.proofs.UnionLaws.{IsTree-graft, IsInRange-graft}
 use Rattle.revision_tree.specs.declared.node.Node.{Node}
-use Rattle.revision_tree.specs.Nodes.{Row, IsNodes, IsSorted, IsListOf, entries_of, rows_of, tree_of}
+use Rattle.revision_tree.specs.Nodes.{IsNodes, IsSorted, IsListOf, entries_of, rows_of, tree_of}
 use Rattle.revision_tree.specs.Growth.{AreLinked, AreGround, IsRest, as_parent, as_newest, seen_in, marked_with, grown}
 use Rattle.revision_tree.proofs.Grown.{parent_added, newest_added, grown_marks, with_marks, rows_marked, tree_marked, nodes_marked}
-use Rattle.revision_tree.proofs.Listed.{IsListOf-nodes, entries-tree_of}
+use Rattle.revision_tree.proofs.Listed.{entries-tree_of}
 use Rattle.revision_tree.proofs.Rowed.{sorted_from_rows, entries_of-rows, bare_entry}
 
 -- ---- the first of a list

@@ -1,5 +1,5 @@
 -- A graft, member by member, on the nodes with their marks.
-use Rattle.std.specs.Prelude.{◌≡◌, ◌↔◌, ◌⊎◌, ℕ, ◌+◌, ◌<◌, ◌≤◌, T, Bool, true, false, ◌||◌, cond, List, [], ◌∷◌, map, drop, length, get_or, All, Contains, Option, Some, None, is_some, option_map, unwrap_or, if◌then◌else◌, refl}
+use Rattle.std.specs.Prelude.{◌≡◌, ◌⊎◌, ◌<◌, ◌≤◌, Bool, true, false, ◌||◌, cond, List, [], ◌∷◌, map, length, get_or, All, Contains, Option, Some, None, is_some, option_map, unwrap_or, if◌then◌else◌, refl}
 use Rattle.std.proofs.Common.{sym, ap, subst, ◌∙◌, ⊎_elim, inl, inr, arith}
 use Rattle.std.specs.Cmp.{both_ways}
 use Rattle.std.specs.FinMap.Entries.{find, put}
@@ -7,20 +7,20 @@ use Rattle.std.proofs.lemmas.Bool.{true≢false, cond-false}
 use Rattle.std.proofs.lemmas.Option.{same_Some, none-some}
 use Rattle.std.proofs.lemmas.List.Elements.{All-head, All-tail, All-weaker, All-contains_itself}
 use Rattle.model.specs.Map.{Map, entries, get, get-put, same_map, refine, refine_list}
-use Rattle.model.specs.Body.{Body, IsBody}
-use Rattle.model.specs.Revision.{Rev, IsRev, rev_cmp, revs, same_rev, same_rev-equal}
-use Rattle.model.specs.Tree.{Tree, Revision, IsForest, IsTree, IsInRange, has_child, is_at, knows, parent_of, among}
-use Rattle.model.specs.TreeChange.{IsPath, IsUnion, agrees, is_pair, linked, linked_to, unseen, given, graft, grafted}
+use Rattle.model.specs.Body.{Body}
+use Rattle.model.specs.Revision.{Rev, rev_cmp, revs, same_rev, same_rev-equal}
+use Rattle.model.specs.Tree.{Tree, Revision, IsForest, IsTree, IsInRange, has_child, is_at, parent_of, among}
+use Rattle.model.specs.TreeChange.{IsPath, IsUnion, is_pair, linked, linked_to, unseen, given, graft, grafted}
 use Rattle.model.proofs.ListLaws.{by_cases}
-use Rattle.model.proofs.MapLaws.{get-refine_all, same_key-apart}
+use Rattle.model.proofs.MapLaws.{get-refine_all}
 use Rattle.model.proofs.TreeLaws.{is_at-equal, has_child-parent, child_of}
 use Rattle.model.proofs.PathLaws.{same_rev-symm, pair_above, member_generation}
-use Rattle.model.proofs.UnionLaws.{graft-union, IsTree-graft, IsInRange-graft}
+use Rattle.model.proofs.UnionLaws.{graft-union}
 use Rattle.revision_tree.specs.declared.node.Node.{Node}
-use Rattle.revision_tree.specs.Nodes.{Row, IsNodes, IsSorted, entry_of, entries_of, row_of, rows_of, tree_of}
-use Rattle.revision_tree.specs.Growth.{seen_in, as_parent, as_newest, marked_with, grown, AreLinked, AreGround}
+use Rattle.revision_tree.specs.Nodes.{IsNodes, IsSorted, entry_of, entries_of, rows_of, tree_of}
+use Rattle.revision_tree.specs.Growth.{seen_in, as_parent, as_newest, marked_with, grown, AreGround}
 use Rattle.revision_tree.proofs.Listed.{entries-tree_of, sorted_list, tree_of-list}
-use Rattle.revision_tree.proofs.Rowed.{bare_entry, entries_of-rows, row_found, sorted_from_rows}
+use Rattle.revision_tree.proofs.Rowed.{bare_entry, entries_of-rows, row_found}
 
 -- ---- the next member
 

@@ -13,3 +13,4 @@ pub mod Stripped
 pub mod Grafts
 pub mod Ends
 pub mod Shortened
+pub mod Kept

@@ -1,5 +1,5 @@
 -- The piece that a revision is in.
-use Rattle.std.specs.Prelude.{◌≡◌, ℕ, zero, suc, ◌+◌, ◌-◌, ◌<◌, ◌≤◌, T, Bool, true, false, not, List, [], ◌∷◌, ◌++◌, map, length, get_or, take, drop, set, All, AllPairs, Contains, Option, Some, None, Result, Ok, Err, IfOk, refl}
+use Rattle.std.specs.Prelude.{◌≡◌, ℕ, zero, suc, ◌+◌, ◌-◌, ◌<◌, ◌≤◌, T, Bool, true, false, not, List, [], ◌∷◌, ◌++◌, length, get_or, take, drop, set, All, AllPairs, Contains, Result, Ok, Err, IfOk, refl}
 use Rattle.std.proofs.Common.{sym, ap, subst, ◌∙◌, arith, append_assoc, length-take, length-drop, ⊎_elim}
 use Rattle.std.specs.List.{flat_map, insert}
 use Rattle.std.specs.declared.cmp.Ordering.{Ordering}
@@ -18,7 +18,7 @@ use Rattle.revision_tree.specs.declared.rows.Rows.{Rows}
 use Rattle.revision_tree.specs.Nodes.{Row, IsSorted, entry_of, entries_of, row_of, rows_of}
 use Rattle.revision_tree.specs.Rows.{Piece, items_of, lists_of, joined, nodes_of, AreFilled, starts_by, AllBelow, AllAbove, IsPlaceFor}
 use Rattle.revision_tree.proofs.Places.{Before, rising}
-use Rattle.revision_tree.proofs.Putting.{put-over, put-under, find-over, find-under, sorted_rest, sorted_front, above_key}
+use Rattle.revision_tree.proofs.Putting.{put-over, put-under, find-over, find-under, sorted_rest, sorted_front}
 
 -- ---- parts of a list in order
 

@@ -1,5 +1,5 @@
 -- The nodes with their marks, as entries in the order of their revisions.
-use Rattle.std.specs.Prelude.{◌≡◌, ℕ, zero, suc, ◌-◌, ◌+◌, ◌<◌, ◌≤◌, T, Bool, true, false, ◌&&◌, List, [], ◌∷◌, ◌++◌, map, length, get_or, take, drop, set, All, AllPairs, Contains, Option, Some, None, is_some, option_map, cond, refl}
+use Rattle.std.specs.Prelude.{◌≡◌, ℕ, zero, suc, ◌+◌, ◌<◌, ◌≤◌, T, Bool, true, false, ◌&&◌, List, [], ◌∷◌, ◌++◌, map, length, get_or, take, drop, set, All, AllPairs, Contains, Option, Some, None, is_some, option_map, cond, refl}
 use Rattle.std.specs.List.{insert}
 use Rattle.std.proofs.Common.{sym, ap, subst, ◌∙◌, arith, length-take, length-drop, get_or-take}
 use Rattle.std.specs.declared.cmp.Ordering.TheVariants.{Less, Equal, Greater}
@@ -9,15 +9,15 @@ use Rattle.std.specs.FinMap.Entries.{by_order, find, put, is_sorted, below_all}
 use Rattle.std.proofs.lemmas.Bool.{true≢false}
 use Rattle.std.proofs.lemmas.List.{map-append, take-append-drop, get_or-drop}
 use Rattle.std.proofs.lemmas.List.Elements.{All-map}
-use Rattle.model.specs.Map.{Map, entries, get, from_list}
+use Rattle.model.specs.Map.{Map}
 use Rattle.model.specs.Revision.{Rev, rev_cmp, rev_exact, revs, same_rev}
-use Rattle.model.specs.Tree.{Tree, Revision, IsTree, IsInRange, knows, has_child, is_at}
+use Rattle.model.specs.Tree.{Revision, knows}
 use Rattle.model.proofs.ListLaws.{AllPairs-head, AllPairs-tail, Contains-map}
 use Rattle.model.proofs.MapLaws.{Contains-entries}
 use Rattle.revision_tree.specs.declared.node.Node.{Node}
 use Rattle.revision_tree.specs.Nodes.{Row, IsSorted, entry_of, entries_of, row_of, rows_of, tree_of}
 use Rattle.revision_tree.proofs.Listed.{entries-tree_of}
-use Rattle.revision_tree.proofs.Places.{Before, rising}
+use Rattle.revision_tree.proofs.Places.{Before}
 use Rattle.revision_tree.proofs.Putting.{above_key, put-over, put-under, put-same}
 
 -- ---- rows against entries

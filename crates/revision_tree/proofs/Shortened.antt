@@ -1,29 +1,32 @@
 -- A stem where each leaf is of the newest generation: the revisions above a generation.
-use Rattle.std.specs.Prelude.{◌≡◌, ◌↔◌, ℕ, ◌+◌, ◌-◌, ◌<◌, ◌≤◌, Bool, true, false, cond, nat_lt, List, [], ◌∷◌, ◌++◌, map, length, get_or, take, All, Contains, Option, Some, None, is_some, option_and_then, IfSome, if◌then◌else◌, refl}
+use Rattle.std.specs.Prelude.{◌≡◌, ◌↔◌, ℕ, zero, suc, ◌+◌, ◌-◌, ◌<◌, ◌≤◌, T, Bool, true, false, nat_lt, List, [], ◌∷◌, ◌++◌, length, get_or, take, drop, All, Contains, Option, Some, None, is_some, option_and_then, IfSome, if◌then◌else◌, refl}
 use Rattle.std.specs.List.{filter_map, cons_option}
+use Rattle.std.specs.FinMap.Entries.{is_sorted}
 use Rattle.std.proofs.Common.{sym, ap, subst, ◌∙◌, arith, lt-ltb, ltb-true}
 use Rattle.std.specs.Cmp.{both_ways}
-use Rattle.std.proofs.lemmas.Bool.{true≢false, cond-true}
-use Rattle.std.proofs.lemmas.List.{map-append, take_more, take_all}
+use Rattle.std.proofs.lemmas.Bool.{cond-true}
+use Rattle.std.proofs.lemmas.List.{map-append, append-nil, take_more, take_all}
 use Rattle.std.proofs.Math.ListN.{length-map}
-use Rattle.std.proofs.lemmas.List.Elements.{All-head, All-tail, All-nil, All-append, All-weaker, All-contains_itself, filter_map-append}
-use Rattle.model.specs.Map.{entries, get, refine_list}
-use Rattle.model.specs.Revision.{Rev, revs}
-use Rattle.model.specs.Tree.{Tree, Revision, IsForest, IsTree, IsInRange, IsNear, has_child, is_leaf, knows, parent_of}
+use Rattle.std.proofs.lemmas.List.Elements.{All-head, All-tail, All-nil, All-cons, All-append, All-weaker, All-contains_itself, Contains-append_left, Contains-append_right, filter_map-append}
+use Rattle.model.specs.Map.{entries, refine_list}
+use Rattle.model.specs.Revision.{Rev, rev_cmp, revs}
+use Rattle.model.specs.Tree.{Tree, Revision, IsForest, IsNear, has_child, is_leaf, knows}
 use Rattle.model.specs.TreeChange.{IsRestriction, restrict, stem}
-use Rattle.model.proofs.TreeLaws.{has_child-parent, child_of, leaf_known, childless_leaf, knows_child}
-use Rattle.model.proofs.ListLaws.{by_cases}
+use Rattle.model.proofs.TreeLaws.{has_child-parent, child_of, leaf_known, leaf_childless, childless_leaf, knows_child}
+use Rattle.model.proofs.ListLaws.{AllPairs-head, by_cases}
 use Rattle.model.proofs.ReachLaws.{known_reached}
 use Rattle.model.proofs.AncestorLaws.{ancestor_known}
 use Rattle.model.proofs.RestrictLaws.{IsRestriction-restrict}
-use Rattle.model.proofs.StemLaws.{near_known, stem-restriction, IsTree-stem, IsInRange-stem}
+use Rattle.model.proofs.StemLaws.{stem-restriction, IsTree-stem, IsInRange-stem}
 use Rattle.revision_tree.specs.declared.node.Node.{Node}
 use Rattle.revision_tree.specs.Nodes.{Row, IsNodes, entry_of, entries_of, row_of, rows_of, tree_of}
 use Rattle.revision_tree.specs.Rows.{Piece, items_of, lists_of, joined}
-use Rattle.revision_tree.specs.Shortened.{cut_row, row_above}
+use Rattle.revision_tree.specs.Shortened.{cut_row, row_above, IsNearParent, IsRising}
 use Rattle.revision_tree.proofs.Listed.{entries-tree_of}
-use Rattle.revision_tree.proofs.Places.{got}
-use Rattle.revision_tree.proofs.Ends.{joined_more}
+use Rattle.revision_tree.proofs.Places.{Before, got, rising}
+use Rattle.revision_tree.proofs.Putting.{sorted_rest, sorted_front}
+use Rattle.revision_tree.proofs.Pieces.{list_read, whole_at}
+use Rattle.revision_tree.proofs.Ends.{joined_more, no_older}
 use Rattle.revision_tree.proofs.Grown.{with_marks, nodes_marked, tree_marked}
 
 -- each leaf is of the newest generation
@@ -105,6 +108,13 @@ module _ (t : Tree) (f : IsForest t) (limit : ℕ) (some : 0 < limit) (newest : 
           let c = child_of (restrict (is_above (newest.generation - limit)) t) r h in
           has_child-parent t r c.child ((restriction.parents c.child r).0 c.parent).0
 
+  -- and its leaves are those that there were
+  pub stem_leaf : (r : Rev) → is_leaf (stem limit t) r ≡ true → is_leaf t r ≡ true
+  stem_leaf r leaf =
+      let near : IsNear limit t r = (restriction.known r).0 (ap (λ u. knows u r) (sym stem_above) ∙ leaf_known (stem limit t) r leaf) in
+      let at = (near_above r).1 near in
+      childless_leaf t r at.1 (kept_children r at.0 at.1 ∙ leaf_childless (stem limit t) r leaf)
+
 entries_above : (g : ℕ) (t : Tree) → entries (restrict (is_above g) t) ≡ refine_list revs (kept g) (entries t)
 unfolding restrict
 entries_above g t = refl
@@ -137,7 +147,7 @@ pub level_leaves : (ns : List Node) → IsNodes ns → (g : ℕ) → All (IsLeve
 level_leaves ns h g all l leaf =
     let m = Rattle.revision_tree.proofs.Places.node_known ns h.sorted l (leaf_known (tree_of ns) l leaf) in
     let n = m.node in
-    let outer : n.inner ≡ false = h.inner n m.listed ∙ ap (has_child (tree_of ns)) m.rev ∙ Rattle.model.proofs.TreeLaws.leaf_childless (tree_of ns) l leaf in
+    let outer : n.inner ≡ false = h.inner n m.listed ∙ ap (has_child (tree_of ns)) m.rev ∙ leaf_childless (tree_of ns) l leaf in
     ap (λ (q : Rev). q.generation) (sym m.rev) ∙ Rattle.std.proofs.lemmas.List.Elements.All-contains (IsLevel g) ns n all m.listed outer
 
 -- ---- pieces
@@ -176,17 +186,69 @@ none_above g n le =
 pub one_above : (g : ℕ) (n : Node) → g < n.rev.generation → filter_map (row_above g) (row_of n ∷ []) ≡ cut_row g (row_of n) ∷ []
 one_above g n lt = ap (λ b. cons_option (if b then Some (cut_row g (row_of n)) else None) []) (lt-ltb g n.rev.generation lt)
 
+-- ---- nodes that begin above
+
+over_parent : (o : Option Rev) (m g : ℕ) → g + 1 < m → IfSome o (λ p. m ≤ suc p.generation) → IfSome o (λ p. g < p.generation)
+over_parent None m g lt h = tt
+over_parent (Some p) m g lt h = omega (arith, lt, h)
+
+whole_above : (g : ℕ) (ns : List Node) → All (λ n. g + 1 < n.rev.generation) ns → All IsNearParent ns → filter_map (row_above g) (rows_of ns) ≡ rows_of ns
+whole_above g [] over near = refl
+whole_above g (n ∷ ns) over near =
+    let lt : g + 1 < n.rev.generation = All-head (λ n. g + 1 < n.rev.generation) n ns over in
+    let here : row_above g (row_of n) ≡ Some (row_of n) = kept_whole g n (omega (arith, lt)) (over_parent n.parent n.rev.generation g lt (All-head IsNearParent n ns near)) in
+    let rest = whole_above g ns (All-tail (λ n. g + 1 < n.rev.generation) n ns over) (All-tail IsNearParent n ns near) in
+    λ i. cons_option (here i) (rest i)
+
+pub all_above : (g : ℕ) (ns : List Node) (n : Node) (rest : List Node) → IsRising ns → ns ≡ n ∷ rest → g + 1 < n.rev.generation → filter_map (row_above g) (rows_of ns) ≡ rows_of ns
+all_above g ns n rest h e lt =
+    let up : IsRising (n ∷ rest) = subst IsRising e h in
+    let over : All (λ m. g + 1 < m.rev.generation) (n ∷ rest) = All-cons (λ m. g + 1 < m.rev.generation) n rest lt
+    (All-weaker (Before n) (λ m. g + 1 < m.rev.generation) (λ m b. omega (arith, lt, no_older n.rev m.rev b)) rest (AllPairs-head Before n rest (rising (n ∷ rest) up.sorted))) in
+    subst (λ ms. filter_map (row_above g) (rows_of ms) ≡ rows_of ms) (sym e) (whole_above g (n ∷ rest) over up.near)
+
+-- nodes of a tree that stand together
+pub rising_part : (ns before part after : List Node) → IsNodes ns → ns ≡ before ++ (part ++ after) → IsRising part
+rising_part ns before part after h e = record {
+  sorted = sorted_front (entries_of part) (entries_of after) (sorted_rest (entries_of before) (entries_of part ++ entries_of after) (subst (λ es. T (is_sorted rev_cmp es)) parts h.sorted));
+  near = All-weaker (Contains part) IsNearParent (λ n c. near n n.parent refl (there n c)) part (All-contains_itself part);
+}
+  where
+    parts : entries_of ns ≡ entries_of before ++ (entries_of part ++ entries_of after)
+    parts = ap entries_of e ∙ map-append entry_of before (part ++ after) ∙ ap (λ es. entries_of before ++ es) (map-append entry_of part after)
+
+    there : (n : Node) → Contains part n → Contains ns n
+    there n c = subst (λ ms. Contains ms n) (sym e) (Contains-append_right before (part ++ after) n (Contains-append_left part after n c))
+
+    near : (n : Node) (o : Option Rev) → n.parent ≡ o → Contains ns n → IfSome o (λ p. n.rev.generation ≤ suc p.generation)
+    near n None e c = tt
+    near n (Some p) e c =
+        let up = h.tree.forest.parents n.rev p (ap (option_and_then (λ (v : Revision). v.parent)) (got ns h.sorted n c) ∙ e) in
+        omega (arith, up.1)
+
+same_item : {X : Type 0} (xs : List X) (i : ℕ) (d e : X) → i < length xs → get_or xs i d ≡ get_or xs i e
+same_item [] i d e lt = absurd (omega arith)
+same_item (x ∷ xs) zero d e lt = refl
+same_item (x ∷ xs) (suc i) d e lt = same_item xs i d e (omega arith)
+
+pub rising_pieces : (ps : List Piece) (last : List Node) → IsNodes (joined (lists_of ps) ++ last) → All IsRising (lists_of ps)
+rising_pieces ps last h = λ i d lt.
+    rising_part (joined (lists_of ps) ++ last) (joined (take i (lists_of ps))) (get_or (lists_of ps) i d) (joined (drop (suc i) (lists_of ps)) ++ last) h
+    (whole_at (lists_of ps) last i lt ∙ ap (λ ns. joined (take i (lists_of ps)) ++ (ns ++ (joined (drop (suc i) (lists_of ps)) ++ last))) (same_item (lists_of ps) i [] d lt))
+
+pub rising_last : (before last : List Node) → IsNodes (before ++ last) → IsRising last
+rising_last before last h = rising_part (before ++ last) before last [] h (ap (λ ns. before ++ ns) (sym (append-nil last)))
+
+pub rising_piece : (ps : List Piece) (i : ℕ) (p : Piece) → All IsRising (lists_of ps) → i < length ps → p ≡ get_or ps i p → IsRising (items_of p)
+rising_piece ps i p h lt is = subst IsRising (list_read ps i p lt is) (h i [] (omega (arith, lt, length-map ps items_of)))
+
+-- ---- node by node
+
 pub nodes_more : (g : ℕ) (ns : List Node) (i : ℕ) (n : Node) (old new : List Row) → i < length ns → n ≡ get_or ns i n → old ≡ filter_map (row_above g) (rows_of (take i ns)) → new ≡ old ++ filter_map (row_above g) (row_of n ∷ [])
     → new ≡ filter_map (row_above g) (rows_of (take (i + 1) ns))
 nodes_more g ns i n old new lt is e f =
     f ∙ ap (λ rs. rs ++ filter_map (row_above g) (row_of n ∷ [])) e ∙ sym (filter_map-append (row_above g) (rows_of (take i ns)) (row_of n ∷ []))
     ∙ ap (filter_map (row_above g)) (sym (map-append row_of (take i ns) (n ∷ [])) ∙ ap rows_of (ap (λ m. take i ns ++ m ∷ []) is ∙ sym (take_more ns i n lt)))
-
-pub whole_more : (g : ℕ) (ns : List Node) (i : ℕ) (n : Node) → i < length ns → n ≡ get_or ns i n → row_above g (row_of n) ≡ Some (row_of n) → filter_map (row_above g) (rows_of (take i ns)) ≡ rows_of (take i ns)
-    → filter_map (row_above g) (rows_of (take (i + 1) ns)) ≡ rows_of (take (i + 1) ns)
-whole_more g ns i n lt is one before =
-    let parts : rows_of (take (i + 1) ns) ≡ rows_of (take i ns) ++ (row_of n ∷ []) = ap rows_of (take_more ns i n lt ∙ ap (λ m. take i ns ++ m ∷ []) (sym is)) ∙ map-append row_of (take i ns) (n ∷ []) in
-    sym (nodes_more g ns i n (rows_of (take i ns)) (rows_of (take (i + 1) ns)) lt is (sym before) (parts ∙ ap (λ o. rows_of (take i ns) ++ cons_option o []) (sym one)))
 
 pub level_more : (g : ℕ) (ps : List Piece) (i : ℕ) (p : Piece) (ns : List Node) → i < length ps → p ≡ get_or ps i p → ns ≡ items_of p → All (IsLevel g) (joined (take i (lists_of ps))) → All (IsLevel g) ns → All (IsLevel g) (joined (take (i + 1) (lists_of ps)))
 level_more g ps i p ns lt is here before more =

@@ -1,16 +1,16 @@
 -- A strip of nodes by their marks.
 use Rattle.std.specs.List.{flat_map}
-use Rattle.std.specs.Prelude.{◌≡◌, ◌<◌, Bool, true, false, not, ◌&&◌, cond, Some, List, [], ◌∷◌, ◌++◌, map, length, All, Contains, None, is_some, if◌then◌else◌, refl}
+use Rattle.std.specs.Prelude.{◌≡◌, ◌<◌, Bool, true, false, not, ◌&&◌, Some, List, [], ◌∷◌, ◌++◌, map, length, All, Contains, None, is_some, if◌then◌else◌, refl}
 use Rattle.std.proofs.Common.{sym, ap, subst, ◌∙◌, arith}
 use Rattle.std.proofs.Math.ListN.{length-map}
 use Rattle.std.proofs.lemmas.List.{map-append}
 use Rattle.std.proofs.lemmas.List.Elements.{All-head, All-tail, All-nil, All-cons, All-weaker, All-contains_itself}
 use Rattle.model.specs.Map.{entries, refine_list}
 use Rattle.model.specs.Revision.{Rev, revs}
-use Rattle.model.specs.Tree.{Tree, Revision, IsTree, IsInRange, has_child, is_leaf, knows}
+use Rattle.model.specs.Tree.{Tree, Revision, has_child, is_leaf, knows}
 use Rattle.model.specs.TreeChange.{strip}
 use Rattle.model.proofs.TreeLaws.{same_children}
-use Rattle.model.proofs.StripLaws.{knows-strip, parent_of-strip, IsTree-strip, IsInRange-strip}
+use Rattle.model.proofs.StripLaws.{knows-strip, parent_of-strip}
 use Rattle.revision_tree.specs.declared.node.Node.{Node}
 use Rattle.revision_tree.specs.Nodes.{Row, IsNodes, entry_of, entries_of, row_of, rows_of, tree_of}
 use Rattle.revision_tree.specs.Rows.{joined, AreFilled}

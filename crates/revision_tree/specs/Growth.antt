@@ -1,5 +1,5 @@
 -- What a path adds to the nodes of a tree.
-use Rattle.std.specs.Prelude.{◌≡◌, Bool, true, false, ◌||◌, List, [], ◌∷◌, drop, Option, Some, unwrap_or}
+use Rattle.std.specs.Prelude.{◌≡◌, Bool, true, false, ◌||◌, List, [], ◌∷◌, drop, Some, unwrap_or}
 use Rattle.std.specs.FinMap.Entries.{find}
 use Rattle.model.specs.Map.{Map, entries, refine}
 use Rattle.model.specs.Body.{Body}

@@ -1,6 +1,7 @@
 //! The leaves of a tree in the winner's order.
-ghost use Rattle.std.specs.Prelude.{◌≡◌, Some, IfOk, ◌++◌, map, filter, reverse, option_map};
+ghost use Rattle.std.specs.Prelude.{◌≡◌, true, false, Some, IfOk, All, ◌++◌, map, filter, reverse, option_map};
 ghost use Rattle.std.specs.List.{find};
+ghost use Rattle.model.specs.Revision.{Rev};
 ghost use Rattle.model.specs.Tree.{leaves as ranked, winner as winning, revs_of};
 ghost use Rattle.revision_tree.specs.Nodes.{is_wanted, tree_of};
 ghost use Rattle.revision_tree.specs.Rows.{IsRows, joined, lists_of, nodes_of};
@@ -16,6 +17,27 @@ use std::sync::Arc;
 pub struct Leaf {
     pub deleted: bool,
     pub rev: RevId,
+}
+
+/// Whether no node but the last is a leaf.
+pub(crate) fn has_one_leaf(nodes: &[Node]) -> bool
+    ensures { result ≡ true → (newest : Rev) × All (λ n. n.inner ≡ false → n.rev ≡ newest) nodes.now }
+{
+    let [older @ .., _newest] = nodes else {
+        return false;
+    };
+    are_inner(older)
+}
+
+fn are_inner(nodes: &[Node]) -> bool
+    ensures { result ≡ true → All (λ n. n.inner ≡ true) nodes.now }
+{
+    for node in nodes {
+        if !node.inner {
+            return false;
+        }
+    }
+    true
 }
 
 pub(crate) fn winner_of(rows: &Rows) -> Leaf

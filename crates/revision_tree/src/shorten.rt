@@ -2,8 +2,8 @@
 ghost use Rattle.std.specs.Prelude.{◌≡◌, ◌<◌, [], ◌∷◌, ◌++◌, true, false, Some, IfOk, All, length};
 ghost use Rattle.std.specs.List.{filter_map};
 ghost use Rattle.revision_tree.specs.Nodes.{row_of, rows_of};
-ghost use Rattle.revision_tree.specs.Rows.{items_of, joined, lists_of, nodes_of, AreFilled};
-ghost use Rattle.revision_tree.specs.Shortened.{cut_row, row_above};
+ghost use Rattle.revision_tree.specs.Rows.{items_of, joined, lists_of, nodes_of, AreFilled, IsRows};
+ghost use Rattle.revision_tree.specs.Shortened.{cut_row, row_above, IsRising};
 
 use crate::node::Node;
 use crate::rows::Rows;
@@ -33,9 +33,9 @@ fn is_level(nodes: &[Node], generation: u32) -> bool
     true
 }
 
-/// The nodes above a generation, each with its parent where that is above it too. Shares the pieces that stay as they are.
+/// The nodes above a generation, each with its parent where that is above it too. Shares the pieces that begin far enough above it.
 pub(crate) fn above(alloc: Global, rows: Rows, generation: u32) -> Result<Rows, AllocError>
-    requires { AreFilled (lists_of rows.older.items) }
+    requires { IsRows rows }
     ensures rows { IfOk result (λ r. rows_of (nodes_of r) ≡ filter_map (row_above generation) (rows_of (nodes_of rows))) }
     ensures filled { IfOk result (λ r. AreFilled (lists_of r.older.items)) }
 {
@@ -50,7 +50,8 @@ fn pieces_above(
     pieces: &[Arc<Vec<Node>>],
     generation: u32,
 ) -> Result<Vec<Arc<Vec<Node>>>, AllocError>
-    requires { AreFilled (lists_of pieces.now) }
+    requires filled { AreFilled (lists_of pieces.now) }
+    requires rising { All IsRising (lists_of pieces.now) }
     ensures rows { IfOk result (λ above. rows_of (joined (lists_of above.items)) ≡ filter_map (row_above generation) (rows_of (joined (lists_of pieces.now)))) }
     ensures filled { IfOk result (λ above. AreFilled (lists_of above.items)) }
 {
@@ -69,10 +70,11 @@ fn add_piece(
     generation: u32,
 ) -> Result<(), AllocError>
     requires some { 0 < length (items_of piece.now) }
+    requires rising { IsRising (items_of piece.now) }
     ensures rows { IfOk result (λ _. rows_of (joined (lists_of above.new.items)) ≡ rows_of (joined (lists_of above.old.items)) ++ filter_map (row_above generation) (rows_of (items_of piece.now))) }
     ensures filled { AreFilled (lists_of above.old.items) → IfOk result (λ _. AreFilled (lists_of above.new.items)) }
 {
-    if are_above(piece, generation) {
+    if begin_above(piece, generation) {
         above.push(Arc::try_clone(piece)?)?;
         return Ok(());
     }
@@ -85,37 +87,24 @@ fn add_piece(
 }
 
 fn last_above(alloc: Global, last: Vec<Node>, generation: u32) -> Result<Vec<Node>, AllocError>
+    requires { IsRising last.items }
     ensures { IfOk result (λ above. rows_of above.items ≡ filter_map (row_above generation) (rows_of last.items)) }
 {
-    if are_above(&last, generation) {
+    if begin_above(&last, generation) {
         return Ok(last);
     }
     nodes_above(alloc, &last, generation)
 }
 
-/// Whether all stay as they are.
-fn are_above(nodes: &[Node], generation: u32) -> bool
+/// Whether the first node is more than one generation above: then all stay as they are, and their parents are above too.
+fn begin_above(nodes: &[Node], generation: u32) -> bool
+    requires { IsRising nodes.now }
     ensures { result ≡ true → filter_map (row_above generation) (rows_of nodes.now) ≡ rows_of nodes.now }
 {
-    for node in nodes {
-        if !is_above(node, generation) {
-            return false;
-        }
-    }
-    true
-}
-
-/// Whether a node is above a generation, and so its parent.
-fn is_above(node: &Node, generation: u32) -> bool
-    ensures { result ≡ true → row_above generation (row_of node.now) ≡ Some (row_of node.now) }
-{
-    if node.rev.generation() <= generation {
-        return false;
-    }
-    let Some(parent) = node.parent else {
+    let [first, ..] = nodes else {
         return true;
     };
-    parent.generation() > generation
+    first.rev.generation().saturating_sub(generation) > 1
 }
 
 fn nodes_above(alloc: Global, nodes: &[Node], generation: u32) -> Result<Vec<Node>, AllocError>

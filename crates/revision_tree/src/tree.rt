@@ -4,7 +4,7 @@ ghost use Rattle.std.specs.Arc.{arc_value};
 ghost use Rattle.model.specs.Map.{empty, entries};
 ghost use Rattle.model.specs.Body.{IsBody};
 ghost use Rattle.model.specs.Revision.{Rev, IsRev};
-ghost use Rattle.model.specs.Tree.{Tree, IsTree, IsInRange, knows as is_known, parent_of as known_parent, is_leaf as is_known_leaf, body_of as kept_body, is_deleted as is_known_deleted, path_of as path_to, leaves as ranked, winner as winning, revs_of};
+ghost use Rattle.model.specs.Tree.{Tree, IsTree, IsInRange, knows as is_known, parent_of as known_parent, is_leaf as is_known_leaf, among, body_of as kept_body, is_deleted as is_known_deleted, path_of as path_to, leaves as ranked, winner as winning, revs_of};
 ghost use Rattle.model.specs.TreeChange.{IsPath, agrees as is_agreed, grafted as grafting, stem as stemming, strip as stripping};
 ghost use Rattle.revision_tree.specs.Nodes.{IsListOf, entries_of, tree_of};
 ghost use Rattle.revision_tree.specs.Growth.{AreGround};
@@ -12,7 +12,7 @@ ghost use Rattle.revision_tree.specs.Rows.{AreFilled, lists_of, nodes_of};
 ghost use Rattle.revision_tree.specs.Walk.{left_of};
 
 use crate::growth::grow;
-use crate::leaf::{Leaf, leaves_of, winner_of};
+use crate::leaf::{Leaf, has_one_leaf, leaves_of, winner_of};
 use crate::marks::mark;
 use crate::node::Node;
 use crate::rows::Rows;
@@ -31,6 +31,8 @@ use std::sync::Arc;
 #[derive(Drop)]
 pub struct RevTree {
     rows: Rows,
+    /// Whether it is known to have no leaf but the newest revision.
+    one_leaf: bool,
 }
 
 impl Model for RevTree {
@@ -42,10 +44,11 @@ impl Model for RevTree {
 
     ghost use Rattle.revision_tree.specs.Nodes.{tree_of};
     ghost use Rattle.revision_tree.specs.Rows.{nodes_of, IsRows};
+    ghost use Rattle.revision_tree.specs.Kept.{IsKept};
 
     ghost view = { λ t. tree_of (nodes_of t.rows) };
 
-    ghost invariant = { λ t. IsRows t.rows };
+    ghost invariant = { λ t. IsKept t.rows t.one_leaf };
 }
 
 impl RevTree {
@@ -56,8 +59,10 @@ impl RevTree {
     {
         let mut nodes = nodes;
         mark(&mut nodes);
+        let one_leaf = has_one_leaf(&nodes);
         Ok(RevTree {
             rows: pieces_of(alloc, nodes)?,
+            one_leaf,
         })
     }
 
@@ -76,9 +81,10 @@ impl RevTree {
         requires agrees { is_agreed (unwrap_or (option_copied tree) empty) path.now ≡ true }
         ensures { IfOk result (λ t. t ≡ grafting path.now (arc_value body) deleted (unwrap_or (option_copied tree.entry) empty)) }
     {
+        let one_leaf = goes_through_leaves(tree, path);
         let mut rows = ground(alloc, tree)?;
         grow(alloc, &mut rows, path, body, deleted)?;
-        Ok(RevTree { rows })
+        Ok(RevTree { rows, one_leaf })
     }
 
     /// The tree with the bodies of its leaves alone.
@@ -87,6 +93,7 @@ impl RevTree {
     {
         Ok(RevTree {
             rows: stripped(alloc, &self.rows)?,
+            one_leaf: self.one_leaf,
         })
     }
 
@@ -95,7 +102,7 @@ impl RevTree {
         ensures { result ≡ true → (l r : Rev) → is_known_leaf self.now l ≡ true → is_known self.now r ≡ true → r.generation ≤ l.generation }
     {
         let newest = last(&self.rows);
-        are_level(&self.rows, newest.generation())
+        self.one_leaf || are_level(&self.rows, newest.generation())
     }
 
     /// The revisions of a level tree that are fewer than `limit` steps above some leaf. Shares what stands apart from the oldest.
@@ -106,8 +113,10 @@ impl RevTree {
     {
         let newest = last(&self.rows);
         let oldest = newest.generation().saturating_sub(limit);
+        let one_leaf = self.one_leaf;
         Ok(RevTree {
             rows: above(alloc, self.rows, oldest)?,
+            one_leaf,
         })
     }
 
@@ -117,6 +126,7 @@ impl RevTree {
     {
         Ok(RevTree {
             rows: self.rows.share(alloc)?,
+            one_leaf: self.one_leaf,
         })
     }
 
@@ -216,6 +226,28 @@ impl RevTree {
     {
         node_of(&self.rows, rev)?.body.as_ref()
     }
+}
+
+/// Whether the path has each leaf of the tree, and each of no tree: then a graft of it leaves no leaf but its newest.
+fn goes_through_leaves(tree: Option<&RevTree>, path: &[RevId]) -> bool
+    ensures { result ≡ true → (l : Rev) → is_known_leaf (unwrap_or (option_copied tree.entry) empty) l ≡ true → among path.now l ≡ true }
+{
+    let Some(tree) = tree else {
+        return true;
+    };
+    tree.one_leaf && has_leaf(tree, path)
+}
+
+/// Whether one of these revisions is a leaf.
+fn has_leaf(tree: &RevTree, revs: &[RevId]) -> bool
+    ensures { result ≡ true → (l : Rev) × (is_known_leaf tree.now l ≡ true) × (among revs.now l ≡ true) }
+{
+    for rev in revs {
+        if tree.is_leaf(*rev) {
+            return true;
+        }
+    }
+    false
 }
 
 /// The nodes of a tree, shared, and none of no tree.

@@ -1,13 +1,12 @@
 -- Documents that are opened with their paths show them.
-use Rattle.std.proofs.Common.{◌≡◌, ℕ, zero, suc, ◌+◌, ◌<◌, true, false, cond, List, [], ◌∷◌, map, All, Option, Some, None, is_some, option_map, option_and_then, unwrap_or, ok_or, Result, Ok, Err, refl, sym, ap, subst, ◌∙◌, arith}
+use Rattle.std.proofs.Common.{◌≡◌, ℕ, zero, suc, true, cond, List, [], ◌∷◌, All, Option, Some, None, is_some, option_map, option_and_then, unwrap_or, ok_or, Ok, Err, refl, sym, ap, subst, arith}
 use Rattle.std.proofs.lemmas.List.Elements.{All-cons, All-map, All-nil}
-use Rattle.std.proofs.lemmas.Option.{none-some, same_Some}
+use Rattle.std.proofs.lemmas.Option.{none-some}
 use Rattle.model.specs.Map.{get}
 use Rattle.model.specs.Body.{Body}
 use Rattle.model.specs.Command.{Id}
-use Rattle.model.specs.Database.{Database, Record, IsDatabase, tree_at}
+use Rattle.model.specs.Database.{Database, Record, IsDatabase}
 use Rattle.model.specs.Documents.{asked_of, document, opened, opened_at, opened_in, opened_unknown}
-use Rattle.model.specs.Query.{Document}
 use Rattle.model.specs.Revision.{Rev}
 use Rattle.model.specs.Tree.{Revision, Tree, IsForest, ancestors, body_of, knows, parent_of, path_of, upward}
 use Rattle.model.specs.TreeChange.{IsPath}

@@ -1,9 +1,9 @@
 -- A merge of what a document has.
-use Rattle.std.specs.Prelude.{◌≡◌, Bool, true, false, List, ◌∷◌, Some, Ok, option_map, unwrap_or, if◌then◌else◌, refl}
+use Rattle.std.specs.Prelude.{◌≡◌, Bool, false, ◌∷◌, Some, Ok, option_map, unwrap_or, if◌then◌else◌, refl}
 use Rattle.std.proofs.Common.{ap, ◌∙◌}
 use Rattle.std.proofs.lemmas.Bool.{cond-true}
 use Rattle.model.specs.Body.{Body}
-use Rattle.model.specs.Command.{Id, Merge}
+use Rattle.model.specs.Command.{Merge}
 use Rattle.model.specs.Edit.{merged, with_path, written, revision_written}
 use Rattle.model.specs.Tree.{Tree}
 use Rattle.model.specs.Database.{Database, tree_at, same_tree, with_tree, store, store_written, merge_in, after_merge}

@@ -1,6 +1,6 @@
 -- A compaction that is swapped in, over the batch and as the model's event.
 use Rattle.std.proofs.Common.{◌≡◌, ℕ, suc, ◌+◌, ◌==◌, ◌<◌, ◌≤◌, ◌||◌, Bool, true, false, cond, List, [], ◌∷◌, ◌++◌, length, Some, slice_get, refl, ap, sym, ◌∙◌, subst, arith, length-append}
-use Rattle.std.specs.Prelude.{◌≢◌, ◌↔◌, ◌&&◌, not, nat_lt, nat_le, Result, Ok, Err, IsErrAnd, option_map, unwrap_or, if◌then◌else◌}
+use Rattle.std.specs.Prelude.{◌≢◌, ◌&&◌, not, nat_lt, Result, Ok, Err, IsErrAnd, option_map, unwrap_or, if◌then◌else◌}
 use Rattle.std.proofs.lemmas.Bool.{false_from_ne_true, and_parts, and_from, lt-ltb, le-ltb}
 use Rattle.std.proofs.lemmas.Bool.Decides.{nat_tests}
 use Rattle.model.specs.Map.{same_key, same_key-equal}
@@ -21,7 +21,7 @@ use Rattle.compactor.specs.Copy.{CopyView}
 use Rattle.updater.specs.Batches.{MayFollow, has_job_of, joins}
 use Rattle.updating.specs.State.{State, database_of, entries_after, published_with}
 use Rattle.updating.specs.Worlds.{IsOf}
-use Rattle.updating.specs.Swaps.{HasPlace, Swaps, IsSwap, is_past, behind_by, compaction_of, after_swap}
+use Rattle.updating.specs.Swaps.{HasPlace, Swaps, IsSwap, is_past, behind_by, compaction_of}
 use Rattle.updating.proofs.Published.{length-entries}
 use Rattle.updating.specs.declared.fault.SwapFault.{SwapFault}
 use Rattle.updating.specs.declared.fault.SwapFault.TheVariants.{Full, Behind, Overrun, Memory}

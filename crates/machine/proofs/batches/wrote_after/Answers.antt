@@ -1,8 +1,4 @@
-use Rattle.std.proofs.Common.{◌∙◌, ap, List}
-use Rattle.std.specs.Prelude.{map, ◌++◌, drop, ◌+◌}
 use Rattle.model.specs.World as model
-use Rattle.machine.specs.declared.completed.Completed.{Completed}
-use Rattle.machine.specs.Events.{completed_of, wrote_from}
 use Rattle.machine.proofs.Wrote.{found_entry, wrote_more}
 use Rattle.machine.proofs.batches.wrote_after.Goals as goal
 

@@ -2,14 +2,14 @@ use Rattle.std.proofs.Common.{◌≡◌, ◌+◌, ◌∷◌, ◌∙◌, List, dr
 use Rattle.std.specs.Prelude.{filter_map}
 use Rattle.std.proofs.lemmas.List.{drop_more, drop_all}
 use Rattle.model.specs.Command.{Entry}
-use Rattle.model.specs.Database.{Database, empty_database}
+use Rattle.model.specs.Database.{empty_database}
 use Rattle.model.specs.History.{Chronicle, IsLegal}
 use Rattle.model.specs.Told.{AllTold, wrote, places_of, NoneFalls}
 use Rattle.model.specs.World as model
 use Rattle.model.proofs.PlaceLaws.{places_never_fall}
 use Rattle.model.proofs.RunLaws.{each_run}
 use Rattle.machine.specs.declared.event.Event.{Event}
-use Rattle.machine.specs.Events.{event_of, completed_of}
+use Rattle.machine.specs.Events.{event_of}
 use Rattle.machine.specs.States.{State}
 use Rattle.machine.proofs.record.run.Goals as goal
 

@@ -1,4 +1,4 @@
-use Rattle.std.proofs.Common.{◌≡◌, length, rules, sym, ap, ◌∙◌, ℕ}
+use Rattle.std.proofs.Common.{◌≡◌, length, rules, sym, ap, ◌∙◌}
 use Rattle.replay_cli.specs.declared.verdict.Verdict.TheVariants as verdict
 use Rattle.replay_cli.proofs.Verdicts.{legal-only, wrong-only, unreadable-only}
 use Rattle.replay_cli.proofs.audit.verdict_on.Goals as goal

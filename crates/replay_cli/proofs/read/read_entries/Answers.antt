@@ -2,8 +2,6 @@ use Rattle.std.proofs.Common.{◌≡◌, ◌+◌, ◌<◌, ◌≤◌, ℕ, List,
 use Rattle.std.specs.List.{AllZip}
 use Rattle.std.proofs.lemmas.List.{append_assoc, length-append}
 use Rattle.model.specs.Command.{Entry}
-use Rattle.history_json.specs.Line.{IsLine}
-use Rattle.replay_cli.specs.Dump.{entry_line}
 use Rattle.replay_cli.specs.Lines.{lines}
 use Rattle.replay_cli.specs.Places.{last_place}
 use Rattle.replay_cli.specs.Reading.{IsRead}

@@ -1,5 +1,5 @@
-use Rattle.std.proofs.Common.{◌≡◌, ◌++◌, inl, refl, sym, ap, subst, ◌∙◌, codes, List, ℕ}
-use Rattle.replay_cli.specs.Run.{Judged, Ends, verdict_text, verdict_status}
+use Rattle.std.proofs.Common.{inl, refl, subst, ◌∙◌, List, ℕ}
+use Rattle.replay_cli.specs.Run.{Judged, Ends, verdict_status}
 use Rattle.replay_cli.proofs.run.tell.Goals as goal
 
 pub returns : goal.returns

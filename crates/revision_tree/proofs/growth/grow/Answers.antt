@@ -1,4 +1,4 @@
-use Rattle.std.proofs.Common.{◌≡◌, ◌∷◌, ◌-◌, [], length, take, drop, subst, List}
+use Rattle.std.proofs.Common.{◌≡◌, ◌-◌, [], length, take, drop, subst, List}
 use Rattle.model.specs.Revision.{Rev}
 use Rattle.model.specs.TreeChange.{IsPath}
 use Rattle.std.specs.Arc.{arc_value}

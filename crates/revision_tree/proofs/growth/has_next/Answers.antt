@@ -1,4 +1,4 @@
-use Rattle.std.proofs.Common.{sym, ◌∙◌, arith, refl}
+use Rattle.std.proofs.Common.{sym, ◌∙◌}
 use Rattle.model.proofs.TreeLaws.{is_at-equal}
 use Rattle.revision_tree.proofs.Grown.{linked_first, linked_none}
 use Rattle.revision_tree.proofs.growth.has_next.Goals as goal

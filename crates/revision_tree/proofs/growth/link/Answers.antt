@@ -1,4 +1,4 @@
-use Rattle.std.proofs.Common.{◌+◌, ◌-◌, drop, take, length, ap, arith}
+use Rattle.std.proofs.Common.{◌+◌, ◌-◌, drop, take, length, arith}
 use Rattle.revision_tree.specs.Nodes.{tree_of}
 use Rattle.revision_tree.specs.Rows.{nodes_of}
 use Rattle.revision_tree.proofs.Grafts.{linked_start, linked_sorted, linked_next, rest_from}

@@ -1,4 +1,4 @@
-use Rattle.std.proofs.Common.{◌≡◌, ◌∙◌, ◌++◌, ap, sym, append_assoc, arith, drop}
+use Rattle.std.proofs.Common.{◌∙◌, ◌++◌, ap, sym, append_assoc, arith, drop}
 use Rattle.revision_tree.specs.Rows.{items_of, joined, lists_of}
 use Rattle.revision_tree.proofs.Ranked.{revs_half}
 use Rattle.revision_tree.proofs.Walked.{revs_back}

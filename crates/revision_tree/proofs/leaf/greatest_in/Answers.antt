@@ -1,4 +1,4 @@
-use Rattle.std.proofs.Common.{◌≡◌, ◌∙◌, Some, None, sym, ap, arith}
+use Rattle.std.proofs.Common.{◌≡◌, ◌∙◌, Some, None, sym, ap}
 use Rattle.revision_tree.specs.Rows.{items_of}
 use Rattle.revision_tree.proofs.Ranked.{greatest_of}
 use Rattle.revision_tree.proofs.Walked.{greatest_back, greatest_here}

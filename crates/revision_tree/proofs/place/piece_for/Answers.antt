@@ -1,5 +1,5 @@
 use Rattle.std.proofs.Common.{◌∙◌, ◌-◌, sym, ap, arith}
-use Rattle.revision_tree.specs.Rows.{Piece, items_of, starts_by}
+use Rattle.revision_tree.specs.Rows.{items_of, starts_by}
 use Rattle.std.specs.Prelude.{get_or, length}
 use Rattle.revision_tree.proofs.Pieces.{place_last, place_older}
 use Rattle.revision_tree.proofs.place.piece_for.Goals as goal

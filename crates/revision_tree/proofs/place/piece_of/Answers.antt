@@ -3,8 +3,8 @@ use Rattle.std.specs.FinMap.Entries.{find}
 use Rattle.std.specs.Prelude.{Contains}
 use Rattle.model.specs.Revision.{rev_cmp}
 use Rattle.revision_tree.specs.Nodes.{IsSorted, rows_of}
-use Rattle.revision_tree.specs.Rows.{lists_of, nodes_of, items_of}
-use Rattle.revision_tree.proofs.Pieces.{Parted, parted_older, parted_last, found_in, sorted_in, listed_in, list_read}
+use Rattle.revision_tree.specs.Rows.{lists_of, nodes_of}
+use Rattle.revision_tree.proofs.Pieces.{parted_older, parted_last, found_in, sorted_in, listed_in, list_read}
 use Rattle.revision_tree.proofs.place.piece_of.Goals as goal
 
 pub returns-then-place-len-clause-sorted : goal.returns-then-place-len-clause-sorted

@@ -1,5 +1,5 @@
-use Rattle.std.proofs.Common.{◌≡◌, ◌∙◌, ◌<◌, ◌≤◌, [], length, get_or, ap, sym, subst, arith}
-use Rattle.revision_tree.specs.Nodes.{IsSorted, row_of, rows_of}
+use Rattle.std.proofs.Common.{◌<◌, ◌≤◌, [], length, get_or, arith}
+use Rattle.revision_tree.specs.Nodes.{row_of}
 use Rattle.revision_tree.specs.Rows.{lists_of, nodes_of}
 use Rattle.revision_tree.proofs.Pieces.{parted_older, parted_last, sorted_in, if_ok, put_older, put_last}
 use Rattle.revision_tree.proofs.put.put.Goals as goal

@@ -1,9 +1,9 @@
-use Rattle.std.proofs.Common.{◌≡◌, ◌∙◌, ◌<◌, [], length, get_or, ap, sym, subst, arith}
+use Rattle.std.proofs.Common.{◌≡◌, ◌∙◌, [], length, get_or, ap, sym, arith}
 use Rattle.std.proofs.Math.ListN.{length-map}
 use Rattle.std.specs.FinMap.Entries.{put}
 use Rattle.model.specs.Revision.{rev_cmp}
-use Rattle.revision_tree.specs.Nodes.{IsSorted, row_of, rows_of}
-use Rattle.revision_tree.specs.Rows.{lists_of, items_of}
+use Rattle.revision_tree.specs.Nodes.{row_of, rows_of}
+use Rattle.revision_tree.specs.Rows.{lists_of}
 use Rattle.revision_tree.proofs.Pieces.{list_read, if_ok, put_rows}
 use Rattle.revision_tree.proofs.Rowed.{sorted_alike, put_some}
 use Rattle.revision_tree.proofs.put.put_older.Goals as goal

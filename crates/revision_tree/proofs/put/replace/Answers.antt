@@ -1,4 +1,4 @@
-use Rattle.std.proofs.Common.{ap, ◌∙◌, subst, sym, ◌<◌, length}
+use Rattle.std.proofs.Common.{ap, subst, sym, ◌<◌, length}
 use Rattle.revision_tree.proofs.Pieces.{replaced, filled_set}
 use Rattle.revision_tree.proofs.put.replace.Goals as goal
 

@@ -1,5 +1,5 @@
-use Rattle.std.proofs.Common.{◌≡◌, ◌∙◌, ◌<◌, ◌++◌, length, ap, sym, subst, arith}
-use Rattle.revision_tree.specs.Rows.{items_of, joined, lists_of, AreFilled}
+use Rattle.std.proofs.Common.{◌∙◌, ◌<◌, ◌++◌, length, ap, sym, subst, arith}
+use Rattle.revision_tree.specs.Rows.{joined, lists_of, AreFilled}
 use Rattle.revision_tree.proofs.Pieces.{settled, filled_more, take_some}
 use Rattle.revision_tree.proofs.put.settle.Goals as goal
 

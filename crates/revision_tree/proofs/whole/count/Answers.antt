@@ -1,4 +1,4 @@
-use Rattle.std.proofs.Common.{◌∙◌, ap, length, arith}
+use Rattle.std.proofs.Common.{ap, length, arith}
 use Rattle.revision_tree.proofs.Ends.{count_more}
 use Rattle.revision_tree.proofs.whole.count.Goals as goal
 

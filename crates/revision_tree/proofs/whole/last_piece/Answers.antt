@@ -1,4 +1,4 @@
-use Rattle.std.proofs.Common.{◌≡◌, ◌∙◌, ◌-◌, ◌++◌, [], ap, sym, subst, take, length, get_or, arith, eqb-true}
+use Rattle.std.proofs.Common.{◌≡◌, ◌∙◌, ◌-◌, ◌++◌, ap, sym, subst, take, length, get_or, arith, eqb-true}
 use Rattle.std.proofs.lemmas.List.{nil_from_length}
 use Rattle.revision_tree.specs.Rows.{joined, lists_of}
 use Rattle.revision_tree.proofs.Ends.{last_parts, filled_here, some_from}

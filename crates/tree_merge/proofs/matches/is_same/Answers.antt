@@ -1,5 +1,4 @@
 use Rattle.std.proofs.Common.{◌∙◌, ◌&&◌, sym, ap}
-use Rattle.revision_tree.specs.Nodes.{entry_of}
 use Rattle.revision_tree.specs.Walk.{left_of}
 use Rattle.tree_merge.proofs.Compared.{Alike, compared, counted_apart, alike_next, alike_short, alike_last}
 use Rattle.tree_merge.proofs.matches.is_same.Goals as goal

@@ -1,4 +1,4 @@
-use Rattle.std.proofs.Common.{◌∙◌, ap, sym, Some, Ok}
+use Rattle.std.proofs.Common.{◌∙◌, ap, Some, Ok}
 use Rattle.std.specs.Prelude.{not}
 use Rattle.tree_merge.proofs.Unaltered.{has_body, grafts_nothing}
 use Rattle.tree_merge.proofs.Writes.{written_ok}

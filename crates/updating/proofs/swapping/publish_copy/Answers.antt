@@ -1,4 +1,4 @@
-use Rattle.std.proofs.Common.{◌≡◌, ◌+◌, ◌≤◌, ◌∙◌, ◌∷◌, [], ◌++◌, List, Some, ap, sym, subst, length, arith}
+use Rattle.std.proofs.Common.{◌≡◌, ◌+◌, ◌∙◌, ◌∷◌, [], ◌++◌, List, Some, ap, sym, subst, length, arith}
 use Rattle.model.specs.Command.{Entry}
 use Rattle.model.specs.History.{Chronicle}
 use Rattle.publications.specs.Histories.{newest, IsNewest}

@@ -4,7 +4,7 @@ use Rattle.model.specs.Map.{empty, entries}
 use Rattle.model.specs.PurgeLog.{PurgeLog}
 use Rattle.model.specs.Database.{Database}
 use Rattle.model.specs.History.{Chronicle, now}
-use Rattle.model.specs.Compaction.{Marks, marks_of}
+use Rattle.model.specs.Compaction.{Marks}
 use Rattle.snapshots.specs.Listing.{Listing}
 use Rattle.compactor.specs.Copy.{copied, IsCopy}
 use Rattle.compactor.proofs.Copies.{IsCopy-start, copied-start}

@@ -1,8 +1,6 @@
-use Rattle.std.proofs.Common.{rules, ◌≡◌, ◌+◌, ◌-◌, ◌<◌, ◌≤◌, ◌==◌, ◌&&◌, ◌∙◌, List, [], ◌∷◌, ◌++◌, length, map, take, drop, min, not, sym, ap, subst, arith}
-use Rattle.std.specs.Prelude.{true, false, nat_lt, nat_le, slice_get, Option, Some, None, is_none, option_map, unwrap_or, refl}
-use Rattle.machine.specs.declared.views.SessionView.{SessionView}
-use Rattle.machine.specs.declared.copying.Copying.{Copying}
-use Rattle.machine.specs.States.{State, stepped, state_of, open_copy}
+use Rattle.std.proofs.Common.{◌≡◌, ◌-◌, ◌∙◌, sym, ap, subst}
+use Rattle.std.specs.Prelude.{None, option_map, refl}
+use Rattle.machine.specs.States.{State, stepped, open_copy}
 use Rattle.model.specs.World.{Abort}
 use Rattle.machine.proofs.KeptCopies.{abort_stepped}
 use Rattle.machine.proofs.NextCopies.{under_way, abort_next}

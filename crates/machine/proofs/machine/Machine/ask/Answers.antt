@@ -1,12 +1,10 @@
-use Rattle.std.proofs.Common.{rules, ◌≡◌, ◌+◌, ◌-◌, ◌<◌, ◌≤◌, ◌==◌, ◌&&◌, ◌∙◌, List, [], ◌∷◌, ◌++◌, length, map, take, drop, min, not, sym, ap, subst, arith}
-use Rattle.std.specs.Prelude.{ℕ, true, false, nat_lt, nat_le, slice_get, Option, Some, None, is_none, option_map, unwrap_or, refl}
-use Rattle.machine.specs.declared.views.SessionView.{SessionView}
-use Rattle.machine.specs.declared.copying.Copying.{Copying}
-use Rattle.machine.specs.States.{State, stepped, state_of, open_copy}
+use Rattle.std.proofs.Common.{rules, ◌≡◌, ◌-◌, ◌<◌, ◌≤◌, ◌&&◌, ◌∙◌, length, not, sym, ap, subst, arith}
+use Rattle.std.specs.Prelude.{ℕ, true, false, nat_lt, refl}
+use Rattle.machine.specs.States.{State, stepped}
 use Rattle.std.proofs.lemmas.Bool.{and_parts, false≢true}
 use Rattle.model.specs.Command.{Seat}
 use Rattle.model.specs.World.{Ask, free_in, is_compact}
-use Rattle.machine.specs.Views.{views_of, freed_one}
+use Rattle.machine.specs.Views.{views_of}
 use Rattle.machine.proofs.Kept.{free-within, ask_stepped}
 use Rattle.machine.proofs.Next.{ask_next}
 use Rattle.machine.proofs.Steps.{ask_none}

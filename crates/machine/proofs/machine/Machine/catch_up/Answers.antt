@@ -1,5 +1,5 @@
-use Rattle.std.proofs.Common.{rules, ◌≡◌, ◌==◌, ◌∙◌, length, take, not, sym, ap, subst}
-use Rattle.std.specs.Prelude.{true, false, Bool, Option, Some, None, option_map, MatchBool}
+use Rattle.std.proofs.Common.{rules, ◌≡◌, ◌==◌, ◌∙◌, take, not, sym, ap, subst}
+use Rattle.std.specs.Prelude.{true, false, Bool, Option, Some, option_map, MatchBool}
 use Rattle.model.specs.PurgeLog.{is_overrun}
 use Rattle.model.specs.History.{now}
 use Rattle.model.specs.Compaction.{passed, touched}

@@ -3,7 +3,7 @@ use Rattle.std.specs.Prelude.{true, false, All}
 use Rattle.model.specs.History.{Extends}
 use Rattle.model.specs.World.{Look, free_in}
 use Rattle.machine.specs.declared.views.SessionView.{SessionView}
-use Rattle.machine.specs.States.{State, stepped, state_of}
+use Rattle.machine.specs.States.{State, stepped}
 use Rattle.machine.specs.Views.{views_of, seeing}
 use Rattle.machine.proofs.Kept.{look_stepped, next_machine, Extends-itself}
 use Rattle.machine.proofs.Steps.{look_none}

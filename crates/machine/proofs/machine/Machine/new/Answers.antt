@@ -1,4 +1,4 @@
-use Rattle.std.proofs.Common.{◌≡◌, ap}
+use Rattle.std.proofs.Common.{ap}
 use Rattle.model.specs.World.{Config}
 use Rattle.machine.proofs.Starts.{start_of, start_machine}
 use Rattle.machine.proofs.machine.Machine.new.Goals as goal

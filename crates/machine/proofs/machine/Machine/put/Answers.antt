@@ -1,15 +1,12 @@
-use Rattle.std.proofs.Common.{rules, ◌≡◌, ◌+◌, ◌-◌, ◌<◌, ◌≤◌, ◌==◌, ◌&&◌, ◌∙◌, List, [], ◌∷◌, ◌++◌, length, map, take, drop, min, not, sym, ap, subst, arith}
-use Rattle.std.specs.Prelude.{true, false, nat_lt, nat_le, slice_get, Option, Some, None, is_none, option_map, unwrap_or, refl}
-use Rattle.machine.specs.declared.views.SessionView.{SessionView}
-use Rattle.machine.specs.declared.copying.Copying.{Copying}
-use Rattle.machine.specs.States.{State, stepped, state_of, open_copy}
+use Rattle.std.proofs.Common.{rules, ◌≡◌, ◌+◌, ◌-◌, ◌&&◌, ◌∙◌, List, length, sym, ap, subst}
+use Rattle.std.specs.Prelude.{true, false, nat_lt, nat_le, refl}
+use Rattle.machine.specs.States.{State, stepped, state_of}
 use Rattle.model.specs.Command.{Job}
 use Rattle.model.specs.History.{Chronicle, now, extended, batch_entries}
 use Rattle.machine.specs.Events.{wrote_from}
 use Rattle.updater.specs.Batches.{MayFollow}
 use Rattle.model.specs.World.{Put}
 use Rattle.machine.specs.declared.completed.Completed.{Completed}
-use Rattle.machine.specs.States.{chronicle_in}
 use Rattle.machine.specs.Views.{all_seeing, seen_by}
 use Rattle.machine.proofs.Kept.{put_stepped}
 use Rattle.machine.proofs.Next.{put_next}

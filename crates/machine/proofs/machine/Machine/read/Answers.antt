@@ -1,13 +1,11 @@
-use Rattle.std.proofs.Common.{rules, ◌≡◌, ◌+◌, ◌-◌, ◌<◌, ◌≤◌, ◌==◌, ◌&&◌, ◌∙◌, List, [], ◌∷◌, ◌++◌, length, map, take, drop, min, not, sym, ap, subst, arith}
-use Rattle.std.specs.Prelude.{true, false, nat_lt, nat_le, slice_get, Option, Some, None, is_none, option_map, unwrap_or, refl}
+use Rattle.std.proofs.Common.{rules, ◌≡◌, ◌-◌, ◌<◌, ◌≤◌, ◌∙◌, List, length, sym, ap, subst, arith}
+use Rattle.std.specs.Prelude.{true, false, slice_get, Some, refl}
 use Rattle.machine.specs.declared.views.SessionView.{SessionView}
-use Rattle.machine.specs.declared.copying.Copying.{Copying}
-use Rattle.machine.specs.States.{State, stepped, state_of, open_copy}
-use Rattle.std.proofs.lemmas.Option.{slice_get-get_or, slice_get_past}
-use Rattle.model.specs.History.{Extends}
+use Rattle.machine.specs.States.{State, stepped}
+use Rattle.std.proofs.lemmas.Option.{slice_get-get_or}
 use Rattle.model.specs.World.{Read, free_in}
 use Rattle.machine.specs.Views.{views_of}
-use Rattle.machine.proofs.Kept.{free-within, free_missing, read_stepped}
+use Rattle.machine.proofs.Kept.{free-within, read_stepped}
 use Rattle.machine.proofs.Next.{read_next, seen_by_view}
 use Rattle.machine.proofs.Steps.{read_none}
 use Rattle.machine.proofs.machine.Machine.read.Goals as goal

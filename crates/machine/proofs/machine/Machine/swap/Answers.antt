@@ -1,5 +1,5 @@
 use Rattle.std.proofs.Common.{rules, ◌≡◌, ◌<◌, ◌∙◌, length, sym, ap, subst}
-use Rattle.std.specs.Prelude.{ℕ, true, false, nat_lt, Option, Some, None, option_map, Result, Ok, Err, refl}
+use Rattle.std.specs.Prelude.{true, false, nat_lt, Option, Some, option_map, Result, Ok, Err, refl}
 use Rattle.std.proofs.lemmas.Result.{on_ok_weaker}
 use Rattle.model.specs.PurgeLog.{is_overrun}
 use Rattle.model.specs.Compaction.{touched}

@@ -1,8 +1,6 @@
-use Rattle.std.proofs.Common.{rules, ◌≡◌, ◌+◌, ◌-◌, ◌<◌, ◌≤◌, ◌==◌, ◌&&◌, ◌∙◌, List, [], ◌∷◌, ◌++◌, length, map, take, drop, min, not, sym, ap, subst, arith}
-use Rattle.std.specs.Prelude.{true, false, nat_lt, nat_le, slice_get, Option, Some, None, is_none, option_map, unwrap_or, refl}
-use Rattle.machine.specs.declared.views.SessionView.{SessionView}
-use Rattle.machine.specs.declared.copying.Copying.{Copying}
-use Rattle.machine.specs.States.{State, stepped, state_of, open_copy}
+use Rattle.std.proofs.Common.{rules, ◌≡◌, ◌-◌, ◌==◌, ◌∙◌, length, take, drop, min, sym, ap, subst, arith}
+use Rattle.std.specs.Prelude.{true, false, refl}
+use Rattle.machine.specs.States.{State, stepped}
 use Rattle.std.proofs.lemmas.List.{take_min, drop_min}
 use Rattle.model.specs.World.{Config, Take}
 use Rattle.machine.proofs.Kept.{take_stepped}

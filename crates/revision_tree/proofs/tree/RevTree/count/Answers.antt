@@ -11,4 +11,4 @@ use Rattle.revision_tree.proofs.tree.RevTree.count.Goals as goal
 pub returns : goal.returns
 returns c =
     let ns = nodes_of c.self.inside.rows in
-    c.count.ensures ∙ ap (λ n. min n 18446744073709551615) (sym (length-map ns entry_of) ∙ ap length (sym (entries-tree_of ns c.self.invariant.nodes.sorted)) ∙ ap (λ (t : Tree). length (entries t)) c.self.view_is)
+    c.count.ensures ∙ ap (λ n. min n 18446744073709551615) (sym (length-map ns entry_of) ∙ ap length (sym (entries-tree_of ns c.self.invariant.rows.nodes.sorted)) ∙ ap (λ (t : Tree). length (entries t)) c.self.view_is)

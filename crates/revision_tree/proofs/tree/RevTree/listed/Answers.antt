@@ -1,9 +1,6 @@
-use Rattle.std.proofs.Common.{subst}
-use Rattle.std.specs.Prelude.{IfOk, Result, Ok, Err}
-use Rattle.revision_tree.specs.Nodes.{IsListOf, rows_of, tree_of}
 use Rattle.revision_tree.specs.Rows.{nodes_of}
 use Rattle.revision_tree.proofs.Grafts.{listed_if_ok}
 use Rattle.revision_tree.proofs.tree.RevTree.listed.Goals as goal
 
 pub returns : goal.returns
-returns c = rw (← c.self.view_is) (listed_if_ok c.all.result (nodes_of c.self.inside.rows) c.self.invariant.nodes c.all.ensures)
+returns c = rw (← c.self.view_is) (listed_if_ok c.all.result (nodes_of c.self.inside.rows) c.self.invariant.rows.nodes c.all.ensures)

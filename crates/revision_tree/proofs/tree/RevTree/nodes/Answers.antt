@@ -1,8 +1,6 @@
-use Rattle.std.proofs.Common.{sym, subst}
-use Rattle.revision_tree.specs.Nodes.{IsListOf}
 use Rattle.revision_tree.specs.Rows.{nodes_of}
 use Rattle.revision_tree.proofs.Listed.{IsListOf-nodes}
 use Rattle.revision_tree.proofs.tree.RevTree.nodes.Goals as goal
 
 pub returns : goal.returns
-returns c = rw (c.all.ensures, ← c.self.view_is) (IsListOf-nodes (nodes_of c.self.inside.rows) c.self.invariant.nodes)
+returns c = rw (c.all.ensures, ← c.self.view_is) (IsListOf-nodes (nodes_of c.self.inside.rows) c.self.invariant.rows.nodes)

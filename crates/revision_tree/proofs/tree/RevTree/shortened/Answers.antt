@@ -1,10 +1,12 @@
-use Rattle.std.proofs.Common.{◌≡◌, ◌∙◌, ◌-◌, ap, sym, subst}
+use Rattle.std.proofs.Common.{◌∙◌, ◌-◌, ap, sym, subst}
 use Rattle.std.specs.List.{filter_map}
 use Rattle.model.specs.TreeChange.{stem}
-use Rattle.revision_tree.specs.Nodes.{rows_of}
+use Rattle.revision_tree.specs.Kept.{HasOneLeaf}
+use Rattle.revision_tree.specs.Nodes.{rows_of, tree_of}
 use Rattle.revision_tree.specs.Rows.{nodes_of}
 use Rattle.revision_tree.specs.Shortened.{row_above}
 use Rattle.revision_tree.proofs.Shortened.{IsLevelTree, shortened_nodes, shortened_tree}
+use Rattle.revision_tree.proofs.Kept.{one_shortened}
 use Rattle.revision_tree.proofs.tree.RevTree.shortened.Goals as goal
 
 pub invariant_of-result : goal.invariant_of-result
@@ -15,8 +17,12 @@ invariant_of-result c =
     let level = subst IsLevelTree (sym c.self.view_is) c.requires.level in
     let is = c.in_ok-above.ensures.rows ∙ ap (λ g. filter_map (row_above g) (rows_of ns)) (c.saturating_sub-oldest.ensures ∙ ap (λ g. g - c.args.limit) c.generation.ensures.value) in
     record {
-      nodes = shortened_nodes ns c.self.invariant.nodes c.args.limit c.requires.limit newest c.last-newest.ensures.known c.last-newest.ensures.newest level made is;
-      filled = c.in_ok-above.ensures.filled;
+      rows = record {
+        nodes = shortened_nodes ns c.self.invariant.rows.nodes c.args.limit c.requires.limit newest c.last-newest.ensures.known c.last-newest.ensures.newest level made is;
+        filled = c.in_ok-above.ensures.filled;
+      };
+      single = λ e. subst HasOneLeaf (sym (shortened_tree ns c.self.invariant.rows.nodes c.args.limit c.requires.limit newest c.last-newest.ensures.known c.last-newest.ensures.newest level made is))
+          (one_shortened (tree_of ns) c.self.invariant.rows.nodes.tree.forest c.args.limit c.requires.limit newest c.last-newest.ensures.known c.last-newest.ensures.newest level (c.self.invariant.single e));
     }
 
 pub returns : goal.returns
@@ -26,4 +32,4 @@ returns c =
     let newest = c.last-newest.result in
     let level = subst IsLevelTree (sym c.self.view_is) c.requires.level in
     let is = c.in_ok-above.ensures.rows ∙ ap (λ g. filter_map (row_above g) (rows_of ns)) (c.saturating_sub-oldest.ensures ∙ ap (λ g. g - c.args.limit) c.generation.ensures.value) in
-    shortened_tree ns c.self.invariant.nodes c.args.limit c.requires.limit newest c.last-newest.ensures.known c.last-newest.ensures.newest level made is ∙ ap (stem c.args.limit) c.self.view_is
+    shortened_tree ns c.self.invariant.rows.nodes c.args.limit c.requires.limit newest c.last-newest.ensures.known c.last-newest.ensures.newest level made is ∙ ap (stem c.args.limit) c.self.view_is

@@ -1,10 +1,12 @@
-use Rattle.std.proofs.Common.{◌∙◌, ap}
+use Rattle.std.proofs.Common.{◌∙◌, ap, sym, subst}
 use Rattle.model.specs.Tree.{has_child}
 use Rattle.model.specs.TreeChange.{strip}
 use Rattle.model.proofs.StripLaws.{IsTree-strip, IsInRange-strip}
+use Rattle.revision_tree.specs.Kept.{HasOneLeaf}
 use Rattle.revision_tree.specs.Nodes.{tree_of}
 use Rattle.revision_tree.specs.Rows.{nodes_of}
 use Rattle.revision_tree.proofs.Grown.{nodes_marked, tree_marked}
+use Rattle.revision_tree.proofs.Kept.{one_stripped}
 use Rattle.revision_tree.proofs.Stripped.{stripped_rows, stripped_marks}
 use Rattle.revision_tree.proofs.tree.RevTree.stripped.Goals as goal
 
@@ -13,14 +15,17 @@ invariant_of-result c =
     let ns = nodes_of c.self.inside.rows in
     let t = tree_of ns in
     let made = nodes_of c.in_ok-stripped.field-0 in
-    let is = stripped_rows ns made c.self.invariant.nodes c.in_ok-stripped.ensures.rows in
+    let is = stripped_rows ns made c.self.invariant.rows.nodes c.in_ok-stripped.ensures.rows in
     record {
-      nodes = nodes_marked made (strip t) (has_child t) is (stripped_marks t) (IsTree-strip t c.self.invariant.nodes.tree) (IsInRange-strip t c.self.invariant.nodes.range);
-      filled = c.in_ok-stripped.ensures.filled;
+      rows = record {
+        nodes = nodes_marked made (strip t) (has_child t) is (stripped_marks t) (IsTree-strip t c.self.invariant.rows.nodes.tree) (IsInRange-strip t c.self.invariant.rows.nodes.range);
+        filled = c.in_ok-stripped.ensures.filled;
+      };
+      single = λ e. subst HasOneLeaf (sym (tree_marked made (strip t) (has_child t) is)) (one_stripped t (c.self.invariant.single e));
     }
 
 pub returns : goal.returns
 returns c =
     let ns = nodes_of c.self.inside.rows in
     let made = nodes_of c.in_ok-stripped.field-0 in
-    tree_marked made (strip (tree_of ns)) (has_child (tree_of ns)) (stripped_rows ns made c.self.invariant.nodes c.in_ok-stripped.ensures.rows) ∙ ap strip c.self.view_is
+    tree_marked made (strip (tree_of ns)) (has_child (tree_of ns)) (stripped_rows ns made c.self.invariant.rows.nodes c.in_ok-stripped.ensures.rows) ∙ ap strip c.self.view_is

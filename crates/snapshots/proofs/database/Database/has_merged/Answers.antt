@@ -1,6 +1,5 @@
-use Rattle.std.specs.Prelude.{◌≡◌, ℕ, Bool, true, ◌∷◌, List, Some, Ok}
+use Rattle.std.specs.Prelude.{◌∷◌, Some}
 use Rattle.std.proofs.Common.{ap, sym, ◌∙◌}
-use Rattle.model.specs.Body.{Body}
 use Rattle.model.specs.Edit.{with_path}
 use Rattle.model.specs.Database.{tree_at}
 use Rattle.snapshots.proofs.Remerged.{reply_again, after_again}

@@ -1,6 +1,5 @@
 use Rattle.std.specs.Prelude.{◌≡◌, ◌+◌, ◌∷◌, [], ◌++◌}
 use Rattle.std.proofs.Common.{ap, sym, subst, ◌∙◌, arith}
-use Rattle.model.specs.Command.{Entry}
 use Rattle.model.specs.Database.{Database, act, reply_to, calls_of}
 use Rattle.model.specs.History.{Chronicle, now}
 use Rattle.snapshots.specs.Version.{IsHistory}

@@ -1,6 +1,6 @@
 use Rattle.std.specs.Prelude.{◌≡◌, ◌∷◌, [], ◌++◌}
 use Rattle.std.proofs.Common.{ap, subst, ◌∙◌}
-use Rattle.model.specs.Command.{Entry, Compact}
+use Rattle.model.specs.Command.{Compact}
 use Rattle.model.specs.Database.{Database, act}
 use Rattle.model.specs.History.{Chronicle, now}
 use Rattle.snapshots.specs.Version.{IsHistory}

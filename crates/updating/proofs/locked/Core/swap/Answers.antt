@@ -1,5 +1,4 @@
-use Rattle.std.proofs.Common.{rules, ◌≡◌, ◌+◌, ◌<◌, ◌≤◌, ◌∙◌, ◌∷◌, [], true, Err, length, ap, sym, subst, arith}
-use Rattle.model.specs.Command.{Job}
+use Rattle.std.proofs.Common.{rules, ◌≡◌, ◌∙◌, ◌∷◌, [], true, Err, length, ap, sym, subst, arith}
 use Rattle.model.specs.History.{replay}
 use Rattle.publications.specs.Histories.{newest, opening_base}
 use Rattle.updater.specs.Batches.{MayFollow, joins}

@@ -1,8 +1,0 @@
-use Rattle.std.proofs.Common.{◌≡◌, take}
-use Rattle.std.specs.List.{filter_map}
-use Rattle.revision_tree.specs.Nodes.{rows_of}
-use Rattle.revision_tree.specs.Shortened.{row_above}
-use Rattle.revision_tree.proofs.shorten.are_above.Given as goal
-
-abbrev pub invariant-loop-node : goal.invariant-loop-node
-invariant-loop-node l = filter_map (row_above l.generation) (rows_of (take l.node-index l.nodes)) ≡ rows_of (take l.node-index l.nodes)
