@@ -1,5 +1,5 @@
 -- What is told of a whole replication.
-use Rattle.std.specs.Prelude.{◌≡◌, ℕ, ◌^◌, ◌-◌, Result, Ok, Err}
+use Rattle.std.specs.Prelude.{◌≡◌, ℕ, ◌^◌, ◌-◌, List, nat_lt, if◌then◌else◌, Result, Ok, Err, codes}
 use Rattle.model.specs.Command.{Id}
 use Rattle.replicator.specs.declared.fault.PeerFault.{PeerFault}
 use Rattle.replicator.specs.declared.fault.PeerFault.TheVariants as fault
@@ -49,3 +49,13 @@ exit_status (Err fault.Failed) = 1
 exit_status (Err fault.Memory) = 1
 exit_status (Err fault.Unreadable) = 3
 exit_status (Err fault.Refused) = 3
+
+-- how it ended, in words: where an end failed, the source did if calls of it failed, and else the target
+abbrev pub ending : ℕ → Result Progress PeerFault → List ℕ
+ending source_failures (Ok progress.Done) = codes "done"
+ending source_failures (Ok progress.Going) = codes "not done"
+ending source_failures (Ok (progress.Checkpoint last_seq)) = codes "not done"
+ending source_failures (Err fault.Failed) = if nat_lt 0 source_failures then codes "the source failed" else codes "the target failed"
+ending source_failures (Err fault.Memory) = codes "out of memory"
+ending source_failures (Err fault.Unreadable) = codes "an answer can't be read"
+ending source_failures (Err fault.Refused) = codes "a write was refused"

@@ -1,6 +1,6 @@
 //! What is told of a replication.
 ghost use Rattle.std.specs.Prelude.{◌≡◌};
-ghost use Rattle.replicating.specs.Report.{exit_status};
+ghost use Rattle.replicating.specs.Report.{ending, exit_status};
 
 use replicator::{PeerFault, Progress};
 
@@ -33,8 +33,10 @@ impl Report {
         }
     }
 
-    /// How it ended, in words.
-    pub fn ending(&self) -> &'static str {
+    /// How it ended, in words. Where an end failed, the source did if calls of it failed, and else the target.
+    pub fn ending(&self) -> &'static str
+        ensures { result.now ≡ ending self.now.source_failures self.now.ended }
+    {
         match self.ended {
             Ok(Progress::Done) => "done",
             Ok(Progress::Going | Progress::Checkpoint(_)) => "not done",
