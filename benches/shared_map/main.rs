@@ -113,8 +113,11 @@ fn times_at(len: u64) {
     let few = &keys[..200];
     let walks = (10_000_000 / len) as u32;
 
+    let in_order: Vec<u64> = (0..len).collect();
+
     let (at, n) = (keys.as_ptr(), keys.len());
     let insert = least(|| unsafe { shared_map_insert(at, n) });
+    let insert_in_order = least(|| unsafe { shared_map_insert(in_order.as_ptr(), n) });
     let remove = least(|| unsafe { shared_map_remove(at, n, at, n) });
     let get = least(|| unsafe { shared_map_get(at, n, asked.as_ptr(), asked.len()) });
     let count = least(|| unsafe { shared_map_count_from(at, n, asked.as_ptr(), asked.len()) });
@@ -122,6 +125,7 @@ fn times_at(len: u64) {
 
     let map = tree_of(&keys);
     let tree_insert = least(|| tree_of(&keys).len() as u64);
+    let tree_in_order = least(|| tree_of(&in_order).len() as u64);
     let tree_remove = least(|| {
         let mut map = tree_of(&keys);
         for key in &keys {
@@ -155,6 +159,11 @@ fn times_at(len: u64) {
     let each = len as f64;
     row("`insert`", insert / each, tree_insert / each);
     row(
+        "`insert` of keys in their order",
+        insert_in_order / each,
+        tree_in_order / each,
+    );
+    row(
         "`insert`, the older map kept",
         insert / each,
         tree_copy / few.len() as f64,
@@ -180,14 +189,18 @@ fn times_at(len: u64) {
         (count - insert) / asked.len() as f64,
         tree_count / few.len() as f64,
     );
-    let (height, growths) = self::insert(&keys);
-    println!(
-        "\nheight {height}, growths for each insertion {:.1}",
-        growths as f64 / each
-    );
+    println!();
+    for (keys, order) in [(&keys, "in no order"), (&in_order, "in their order")] {
+        let (height, growths) = self::insert(keys);
+        println!(
+            "keys {order}: height {height}, growths for each insertion {:.1}",
+            growths as f64 / each
+        );
+    }
 }
 
 fn main() {
-    times_at(1_000);
-    times_at(100_000);
+    for len in [1_000, 10_000, 100_000] {
+        times_at(len);
+    }
 }

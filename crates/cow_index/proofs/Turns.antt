@@ -7,9 +7,9 @@ use Rattle.std.specs.Cmp.{IsTotalOrder}
 use Rattle.std.specs.FinMap.Entries.{by_order, put, find, is_sorted}
 use Rattle.std.proofs.lemmas.List.Elements.{filter-append}
 use Rattle.cow_index.specs.declared.tree.Node.{Node}
-use Rattle.cow_index.specs.Entries.{entries_from}
+use Rattle.cow_index.specs.Entries.{entries_from, EachCompares}
 use Rattle.cow_index.specs.Tree.{pair_of, entries_of, IsRoot}
-use Rattle.cow_index.proofs.Sides.{EachCompares, sorted_left, sorted_right, right_less, left_greater, find_before, find_past, put_before, put_past, kept, kept_alike}
+use Rattle.cow_index.proofs.Sides.{sorted_left, sorted_right, right_less, left_greater, each_append, find_before, find_past, put_before, put_past, kept, kept_alike}
 
 -- q compares so with the key of n
 pub record Turn {K V : Type 0} (R : K → K → Ordering) (d : List (K × V) × ℕ) (n : Node K V) (q : K) (c : Ordering) : Type 0 where
@@ -36,6 +36,11 @@ module _ {K V : Type 0} {R : K → K → Ordering} {d : List (K × V) × ℕ} {n
 
     below_right : {c : Ordering} → Turn R d n q c → IsTrue (is_le c) → EachCompares R q Less n.right.0
     below_right {c} t le = right_less R o q c n.left.0 _ _ t.compares le (in_order t)
+
+    -- q is above all keys where it is above those of the right side
+    pub all_above : Turn R d n q Greater → EachCompares R q Greater n.right.0 → EachCompares R q Greater d.0
+    all_above t above =
+        subst (EachCompares R q Greater) (sym t.root.entries) (each_append R q Greater n.left.0 (pair_of n.entry ∷ n.right.0) (above_left t refl) (t.compares, above))
 
     pub find-left : Turn R d n q Less → find R q d.0 ≡ find R q n.left.0
     find-left t = ap (find R q) t.root.entries ∙ find_before R q n.left.0 _ (t.compares, below_right t refl)

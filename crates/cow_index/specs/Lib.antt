@@ -3,4 +3,5 @@ pub mod Entries
 pub mod Height
 pub mod NodeMaker
 pub mod Path
+pub mod Root
 pub mod Tree

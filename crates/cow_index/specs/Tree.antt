@@ -22,7 +22,7 @@ module _ {K V : Type 0} where
   seen None = ([], 0)
   seen (Some a) = (entries_of (arc_value a), (arc_value a).height)
 
-  -- n is the root of a balanced tree that is seen as d, with its height and its number of entries stored
+  -- n is the root of a tree that is seen as d, with its height and its number of entries stored
   pub record IsRoot (d : List (K × V) × ℕ) (n : Node K V) : Type 0 where
     pub entries : d.0 ≡ entries_of n
     pub lengths : length d.0 ≡ length n.left.0 + length n.right.0 + 1
@@ -30,9 +30,12 @@ module _ {K V : Type 0} where
     pub fits : length d.0 < 2 ^ 64
     pub height : n.height ≡ d.1
     pub heights : d.1 ≡ height_of n
-    pub level : DifferByAtMost 1 n.left.1 n.right.1
-    pub dense : 2 ^ (d.1 / 2) ≤ length d.0 + 1
+
+  -- its sides are level, so that a tree of its height holds many entries
+  pub record IsLevel (d : List (K × V) × ℕ) (n : Node K V) : Type 0 where
+    pub sides : DifferByAtMost 1 n.left.1 n.right.1
+    pub dense : 2 ^ ((d.1 + 1) / 2) ≤ length d.0 + 1
 
   abbrev pub IsBalanced : Option (Arc (Node K V) Global) → Type 0
   IsBalanced None = Unit {0}
-  IsBalanced (Some a) = IsRoot (seen (Some a)) (arc_value a)
+  IsBalanced (Some a) = IsRoot (seen (Some a)) (arc_value a) × IsLevel (seen (Some a)) (arc_value a)

@@ -5,6 +5,7 @@
 mod key;
 mod map;
 mod nodes;
+mod root;
 mod shared;
 mod sole;
 mod tree;

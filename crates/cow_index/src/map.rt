@@ -1,4 +1,4 @@
-//! The map: a tree whose keys rise, and how many nodes the last call made.
+//! The map: a root whose keys rise, and how many nodes the last call made.
 ghost use Rattle.std.specs.Prelude.{◌≡◌, ◌↔◌, ◌+◌, ◌*◌, ◌^◌, ◌<◌, ◌≤◌, max, [], IfOk, IsTrue, length, T, option_copied};
 ghost use Rattle.std.specs.FinMap.Entries.{find, put, is_sorted};
 ghost use Rattle.std.specs.Map.Iter.{ShowsInOrder, deref_pair};
@@ -7,7 +7,8 @@ ghost use Rattle.cow_index.specs.Height.{bits};
 
 use crate::key::IndexKey;
 use crate::nodes::NodeMaker;
-use crate::tree::{Entry, MAX_HEIGHT, Tree};
+use crate::root::Root;
+use crate::tree::{Entry, MAX_HEIGHT};
 use crate::walk::Range;
 use std::alloc::{AllocError, Global};
 use std::marker::Model;
@@ -21,7 +22,7 @@ use std::sync::Arc;
 #[derive(Drop)]
 pub struct CowMap<K: IndexKey, V> {
     alloc: Global,
-    tree: Tree<K, V>,
+    root: Root<K, V>,
     nodes_made: u64,
 }
 
@@ -32,9 +33,9 @@ impl<K: IndexKey, V> Model for CowMap<K, V> {
 
     ghost Value = { MapView K V };
 
-    ghost view = { λ a. record { entries = a.tree.0; height = a.tree.1; nodes_made = a.nodes_made } };
+    ghost view = { λ a. record { entries = a.root.0; height = a.root.1; nodes_made = a.nodes_made } };
 
-    ghost invariant = { λ a. T (is_sorted K.cmp a.tree.0) };
+    ghost invariant = { λ a. T (is_sorted K.cmp a.root.0) };
 }
 
 impl<K: IndexKey, V: Drop> CowMap<K, V> {
@@ -44,16 +45,16 @@ impl<K: IndexKey, V: Drop> CowMap<K, V> {
         ensures height { result.height ≡ 0 }
         ensures no_nodes { result.nodes_made ≡ 0 }
     {
-        CowMap::of_tree(alloc, Tree::new(), 0)
+        CowMap::of_root(alloc, Root::new(), 0)
     }
 
-    fn of_tree(alloc: Global, tree: Tree<K, V>, nodes_made: u64) -> Self
-        requires { T (is_sorted K.cmp tree.0) }
-        ensures { result ≡ record { entries = tree.0; height = tree.1; nodes_made = nodes_made } }
+    fn of_root(alloc: Global, root: Root<K, V>, nodes_made: u64) -> Self
+        requires { T (is_sorted K.cmp root.0) }
+        ensures { result ≡ record { entries = root.0; height = root.1; nodes_made = nodes_made } }
     {
         CowMap {
             alloc,
-            tree,
+            root,
             nodes_made,
         }
     }
@@ -63,7 +64,7 @@ impl<K: IndexKey, V: Drop> CowMap<K, V> {
         ensures count { result ≡ length self.now.entries }
         ensures ordered { T (is_sorted K.cmp self.now.entries) }
     {
-        self.tree.len()
+        self.root.len()
     }
 
     pub fn is_empty(&self) -> bool
@@ -77,7 +78,7 @@ impl<K: IndexKey, V: Drop> CowMap<K, V> {
         ensures stored { result ≡ self.now.height }
         ensures low { self.now.height ≤ 2 * bits (length self.now.entries + 1) }
     {
-        self.tree.height()
+        self.root.height()
     }
 
     /// How many nodes were made by the call that made this map.
@@ -90,7 +91,7 @@ impl<K: IndexKey, V: Drop> CowMap<K, V> {
     pub fn get(&self, key: &K) -> Option<&V>
         ensures { option_copied result ≡ find K.cmp key.now self.now.entries }
     {
-        self.tree.get(key)
+        self.root.get(key)
     }
 
     /// How many keys are not below `key`, counted on one way down from the root.
@@ -98,7 +99,7 @@ impl<K: IndexKey, V: Drop> CowMap<K, V> {
         ensures count { result ≡ length (entries_from K.cmp key.now self.now.entries) }
         ensures ordered { T (is_sorted K.cmp self.now.entries) }
     {
-        self.tree.count_from(key)
+        self.root.count_from(key)
     }
 
     /// All entries, in the order of their keys.
@@ -108,7 +109,7 @@ impl<K: IndexKey, V: Drop> CowMap<K, V> {
         ensures runs { ShowsInOrder (deref_pair {K = K} {X = V}) }
         ensures ordered { T (is_sorted K.cmp self.now.entries) }
     {
-        Range::all(&self.tree)
+        Range::all(&self.root)
     }
 
     /// The entries whose keys are not below `key`, in the order of their keys.
@@ -118,7 +119,7 @@ impl<K: IndexKey, V: Drop> CowMap<K, V> {
         ensures runs { ShowsInOrder (deref_pair {K = K} {X = V}) }
         ensures ordered { T (is_sorted K.cmp self.now.entries) }
     {
-        Range::from_key(&self.tree, key)
+        Range::from_key(&self.root, key)
     }
 
     /// The same map, which shares all nodes. It takes no memory, but is refused at the largest count
@@ -128,7 +129,7 @@ impl<K: IndexKey, V: Drop> CowMap<K, V> {
         ensures height { IfOk result (λ m. m.height ≡ self.now.height) }
         ensures no_nodes { IfOk result (λ m. m.nodes_made ≡ 0) }
     {
-        Ok(CowMap::of_tree(self.alloc, self.tree.share()?, 0))
+        Ok(CowMap::of_root(self.alloc, self.root.share()?, 0))
     }
 
     /// The map with `value` at `key`, in the place of the value that it had there.
@@ -139,14 +140,7 @@ impl<K: IndexKey, V: Drop> CowMap<K, V> {
         ensures some_nodes { IfOk result (λ m. 0 < m.nodes_made) }
         ensures few_nodes { IfOk result (λ m. m.nodes_made ≤ 4 * (max self.now.height m.height + 1)) }
     {
-        if self.len() == u64::MAX {
-            return Err(AllocError);
-        }
-        prove!(self.tree.height() <= MAX_HEIGHT as u64);
-        let entry = Arc::new(self.alloc, Entry { key, value })?;
-        let mut nodes = NodeMaker::new(self.alloc);
-        let tree = self.tree.insert(entry, &mut nodes)?;
-        Ok(CowMap::of_tree(self.alloc, tree, nodes.made))
+        self.share()?.into_with(key, value)
     }
 
     /// The map without `key`. Where the map lacks it, the same map, and no node is made.
@@ -155,13 +149,7 @@ impl<K: IndexKey, V: Drop> CowMap<K, V> {
         ensures no_nodes { find K.cmp key.now self.now.entries ≡ None → IfOk result (λ m. m.nodes_made ≡ 0) }
         ensures few_nodes { IfOk result (λ m. m.nodes_made ≤ 4 * (max self.now.height m.height + 1)) }
     {
-        if self.get(key).is_none() {
-            return self.share();
-        }
-        prove!(self.tree.height() <= MAX_HEIGHT as u64);
-        let mut nodes = NodeMaker::new(self.alloc);
-        let tree = self.tree.remove(key, &mut nodes)?;
-        Ok(CowMap::of_tree(self.alloc, tree, nodes.made))
+        self.share()?.into_without(key)
     }
 
     /// As [`insert`](CowMap::insert), of a map that is given up. The nodes that no other map holds
@@ -174,11 +162,11 @@ impl<K: IndexKey, V: Drop> CowMap<K, V> {
         if self.len() == u64::MAX {
             return Err(AllocError);
         }
-        prove!(self.tree.height() <= MAX_HEIGHT as u64);
+        prove!(self.root.height() <= MAX_HEIGHT as u64);
         let entry = Arc::new(self.alloc, Entry { key, value })?;
         let mut nodes = NodeMaker::new(self.alloc);
-        let tree = self.tree.into_with(entry, &mut nodes)?;
-        Ok(CowMap::of_tree(self.alloc, tree, nodes.made))
+        let root = self.root.into_with(entry, &mut nodes)?;
+        Ok(CowMap::of_root(self.alloc, root, nodes.made))
     }
 
     /// As [`remove`](CowMap::remove), of a map that is given up.
@@ -190,9 +178,9 @@ impl<K: IndexKey, V: Drop> CowMap<K, V> {
         if self.get(key).is_none() {
             return self.share();
         }
-        prove!(self.tree.height() <= MAX_HEIGHT as u64);
+        prove!(self.root.height() <= MAX_HEIGHT as u64);
         let mut nodes = NodeMaker::new(self.alloc);
-        let tree = self.tree.into_without(key, &mut nodes)?;
-        Ok(CowMap::of_tree(self.alloc, tree, nodes.made))
+        let root = self.root.into_without(key, &mut nodes)?;
+        Ok(CowMap::of_root(self.alloc, root, nodes.made))
     }
 }

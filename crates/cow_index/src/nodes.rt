@@ -1,6 +1,7 @@
 //! The making of nodes: balanced trees from two sides and the entry between them.
 ghost use Rattle.std.specs.Prelude.{◌≡◌, ◌+◌, ◌*◌, ◌^◌, ◌<◌, ◌≤◌, max, ◌∷◌, ◌++◌, IfOk, OnOk, length, drop};
-ghost use Rattle.cow_index.specs.Tree.{pair_of};
+ghost use Rattle.std.specs.Arc.{arc_value};
+ghost use Rattle.cow_index.specs.Tree.{pair_of, entries_of, height_of, IsRoot, IsLevel};
 ghost use Rattle.cow_index.specs.NodeMaker.{MakesAtMost};
 ghost use Rattle.cow_index.specs.Height.{DifferByAtMost, IsHeightAfterRebalance};
 
@@ -24,6 +25,36 @@ impl NodeMaker {
 
     /// The one function that makes a node: it takes over the two sides and the entry.
     #[inline(always)]
+    pub(crate) fn node<K: Drop, V: Drop>(
+        &mut self,
+        left: Tree<K, V>,
+        entry: Arc<Entry<K, V>>,
+        right: Tree<K, V>,
+    ) -> Result<Arc<Node<K, V>>, AllocError>
+        requires fits { length left.0 + length right.0 + 1 < 2 ^ 64 }
+        requires counts { self.old.made + 1 < 2 ^ 64 }
+        ensures root { IfOk result (λ a. IsRoot (entries_of (arc_value a), height_of (arc_value a)) (arc_value a)) }
+        ensures left { IfOk result (λ a. (arc_value a).left ≡ left) }
+        ensures entry { IfOk result (λ a. (arc_value a).entry ≡ entry) }
+        ensures right { IfOk result (λ a. (arc_value a).right ≡ right) }
+        ensures level { IfOk result (λ a. DifferByAtMost 1 left.1 right.1 → IsLevel (entries_of (arc_value a), height_of (arc_value a)) (arc_value a)) }
+        ensures counted { OnOk result (self.new.made ≡ self.old.made + 1) }
+        ensures few { MakesAtMost 1 self.old self.new }
+    {
+        let node = Node {
+            height: left.height().max(right.height()) + 1,
+            len: left.len() + right.len() + 1,
+            left,
+            entry,
+            right,
+        };
+        let node = Arc::new(self.alloc, node)?;
+        self.made += 1;
+        Ok(node)
+    }
+
+    /// A balanced tree over sides that are level.
+    #[inline(always)]
     pub(crate) fn make<K: Drop, V: Drop>(
         &mut self,
         left: Tree<K, V>,
@@ -38,16 +69,9 @@ impl NodeMaker {
         ensures counted { OnOk result (self.new.made ≡ self.old.made + 1) }
         ensures few { MakesAtMost 1 self.old self.new }
     {
-        let node = Node {
-            height: left.height().max(right.height()) + 1,
-            len: left.len() + right.len() + 1,
-            left,
-            entry,
-            right,
-        };
-        let root = Arc::new(self.alloc, node)?;
-        self.made += 1;
-        Ok(Tree { root: Some(root) })
+        Ok(Tree {
+            root: Some(self.node(left, entry, right)?),
+        })
     }
 
     /// The same over sides that other nodes hold, as they do the entry.

@@ -1,10 +1,10 @@
-//! Insertions into a tree that is given up, and removals: a node that no other tree holds is changed in
-//! its place, and any other is shared as ever.
-ghost use Rattle.std.specs.Prelude.{◌≡◌, ◌+◌, ◌*◌, ◌^◌, ◌<◌, ◌≤◌, max, ◌∷◌, ◌++◌, IfOk, IfErr, OnOk, length, T};
+//! Insertions into a tree that is given up, removals from it and what is joined to it: a node that no
+//! other tree holds is changed in its place, and any other is shared as ever.
+ghost use Rattle.std.specs.Prelude.{◌≡◌, ◌+◌, ◌-◌, ◌*◌, ◌^◌, ◌<◌, ◌≤◌, max, [], ◌∷◌, ◌++◌, IfOk, IfErr, IfSome, IfNone, OnOk, length, T};
 ghost use Rattle.std.specs.Arc.{arc_value};
 ghost use Rattle.cow_index.specs.Height.{DifferByAtMost, IsHeightAfterRebalance};
 ghost use Rattle.std.specs.FinMap.Entries.{put, is_sorted};
-ghost use Rattle.cow_index.specs.Tree.{pair_of, IsRoot};
+ghost use Rattle.cow_index.specs.Tree.{pair_of, IsRoot, IsLevel};
 ghost use Rattle.cow_index.specs.NodeMaker.{MakesAtMost};
 ghost use Rattle.cow_index.specs.Entries.{without};
 
@@ -17,7 +17,9 @@ use std::mem::replace;
 use std::sync::Arc;
 
 /// The left side of a root, which is left with the empty tree there if no other tree holds it.
-fn take_left<K: Drop, V: Drop>(root: &mut Arc<Node<K, V>>) -> Result<Tree<K, V>, AllocError>
+pub(crate) fn take_left<K: Drop, V: Drop>(
+    root: &mut Arc<Node<K, V>>,
+) -> Result<Tree<K, V>, AllocError>
     ensures left { IfOk result (λ t. t ≡ (arc_value root.old).left) }
     ensures entry { (arc_value root.new).entry ≡ (arc_value root.old).entry }
     ensures right { (arc_value root.new).right ≡ (arc_value root.old).right }
@@ -29,7 +31,9 @@ fn take_left<K: Drop, V: Drop>(root: &mut Arc<Node<K, V>>) -> Result<Tree<K, V>,
 }
 
 /// The right side of a root, which is left with the empty tree there if no other tree holds it.
-fn take_right<K: Drop, V: Drop>(root: &mut Arc<Node<K, V>>) -> Result<Tree<K, V>, AllocError>
+pub(crate) fn take_right<K: Drop, V: Drop>(
+    root: &mut Arc<Node<K, V>>,
+) -> Result<Tree<K, V>, AllocError>
     ensures right { IfOk result (λ t. t ≡ (arc_value root.old).right) }
     ensures entry { (arc_value root.new).entry ≡ (arc_value root.old).entry }
     ensures left { (arc_value root.new).left ≡ (arc_value root.old).left }
@@ -142,6 +146,7 @@ impl<K: Drop, V: Drop> Tree<K, V> {
     /// The node at the root, where no other tree holds it, and else the tree again.
     fn into_sole(self) -> Result<Arc<Node<K, V>>, Tree<K, V>>
         ensures root { IfOk result (λ a. IsRoot self (arc_value a)) }
+        ensures level { IfOk result (λ a. IsLevel self (arc_value a)) }
         ensures same { IfErr result (λ t. t ≡ self) }
     {
         let Tree { root } = self;
@@ -152,6 +157,43 @@ impl<K: Drop, V: Drop> Tree<K, V> {
             return Err(Tree { root: Some(root) });
         }
         Ok(root)
+    }
+
+    /// The node at the root, whoever holds it.
+    fn into_root(self) -> Option<Arc<Node<K, V>>>
+        ensures root { IfSome result (λ a. IsRoot self (arc_value a)) }
+        ensures level { IfSome result (λ a. IsLevel self (arc_value a)) }
+        ensures empty { IfNone result (self ≡ ([], 0)) }
+    {
+        let Tree { root } = self;
+        root
+    }
+
+    /// The entries of the tree, the entry, and those of a tree that is no higher, balanced: `right` hangs
+    /// where the right edge of the tree is as low.
+    pub(crate) fn into_joined(
+        self,
+        entry: Arc<Entry<K, V>>,
+        right: Tree<K, V>,
+        nodes: &mut NodeMaker,
+    ) -> Result<Self, AllocError>
+        requires no_higher { right.1 ≤ self.1 }
+        requires fits { length self.0 + length right.0 + 1 < 2 ^ 64 }
+        requires counts { nodes.old.made + 3 * (self.1 - right.1) + 1 < 2 ^ 64 }
+        ensures entries { IfOk result (λ t. t.0 ≡ self.0 ++ pair_of entry ∷ right.0) }
+        ensures height { IfOk result (λ t. (self.1 ≤ t.1) × (t.1 ≤ self.1 + 1)) }
+        ensures some { OnOk result (nodes.old.made < nodes.new.made) }
+        ensures few { MakesAtMost (3 * (self.1 - right.1) + 1) nodes.old nodes.new }
+    {
+        if self.height() <= right.height() + 1 {
+            return nodes.make(self, entry, right);
+        }
+        let Some(mut root) = self.into_root() else {
+            unreachable!()
+        };
+        let side = take_right(&mut root)?;
+        let right = side.into_joined(entry, right, nodes)?;
+        nodes.balance_right(root, right)
     }
 }
 

@@ -1,9 +1,10 @@
 //! An AVL tree over shared nodes, seen as its entries in order and its height.
-ghost use Rattle.std.specs.Prelude.{◌≡◌, ◌+◌, ◌*◌, ◌/◌, ◌^◌, ◌<◌, ◌≤◌, [], IfOk, OnOk, IfSome, IfNone, length, T, slice_get, option_map, option_copied};
+ghost use Rattle.std.specs.Prelude.{◌≡◌, ◌+◌, ◌*◌, ◌/◌, ◌^◌, ◌<◌, ◌≤◌, [], IfOk, IsTrue, OnOk, IfSome, IfNone, length, T, slice_get, option_map, option_copied};
 ghost use Rattle.std.specs.FinMap.Entries.{find, put, is_sorted};
-ghost use Rattle.cow_index.specs.Tree.{pair_of, IsRoot};
+ghost use Rattle.std.specs.declared.cmp.Ordering.TheVariants.{Greater};
+ghost use Rattle.cow_index.specs.Tree.{pair_of, entries_of, height_of, IsRoot, IsLevel};
 ghost use Rattle.cow_index.specs.NodeMaker.{MakesAtMost};
-ghost use Rattle.cow_index.specs.Entries.{without, entries_from};
+ghost use Rattle.cow_index.specs.Entries.{without, entries_from, EachCompares};
 
 use crate::key::IndexKey;
 use crate::nodes::NodeMaker;
@@ -12,7 +13,7 @@ use std::cmp::Ordering;
 use std::marker::Model;
 use std::sync::Arc;
 
-/// No tree is higher, since its entries are counted in a `u64`.
+/// No map is higher, since its entries are counted in a `u64`.
 pub(crate) const MAX_HEIGHT: usize = 130;
 
 /// A key with its value. Nodes that were copied from one another share it.
@@ -69,6 +70,7 @@ impl<K: Drop, V: Drop> Tree<K, V> {
     /// The node at the root.
     pub(crate) fn node(&self) -> Option<&Node<K, V>>
         ensures root { IfSome result (λ n. IsRoot self.now n.now) }
+        ensures level { IfSome result (λ n. IsLevel self.now n.now) }
         ensures empty { IfNone result (self.now ≡ ([], 0)) }
     {
         let Some(node) = &self.root else {
@@ -80,8 +82,8 @@ impl<K: Drop, V: Drop> Tree<K, V> {
 
     pub(crate) fn height(&self) -> u64
         ensures stored { result ≡ self.now.1 }
-        ensures dense { 2 ^ (self.now.1 / 2) ≤ length self.now.0 + 1 }
-        ensures low { self.now.1 ≤ MAX_HEIGHT }
+        ensures dense { 2 ^ ((self.now.1 + 1) / 2) ≤ length self.now.0 + 1 }
+        ensures low { self.now.1 < MAX_HEIGHT }
         ensures fits { length self.now.0 < 2 ^ 64 }
     {
         match self.node() {
@@ -176,6 +178,21 @@ impl<K: IndexKey, V: Drop> Tree<K, V> {
         count
     }
 
+    /// Whether all keys are below `key`: a way down the right edge, which ends at the first key that is not.
+    pub(crate) fn is_below(&self, key: &K) -> bool
+        requires { T (is_sorted K.cmp self.now.0) }
+        ensures { IsTrue result → EachCompares K.cmp key.now Greater self.now.0 }
+    {
+        let mut at = self;
+        while let Some(node) = at.node() {
+            match node.compare(key) {
+                Ordering::Greater => at = &node.right,
+                _ => return false,
+            }
+        }
+        true
+    }
+
     /// The tree with the entry in its place: at a key that ties, the new one stands in for the old.
     pub(crate) fn insert(
         &self,
@@ -228,6 +245,37 @@ impl<K: IndexKey, V: Drop> Tree<K, V> {
                 nodes.balance(node.left.share()?, Arc::try_clone(&node.entry)?, right)
             }
             Ordering::Equal => nodes.join(&node.left, &node.right),
+        }
+    }
+}
+
+impl<K: IndexKey, V: Drop> Node<K, V> {
+    /// As that of a tree, from the node down.
+    pub(crate) fn get(&self, key: &K) -> Option<&V>
+        requires root { IsRoot (entries_of self.now, height_of self.now) self.now }
+        requires sorted { T (is_sorted K.cmp (entries_of self.now)) }
+        ensures { option_copied result ≡ find K.cmp key.now (entries_of self.now) }
+    {
+        match self.compare(key) {
+            Ordering::Less => self.left.get(key),
+            Ordering::Greater => self.right.get(key),
+            Ordering::Equal => {
+                let entry: &Entry<K, V> = &self.entry;
+                Some(&entry.value)
+            }
+        }
+    }
+
+    /// How many keys from the node down are not below `key`.
+    pub(crate) fn count_from(&self, key: &K) -> u64
+        requires root { IsRoot (entries_of self.now, height_of self.now) self.now }
+        requires sorted { T (is_sorted K.cmp (entries_of self.now)) }
+        ensures { result ≡ length (entries_from K.cmp key.now (entries_of self.now)) }
+    {
+        match self.compare(key) {
+            Ordering::Less => self.left.count_from(key) + self.right.len() + 1,
+            Ordering::Greater => self.right.count_from(key),
+            Ordering::Equal => self.right.len() + 1,
         }
     }
 }

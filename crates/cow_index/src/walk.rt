@@ -5,9 +5,10 @@ ghost use Rattle.std.specs.Iterator.{at_most};
 ghost use Rattle.std.specs.Map.Iter.{TakesFirst, deref_pair};
 ghost use Rattle.cow_index.specs.Entries.{entries_from};
 ghost use Rattle.cow_index.specs.Path.{held, waiting, FitFrom};
-ghost use Rattle.cow_index.specs.Tree.{pair_of, height_of};
+ghost use Rattle.cow_index.specs.Tree.{pair_of, entries_of, height_of, IsRoot};
 
 use crate::key::IndexKey;
+use crate::root::{Root, Top};
 use crate::tree::{Entry, MAX_HEIGHT, Node, Tree};
 use std::cmp::Ordering;
 use std::marker::Model;
@@ -78,6 +79,24 @@ impl<'a, K: Drop, V: Drop> Path<'a, K, V> {
             at = &node.left;
         }
     }
+
+    /// The same of a root.
+    fn descend_root(&mut self, root: &'a Root<K, V>)
+        requires fit { FitFrom 0 (held self.old) }
+        requires room { self.old.depth + root.now.1 ≤ MAX_HEIGHT }
+        ensures fit { FitFrom 0 (held self.new) }
+        ensures depth { self.new.depth ≤ MAX_HEIGHT }
+        ensures waiting { waiting (held self.new) ≡ root.now.0 ++ waiting (held self.old) }
+    {
+        match &root.top {
+            Top::Level(tree) => self.descend(tree),
+            Top::Leaning(node) => {
+                let node: &'a Node<K, V> = node;
+                self.push(node);
+                self.descend(&node.left);
+            }
+        }
+    }
 }
 
 impl<'a, K: IndexKey, V: Drop> Path<'a, K, V> {
@@ -105,6 +124,41 @@ impl<'a, K: IndexKey, V: Drop> Path<'a, K, V> {
             }
         }
     }
+
+    /// The same of a root.
+    fn descend_root_from(&mut self, root: &'a Root<K, V>, key: &K)
+        requires sorted { T (is_sorted K.cmp root.now.0) }
+        requires fit { FitFrom 0 (held self.old) }
+        requires room { self.old.depth + root.now.1 ≤ MAX_HEIGHT }
+        ensures fit { FitFrom 0 (held self.new) }
+        ensures depth { self.new.depth ≤ MAX_HEIGHT }
+        ensures waiting { waiting (held self.new) ≡ entries_from K.cmp key.now root.now.0 ++ waiting (held self.old) }
+    {
+        match &root.top {
+            Top::Level(tree) => self.descend_from(tree, key),
+            Top::Leaning(node) => self.descend_node_from(node, key),
+        }
+    }
+
+    /// The same of a node that leans.
+    fn descend_node_from(&mut self, node: &'a Node<K, V>, key: &K)
+        requires root { IsRoot (entries_of node.now, height_of node.now) node.now }
+        requires sorted { T (is_sorted K.cmp (entries_of node.now)) }
+        requires fit { FitFrom 0 (held self.old) }
+        requires room { self.old.depth + height_of node.now ≤ MAX_HEIGHT }
+        ensures fit { FitFrom 0 (held self.new) }
+        ensures depth { self.new.depth ≤ MAX_HEIGHT }
+        ensures waiting { waiting (held self.new) ≡ entries_from K.cmp key.now (entries_of node.now) ++ waiting (held self.old) }
+    {
+        match node.compare(key) {
+            Ordering::Less => {
+                self.push(node);
+                self.descend_from(&node.left, key);
+            }
+            Ordering::Greater => self.descend_from(&node.right, key),
+            Ordering::Equal => self.push(node),
+        }
+    }
 }
 
 /// A walk over entries of a [`CowMap`](crate::CowMap), in the order of their keys. It takes no memory.
@@ -127,26 +181,26 @@ impl<'a, K, V> Model for Range<'a, K, V> {
 }
 
 impl<'a, K: Drop, V: Drop> Range<'a, K, V> {
-    pub(crate) fn all(tree: &'a Tree<K, V>) -> Self
-        ensures rest { result ≡ tree.now.0 }
+    pub(crate) fn all(root: &'a Root<K, V>) -> Self
+        ensures rest { result ≡ root.now.0 }
         ensures fits { length result < 2 ^ 64 }
     {
-        prove!(tree.height() <= MAX_HEIGHT as u64);
+        prove!(root.height() <= MAX_HEIGHT as u64);
         let mut path = Path::new();
-        path.descend(tree);
+        path.descend_root(root);
         Range { path }
     }
 }
 
 impl<'a, K: IndexKey, V: Drop> Range<'a, K, V> {
-    pub(crate) fn from_key(tree: &'a Tree<K, V>, key: &K) -> Self
-        requires { T (is_sorted K.cmp tree.now.0) }
-        ensures rest { result ≡ entries_from K.cmp key.now tree.now.0 }
+    pub(crate) fn from_key(root: &'a Root<K, V>, key: &K) -> Self
+        requires { T (is_sorted K.cmp root.now.0) }
+        ensures rest { result ≡ entries_from K.cmp key.now root.now.0 }
         ensures fits { length result < 2 ^ 64 }
     {
-        prove!(tree.height() <= MAX_HEIGHT as u64);
+        prove!(root.height() <= MAX_HEIGHT as u64);
         let mut path = Path::new();
-        path.descend_from(tree, key);
+        path.descend_root_from(root, key);
         Range { path }
     }
 }

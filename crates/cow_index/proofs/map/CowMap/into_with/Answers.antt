@@ -1,5 +1,5 @@
 use Rattle.std.specs.FinMap.Entries.{is_sorted-put}
 use Rattle.cow_index.proofs.map.CowMap.into_with.Goals as goal
 
-pub of_tree-requires : goal.of_tree-requires
-of_tree-requires g c = rw c.in_ok-tree.ensures.entries (is_sorted-put g.K.Ord.cmp g.met.K.Ord.total _ _ c.self.inside.tree.0 c.self.invariant)
+pub of_root-requires : goal.of_root-requires
+of_root-requires g c = rw c.in_ok-root.ensures.entries (is_sorted-put g.K.Ord.cmp g.met.K.Ord.total _ _ c.self.inside.root.0 c.self.invariant)

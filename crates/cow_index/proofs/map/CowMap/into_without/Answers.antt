@@ -9,5 +9,5 @@ returns-then-is_none-clause-entries g c =
     let none : find g.K.Ord.cmp c.args.key.now c.args.self.entries ≡ None = search rules in
     rw (without_absent g.K.Ord.cmp c.args.key.now c.args.self.entries none) c.share.ensures.entries
 
-pub of_tree-requires : goal.of_tree-requires
-of_tree-requires g c = rw c.in_ok-tree.ensures.entries (is_sorted-where_key g.K.Ord.cmp (λ x. not (eq_by_cmp g.K.Ord.cmp c.args.key.now x)) c.self.inside.tree.0 c.self.invariant)
+pub of_root-requires : goal.of_root-requires
+of_root-requires g c = rw c.in_ok-root.ensures.entries (is_sorted-where_key g.K.Ord.cmp (λ x. not (eq_by_cmp g.K.Ord.cmp c.args.key.now x)) c.self.inside.root.0 c.self.invariant)

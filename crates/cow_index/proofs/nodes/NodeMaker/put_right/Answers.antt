@@ -7,14 +7,17 @@ pub invariant_of-result : goal.invariant_of-result
 invariant_of-result g c =
     let level : DifferByAtMost 1 c.in-Some.node.now.left.1 c.args.right.1 = subst (λ n. DifferByAtMost 1 n.left.1 c.args.right.1) (sym c.in-Some.ensures.value) c.requires.level in
     let fits = subst (λ n. length n.left.0 + length c.args.right.0 + 1 < 2 ^ 64) (sym c.in-Some.ensures.value) c.requires.fits in
-    let dense = dense_node _ _ _ _ level c.height.ensures.dense c.height-2.ensures.dense in
-    record {
-      entries = refl;
-      lengths = grind (arith, length-append);
-      len = grind (arith, length-append);
-      fits = grind (arith, length-append, fits);
-      height = refl;
-      heights = grind arith;
-      level = level;
-      dense = grind (arith, length-append, dense);
-    }
+    let dense = dense_node _ _ _ _ level c.height.ensures.dense c.height-2.ensures.dense in (
+      record {
+        entries = refl;
+        lengths = grind (arith, length-append);
+        len = grind (arith, length-append);
+        fits = grind (arith, length-append, fits);
+        height = refl;
+        heights = grind arith;
+      },
+      record {
+        sides = level;
+        dense = grind (arith, length-append, dense);
+      },
+    )

@@ -6,5 +6,5 @@ use Rattle.cow_index.proofs.walk.Range.from_key.Goals as goal
 
 pub returns-clause-fits : goal.returns-clause-fits
 returns-clause-fits g c =
-    let shorter = length_filter_le (λ e. is_le (g.K.Ord.cmp c.args.key.now e.0)) c.args.tree.now.0 in
+    let shorter = length_filter_le (λ e. is_le (g.K.Ord.cmp c.args.key.now e.0)) c.args.root.now.0 in
     grind (arith, common_steps, shorter)

@@ -10,7 +10,7 @@ use Rattle.machine.specs.declared.completed.Completed.{Completed}
 use Rattle.machine.specs.Views.{all_seeing, seen_by}
 use Rattle.machine.proofs.Kept.{put_stepped}
 use Rattle.machine.proofs.Next.{put_next}
-use Rattle.machine.proofs.Outcome.{on_err}
+use Rattle.machine.proofs.Outcome.{on_err, not_ok}
 use Rattle.machine.proofs.Reached.{batch_follows}
 use Rattle.machine.proofs.Steps.{put_none}
 use Rattle.machine.proofs.machine.Machine.put.Goals as goal
@@ -30,6 +30,9 @@ pub returns-in_err-append-clause-kept : goal.returns-in_err-append-clause-kept
 returns-in_err-append-clause-kept c =
     let f = c.self.inside in
     on_err _ c.from_residual-in_err-append.result (ap (λ (cs : List Completed). state_of f.version f.config f.waiting.items f.batch.items f.views.items f.copy cs) c.in_err-append.ensures.items ∙ c.self.view_is)
+
+pub returns-in_err-append-clause-stepped : goal.returns-in_err-append-clause-stepped
+returns-in_err-append-clause-stepped c = not_ok _ c.from_residual-in_err-append.result c.from_residual-in_err-append.ensures.0
 
 pub invariant_of-self-2 : goal.invariant_of-self-2
 invariant_of-self-2 c =
