@@ -7,15 +7,16 @@ indexes.
 
     json_profile   JSON values, bodies, their compact texts
     revisions      identities of revisions
-    trees          a document's revisions: leaves, winner, graft, stem
-    database       commands: edits, merges, the revision limit, local documents
+    trees          a document's revisions: leaves, winner, graft, stem, cut, strip
+    database       commands: edits, merges, local documents, purges, the revision limit, compactions
     queries        answers: documents, open revisions, changes, differences, counts
     framing        bytes of a connection cut into requests
-    targets        routes, identities and parameters of a request
+    targets        routes, ids and parameters of a request
     bodies         what a request's body must be
     actions        each route's answer
     responses      the texts of responses
     once           a whole run
+    history        dumps: the text of a history, and whether a text is the dump of a legal one
 
-A route that the program doesn't have, as `_purge`, is answered as if it were not there.
+A route that the program doesn't have is answered as if it were not there.
 """

@@ -21,7 +21,7 @@ def md5(text):
     return hashlib.md5(text.encode()).hexdigest()
 
 
-def h(text):
+def revision(text):
     """`2-f*` stands for the generation 2 and the digit f 32 times."""
     return text[:-2] + 32 * text[-2]
 
@@ -80,11 +80,11 @@ ROW_A = row("a", 4, X2, '"deleted":true,')
 ROW_B = row("b", 2, A1)
 ROW_C = row("c", 3, A1)
 
-PATH_B = path(h("2-b*"), h("1-a*"))
-PATH_C = path(h("2-c*"), h("1-a*"))
-OPEN_B = '{"ok":{"_id":"d","_rev":"%s",%s}}' % (h("2-b*"), PATH_B)
-OPEN_C = '{"ok":{"_id":"d","_rev":"%s",%s}}' % (h("2-c*"), PATH_C)
-ROW_D = '{"changes":[{"rev":"%s"},{"rev":"%s"}],"id":"d","seq":2}' % (h("2-c*"), h("2-b*"))
+PATH_B = path(revision("2-b*"), revision("1-a*"))
+PATH_C = path(revision("2-c*"), revision("1-a*"))
+OPEN_B = '{"ok":{"_id":"d","_rev":"%s",%s}}' % (revision("2-b*"), PATH_B)
+OPEN_C = '{"ok":{"_id":"d","_rev":"%s",%s}}' % (revision("2-c*"), PATH_C)
+ROW_D = '{"changes":[{"rev":"%s"},{"rev":"%s"}],"id":"d","seq":2}' % (revision("2-c*"), revision("2-b*"))
 
 # of each transcript its responses: status, place, body, and further lines of the head
 WORKED = {
@@ -101,17 +101,17 @@ WORKED = {
     ],
     "first-path/depth": [(400, 0, DEPTH)] * 5 + [(404, 0, MISSING)],
     "first-path/depth-past-the-reader": [(400, 0, JSON)] * 2 + [(404, 0, MISSING)],
-    "conflicts/winner-is-not-deleted": [(201, 1, "[]"), (200, 1, '{"_id":"d","_rev":"%s"}' % h("1-0*"))],
+    "conflicts/winner-is-not-deleted": [(201, 1, "[]"), (200, 1, '{"_id":"d","_rev":"%s"}' % revision("1-0*"))],
     "conflicts/conflict-kept": [
         (201, 1, "[]"),
         (201, 2, "[]"),
-        (200, 2, '{"_conflicts":["%s"],"_id":"d","_rev":"%s"}' % (h("1-a*"), h("1-b*"))),
+        (200, 2, '{"_conflicts":["%s"],"_id":"d","_rev":"%s"}' % (revision("1-a*"), revision("1-b*"))),
     ],
     "conflicts/second-parent-refused": [
         (201, 1, "[]"),
         (201, 2, '[{"error":"bad_history","id":"d","reason":"A known revision has another parent."}]'),
         (404, 2, MISSING),
-        (200, 2, '{"_id":"d","_rev":"%s"}' % h("2-b*")),
+        (200, 2, '{"_id":"d","_rev":"%s"}' % revision("2-b*")),
     ],
     "conflicts/limit-of-one-revision": [
         (200, 1, '{"ok":true}'),
@@ -130,7 +130,7 @@ WORKED = {
     "conflicts/differences": [
         (201, 1, "[]"),
         (201, 2, "[]"),
-        (200, 2, '{"d":{"missing":["%s","%s"],"possible_ancestors":["%s"]}}' % (h("3-e*"), h("2-f*"), h("2-b*"))),
+        (200, 2, '{"d":{"missing":["%s","%s"],"possible_ancestors":["%s"]}}' % (revision("3-e*"), revision("2-f*"), revision("2-b*"))),
     ],
     "conflicts/write-after-deletion": [
         (201, 1, written("a", A1)),
@@ -148,12 +148,12 @@ WORKED = {
             2,
             '{"_id":"d","_rev":"%s","_revisions":{"ids":["%s","%s","%s"],"start":3},"_revs_info":[%s]}'
             % (
-                h("3-c*"),
+                revision("3-c*"),
                 32 * "c",
                 32 * "b",
                 32 * "a",
                 '{"rev":"%s","status":"available"},{"rev":"%s","status":"available"},{"rev":"%s","status":"missing"}'
-                % (h("3-c*"), h("2-b*"), h("1-a*")),
+                % (revision("3-c*"), revision("2-b*"), revision("1-a*")),
             ),
         ),
         (200, 2, info(1, 0, 2)),
@@ -187,7 +187,7 @@ WORKED = {
         (
             200,
             2,
-            '[{"ok":{"_id":"d","_rev":"%s"}},{"ok":{"_id":"d","_rev":"%s"}},{"missing":"%s"}]' % (h("3-c*"), h("2-b*"), h("9-9*")),
+            '[{"ok":{"_id":"d","_rev":"%s"}},{"ok":{"_id":"d","_rev":"%s"}},{"missing":"%s"}]' % (revision("3-c*"), revision("2-b*"), revision("9-9*")),
         ),
     ],
     "queries/changes-followed": [
@@ -202,33 +202,33 @@ WORKED = {
     "queries/differences-of-a-repeated-revision": [
         (201, 1, "[]"),
         (201, 2, "[]"),
-        (200, 2, '{"d":{"missing":["%s"],"possible_ancestors":["%s"]}}' % (h("3-e*"), h("2-b*"))),
+        (200, 2, '{"d":{"missing":["%s"],"possible_ancestors":["%s"]}}' % (revision("3-e*"), revision("2-b*"))),
     ],
     "queries/differences-with-the-largest-generation-last": [
         (201, 1, "[]"),
         (201, 2, "[]"),
-        (200, 2, '{"d":{"missing":["%s","%s"],"possible_ancestors":["%s"]}}' % (h("2-f*"), h("3-e*"), h("2-b*"))),
+        (200, 2, '{"d":{"missing":["%s","%s"],"possible_ancestors":["%s"]}}' % (revision("2-f*"), revision("3-e*"), revision("2-b*"))),
     ],
     "queries/differences-with-ancestors-in-order": [
         (201, 1, "[]"),
         (201, 2, "[]"),
-        (200, 2, '{"d":{"missing":["%s"],"possible_ancestors":["%s","%s"]}}' % (h("4-e*"), h("2-b*"), h("3-c*"))),
+        (200, 2, '{"d":{"missing":["%s"],"possible_ancestors":["%s","%s"]}}' % (revision("4-e*"), revision("2-b*"), revision("3-c*"))),
     ],
     "queries/differences-of-an-unknown-document": [
         (201, 1, "[]"),
         (201, 2, "[]"),
-        (200, 2, '{"no":{"missing":["%s","%s"]}}' % (h("3-e*"), h("1-a*"))),
+        (200, 2, '{"no":{"missing":["%s","%s"]}}' % (revision("3-e*"), revision("1-a*"))),
     ],
-    "queries/latest-of-two-leaves": [(201, 1, "[]"), (201, 2, "[]"), (200, 2, '{"_id":"d","_rev":"%s"}' % h("3-c*"))],
+    "queries/latest-of-two-leaves": [(201, 1, "[]"), (201, 2, "[]"), (200, 2, '{"_id":"d","_rev":"%s"}' % revision("3-c*"))],
     "queries/open-listed-of-an-unknown-document": [
-        (200, 0, '[{"missing":"%s"}]' % h("1-a*")),
-        (200, 0, '[{"missing":"%s"}]' % h("1-a*")),
+        (200, 0, '[{"missing":"%s"}]' % revision("1-a*")),
+        (200, 0, '[{"missing":"%s"}]' % revision("1-a*")),
         (200, 0, "[]"),
     ],
     "queries/live-and-deleted-losers": [
         (201, 1, "[]"),
-        (200, 1, '{"_conflicts":["%s"],"_deleted_conflicts":["%s"],"_id":"d","_rev":"%s"}' % (h("1-0*"), h("2-f*"), h("1-b*"))),
-        (200, 1, '{"_deleted_conflicts":["%s"],"_id":"d","_rev":"%s"}' % (h("2-f*"), h("1-b*"))),
+        (200, 1, '{"_conflicts":["%s"],"_deleted_conflicts":["%s"],"_id":"d","_rev":"%s"}' % (revision("1-0*"), revision("2-f*"), revision("1-b*"))),
+        (200, 1, '{"_deleted_conflicts":["%s"],"_id":"d","_rev":"%s"}' % (revision("2-f*"), revision("1-b*"))),
     ],
     "queries/status-of-an-inner-deletion": [
         (201, 1, "[]"),
@@ -237,13 +237,13 @@ WORKED = {
             200,
             2,
             '{"_id":"d","_rev":"%s","_revs_info":[{"rev":"%s","status":"available"},{"rev":"%s","status":"deleted"}]}'
-            % (h("2-b*"), h("2-b*"), h("1-a*")),
+            % (revision("2-b*"), revision("2-b*"), revision("1-a*")),
         ),
     ],
     "purges/purge-of-a-leaf": [
         (201, 1, "[]"),
         (201, 2, "[]"),
-        (201, 3, purged(1, d=[h("2-c*")], e=[])),
+        (201, 3, purged(1, d=[revision("2-c*")], e=[])),
         (200, 3, info(1, 0, 3, 1)),
         (200, 3, "[%s]" % OPEN_B),
     ],
@@ -267,19 +267,19 @@ WORKED = {
     "purges/purge-of-all-leaves": [
         (201, 1, "[]"),
         (201, 2, "[]"),
-        (201, 3, purged(1, d=[h("2-b*"), h("2-c*")])),
+        (201, 3, purged(1, d=[revision("2-b*"), revision("2-c*")])),
         (200, 3, info(0, 0, 2, 1)),
         (200, 3, "[]"),
         (200, 3, changes(2, 0)),
         (404, 3, MISSING),
         (404, 3, MISSING),
-        (200, 3, '{"d":{"missing":["%s","%s"]}}' % (h("2-b*"), h("1-a*"))),
+        (200, 3, '{"d":{"missing":["%s","%s"]}}' % (revision("2-b*"), revision("1-a*"))),
         (201, 4, written("d", A1)),
         (200, 4, '{"_id":"d","_rev":"%s",%s}' % (A1, path(A1))),
         (200, 4, info(1, 0, 3, 1)),
         (200, 4, changes(3, 0, row("d", 3, A1))),
     ],
-    "purges/purge-in-the-order-asked": [(201, 1, "[]"), (201, 2, "[]"), (201, 3, purged(1, d=[h("2-c*"), h("2-b*")]))],
+    "purges/purge-in-the-order-asked": [(201, 1, "[]"), (201, 2, "[]"), (201, 3, purged(1, d=[revision("2-c*"), revision("2-b*")]))],
     "purges/purge-by-byte-order": [
         (201, 1, written("b", A1)),
         (201, 2, written("é", A1)),

@@ -4,6 +4,8 @@ example also the dump of its history.
 
     tests/transcripts/make.py            writes them
     tests/transcripts/make.py --check    says which files are not as they would be written; status 1 where one is not
+
+The last line of a check is `N passed, M failed`.
 """
 import os
 import sys
@@ -64,10 +66,12 @@ def strays(made):
 
 def main():
     made = files()
-    stale = [path for path, data in made.items() if content(path) != data] + list(strays(made))
+    changed = [path for path, data in made.items() if content(path) != data]
+    stale = changed + list(strays(made))
     if sys.argv[1:] == ["--check"]:
         for path in stale:
             print("not as it would be written: " + os.path.relpath(path))
+        print("%d passed, %d failed" % (len(made) - len(changed), len(stale)))
         sys.exit(1 if stale else 0)
     for path in stale:
         if path in made:

@@ -1,6 +1,6 @@
 //! Requests of one connection, in pieces and with failures, and all that is written to it.
 
-use http_front::run_once;
+use http_front::{run_dump, run_once};
 use std::process::Abort;
 use std::sync::Wait;
 use std::test::Fail;
@@ -33,6 +33,13 @@ const CREATED_AND_FOUND_A: &[u8] =
 const A_NUMBER_TOO_LARGE: &[u8] =
     b"HTTP/1.1 201 Created\r\nContent-Type: application/json\r\nContent-Length: 63\r\nCouch-Place: 1\r\n\r\n{\"id\":\"n\",\"ok\":true,\"rev\":\"1-2bd4f50ce7065c614af5a47da249f585\"}HTTP/1.1 400 Bad Request\r\nContent-Type: application/json\r\nContent-Length: 41\r\nCouch-Place: 1\r\n\r\n{\"error\":\"bad_request\",\"reason\":\"number\"}";
 
+/// The history without entries.
+const NO_ENTRY: &[u8] = b"{\"couch_history\":1}\n";
+
+/// The history of one edit.
+const ONE_ENTRY: &[u8] =
+    b"{\"couch_history\":1}\n{\"command\":{\"bulk\":[{\"body\":{},\"deleted\":false,\"id\":\"a\"}],\"new_edits\":true},\"reply\":[\"1-b7a5841aeb59f1be5d0e27b640827094\"],\"seat\":[0,1]}\n";
+
 /// A run of the program over an input, and what has to come of it.
 #[derive(Drop)]
 struct Row<'a> {
@@ -59,6 +66,26 @@ impl Row<'_> {
         });
         assert_eq!(rt; run_once(&mut reader, &mut writer, rt), self.status);
         assert_eq!(rt; writer.into_inner().taken.as_slice(), self.output);
+        Ok(())
+    }
+
+    /// Runs for the history, as the script cuts the input.
+    fn assert_dump<R: AllocGlobal + Abort + Wait + Clock>(
+        &self,
+        rt: &R,
+        reading: &[Step],
+        dump: &[u8],
+    ) -> Result<(), Fail> {
+        let mut reader = Stream::new(ScriptedReader {
+            rest: self.input,
+            script: reading,
+        });
+        let mut writer = Stream::new(ScriptedWriter {
+            taken: Vec::with_capacity(rt.alloc(), 512)?,
+            script: &[],
+        });
+        assert_eq!(rt; run_dump(&mut reader, &mut writer, rt), self.status);
+        assert_eq!(rt; writer.into_inner().taken.as_slice(), dump);
         Ok(())
     }
 
@@ -169,6 +196,19 @@ fn changes_are_fed(rt: HostRuntime) -> Result<(), Fail> {
 }
 
 #[test]
+fn answers_are_whole_where_they_are_written_a_byte_at_a_time(rt: HostRuntime) -> Result<(), Fail> {
+    let rows = [
+        (PUT_A, CREATED_A),
+        (PUT_A_TWICE, CONFLICT),
+        (PUT_AND_GET_A, CREATED_AND_FOUND_A),
+    ];
+    for (input, output) in rows {
+        served(input, output).assert_run(&rt, &[], &[Step::AtMost(1)])?;
+    }
+    Ok(())
+}
+
+#[test]
 fn the_status_tells_failures(rt: HostRuntime) -> Result<(), Fail> {
     let unread = Row {
         input: PUT_A,
@@ -182,5 +222,29 @@ fn the_status_tells_failures(rt: HostRuntime) -> Result<(), Fail> {
         output: b"HTTP/1.1 2",
     };
     cut_off.assert_run(&rt, &[], &[Step::AtMost(10), Step::Fail])?;
+    Ok(())
+}
+
+/// The input is read a byte at a time, until a read fails.
+#[test]
+fn a_read_that_fails_ends_the_connection(rt: HostRuntime) -> Result<(), Fail> {
+    let within_the_first = Row {
+        input: PUT_A_TWICE,
+        status: 1,
+        output: b"",
+    };
+    let mut script = [Step::AtMost(1); 43];
+    script[42] = Step::Fail;
+    within_the_first.assert_run(&rt, &script, &[])?;
+    within_the_first.assert_dump(&rt, &script, NO_ENTRY)?;
+    let behind_the_first = Row {
+        input: PUT_A_TWICE,
+        status: 1,
+        output: CREATED_A,
+    };
+    let mut script = [Step::AtMost(1); 44];
+    script[43] = Step::Fail;
+    behind_the_first.assert_run(&rt, &script, &[])?;
+    behind_the_first.assert_dump(&rt, &script, ONE_ENTRY)?;
     Ok(())
 }

@@ -95,8 +95,8 @@ fn share<R: Wait + Drop, J: Opening, G: Gate + Drop>(
 }
 
 /// A master and its sessions, numbered from 0, each having seen the empty history. The writer's
-/// runtime is `rt`, and the gate is called between the steps of a write. A fault is want of memory, or
-/// that a reader was refused.
+/// runtime is `rt`, and the gate is called between the steps of a write and of a compaction. A fault is
+/// want of memory, or that a reader was refused.
 pub fn open<R: Wait + Drop, J: Opening, G: Gate + Drop>(
     rt: R,
     opened: Opened,

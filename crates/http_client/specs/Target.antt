@@ -15,11 +15,6 @@ is_unreserved byte = is_ascii_alphanumeric byte || byte == 45 || byte == 46 || b
 abbrev pub changes_target : ℕ → ℕ → List ℕ
 changes_target since limit = codes "/db/_changes?style=all_docs&since=" ++ (decimal since ++ (codes "&limit=" ++ decimal limit))
 
--- a document, whose id has these bytes escaped
--- CouchDB: GET /{db}/{docid}
-abbrev pub document_target : AsciiSet → List ℕ → List ℕ
-document_target set id = codes "/db/" ++ percent_encode set id
-
 -- a local document
 -- CouchDB: GET /{db}/_local/{docid}
 abbrev pub local_target : AsciiSet → List ℕ → List ℕ

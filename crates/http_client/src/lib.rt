@@ -16,7 +16,7 @@ mod target;
 pub use front::ResponseSpans;
 pub use incoming::{Incoming, ResponseFault};
 pub use request::request_text;
-pub use target::{SEGMENT, changes_target, document_target, local_target, open_revs_target};
+pub use target::{SEGMENT, changes_target, local_target, open_revs_target};
 
 #[cfg(test)]
 mod tests;

@@ -1,7 +1,7 @@
 //! The targets of requests.
 ghost use Rattle.std.specs.Prelude.{◌≡◌, IfOk, string_bytes};
 ghost use Rattle.percent_encoding.specs.Percent.{percent_encode};
-ghost use Rattle.http_client.specs.Target.{changes_target, document_target, local_target, open_revs_query, open_revs_target};
+ghost use Rattle.http_client.specs.Target.{changes_target, local_target, open_revs_query, open_revs_target};
 
 use form_urlencoded::Serializer;
 use percent_encoding::{AsciiSet, NON_ALPHANUMERIC, ascii_set, percent_encode};
@@ -26,18 +26,6 @@ pub fn changes_target(alloc: Global, since: u64, limit: u64) -> Result<String, A
     ensures target { IfOk result (λ text. string_bytes text ≡ changes_target since limit) }
 {
     format!(in alloc; "/db/_changes?style=all_docs&since={since}&limit={limit}")
-}
-
-/// The target of a document.
-///
-/// # Errors
-///
-/// Memory may be refused.
-pub fn document_target(alloc: Global, id: &str) -> Result<String, AllocError>
-    ensures target { IfOk result (λ text. string_bytes text ≡ document_target SEGMENT id.now) }
-{
-    let segment = segment(alloc, id)?;
-    format!(in alloc; "/db/{segment}")
 }
 
 /// The target of a local document.

@@ -30,8 +30,8 @@ fn targets(rt: HostRuntime) -> Result<(), AllocError> {
         target.as_str(),
         "/db/d?revs=true&latest=true&open_revs=%5B%222-cccccccccccccccccccccccccccccccc%22%5D"
     );
-    let target = document_target(rt.alloc(), "a/b c~*é")?;
-    assert_eq!(rt; target.as_str(), "/db/a%2Fb%20c~%2A%C3%A9");
+    let target = local_target(rt.alloc(), "a/b c~*é")?;
+    assert_eq!(rt; target.as_str(), "/db/_local/a%2Fb%20c~%2A%C3%A9");
     let target = local_target(rt.alloc(), "r-1_x.y")?;
     assert_eq!(rt; target.as_str(), "/db/_local/r-1_x.y");
     Ok(())

@@ -5,16 +5,32 @@ ghost use Rattle.http_front.specs.Listening.{Serves, ServesAll};
 use crate::calls::Calls;
 use crate::connection::{serve, serve_in};
 use crate::setting::Setting;
-use serving::{Ended, Window};
-use std::net::{TcpListener, TcpStream};
+use serving::{Cause, Ended, Window};
+use std::io::Read;
+use std::net::{Shutdown, TcpListener, TcpStream};
 use std::thread;
 use std::thread::Threads;
+use std::time::{Clock, Duration};
 use streams::{Stream, set_up};
+
+/// How many milliseconds a worker waits after a connection that can't be accepted, as where the
+/// process has no descriptor left.
+const REST_MILLISECONDS: u64 = 1;
+
+/// How many seconds a client may stall that still sends after the last response.
+const LINGER_SECONDS: u64 = 2;
+
+/// So many bytes are let go at once.
+const LINGER_BYTES: usize = 4096;
+
+/// So often at most: together two of the largest requests.
+const LINGER_READS: usize = 512;
 
 /// Serves the connections that come to the listener: each session is lent to a worker of its own,
 /// which accepts so many of them, one after the other, or goes on without end where the number is 0.
-/// One that can't be accepted counts. Where no thread can be made, the caller's serves.
-pub fn listen<R: Threads + Sync, X: Sync, S: Calls<X> + Send>(
+/// One that can't be accepted counts, and the next is waited for a millisecond later. Where no thread
+/// can be made, the caller's serves.
+pub fn listen<R: Threads + Clock + Sync, X: Sync, S: Calls<X> + Send>(
     rt: &R,
     listener: &TcpListener,
     sessions: &mut [S],
@@ -34,12 +50,13 @@ pub fn listen<R: Threads + Sync, X: Sync, S: Calls<X> + Send>(
         rt,
         sessions,
         workers,
-        &|_, session| work(listener, session, connections, setting),
+        &|_, session| work(rt, listener, session, connections, setting),
     );
 }
 
 /// Serves connections of one session.
-fn work<X, S: Calls<X>>(
+fn work<R: Clock, X, S: Calls<X>>(
+    clock: &R,
     listener: &TcpListener,
     session: &mut S,
     connections: u32,
@@ -53,7 +70,7 @@ fn work<X, S: Calls<X>>(
             Ok((socket, _peer)) => {
                 serve_socket(&mut window, &socket, session, setting);
             }
-            Err(_) => thread::yield_now(),
+            Err(_) => thread::sleep(clock, Duration::from_millis(REST_MILLISECONDS)),
         }
     }
 }
@@ -83,8 +100,28 @@ fn serve_socket<X, S: Calls<X>>(
     }
     let mut reader = Stream::new(socket);
     let mut writer = Stream::new(socket);
-    match window {
+    let ended = match window {
         Some(window) => serve_in(window, &mut reader, &mut writer, session, setting),
         None => serve(setting.alloc, &mut reader, &mut writer, session, setting),
+    };
+    if ended.cause == Cause::Closed {
+        linger(socket);
+    }
+    ended
+}
+
+/// Says that no more responses come, and lets go what the client still sends: a connection that is
+/// closed with bytes unread is reset, and the client may lose the last response.
+fn linger(mut socket: &TcpStream) {
+    let Ok(()) = socket.shutdown(Shutdown::Write) else {
+        return;
+    };
+    let _stall = socket.set_read_timeout(Some(Duration::from_secs(LINGER_SECONDS)));
+    let mut bytes = [0; LINGER_BYTES];
+    for _ in 0..LINGER_READS {
+        match socket.read(&mut bytes) {
+            Ok(0) | Err(_) => return,
+            Ok(_) => {}
+        }
     }
 }

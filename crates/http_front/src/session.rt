@@ -101,7 +101,7 @@ fn compact<R: Wait + Drop, J: Opening, G: Gate + Drop, X: Wait>(
     }
 }
 
-/// The same of a session on threads.
+/// A session's fault, as a connection tells it.
 fn call_fault(fault: Fault) -> CallFault
     ensures { result ≡ call_fault fault }
 {

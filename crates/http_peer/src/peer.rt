@@ -82,17 +82,6 @@ impl<R: Source, W: Sink> HttpPeer<R, W> {
         }
     }
 
-    /// The source and the sink.
-    pub fn into_ends(self) -> (R, W)
-        ensures left { R.left result.0 ≡ self.left }
-        ensures failed_reads { R.failed_reads result.0 ≡ self.failed_reads }
-        ensures taken { W.taken result.1 ≡ self.taken }
-        ensures failed_writes { W.failed_writes result.1 ≡ self.failed_writes }
-    {
-        let HttpPeer { reader, writer, .. } = self;
-        (reader, writer)
-    }
-
     /// Writes a request, and reads until a whole response stands there. Until it is taken, the
     /// connection counts as given up.
     fn ask(&mut self, request: &str) -> Result<ResponseSpans, PeerFault>

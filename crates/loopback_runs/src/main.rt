@@ -2,8 +2,8 @@
 //!
 //! The program takes no words. A write is held before it is published while another connection reads. A
 //! feed that goes on is read beside the writes of another connection. A follower takes the rows of a
-//! database while other sessions write. A worker replicates a conflict between two servers, twice. What
-//! clients were answered is printed as it came.
+//! database while other sessions write. A history of one place takes no second write. A worker replicates
+//! a conflict between two servers, twice. What clients were answered is printed as it came.
 #![tactic(auto)]
 
 mod client;
@@ -11,6 +11,7 @@ mod command;
 mod ends;
 mod feed;
 mod follow;
+mod full;
 mod held;
 mod hold;
 mod marks;
@@ -33,6 +34,9 @@ fn main(rt: HostRuntime) -> io::Result<()> {
     println!(rt; "a follower beside the writes of other sessions:")?;
     let followed = with_sessions(&rt, Work::Followed)?;
     print!(rt; "{followed}")?;
+    println!(rt; "writes to a history of one place:")?;
+    let full = with_sessions(&rt, Work::Full(Ends::new(&rt)?))?;
+    print!(rt; "{full}")?;
     println!(rt; "a replication between two servers:")?;
     let replicated = replication::told(&rt, Ends::new(&rt)?, Ends::new(&rt)?)?;
     print!(rt; "{replicated}")

@@ -3,6 +3,7 @@ ghost use Rattle.std.specs.Prelude.{◌≡◌};
 
 use crate::ends::Ends;
 use crate::follow::follow_others;
+use crate::full::serve_full;
 use crate::held::serve_held;
 use crate::hold::Hold;
 use crate::marks::Marks;
@@ -24,6 +25,8 @@ use updating::{Gate, Opening, Point};
 pub(crate) enum Work {
     /// Two serve connections of which the first one's write is held.
     Held(Ends),
+    /// Two serve connections to a history of one place.
+    Full(Ends),
     /// One follows what the others write.
     Followed,
 }
@@ -32,6 +35,7 @@ impl Work {
     fn sessions(&self) -> u16 {
         match self {
             Work::Held(_ends) => 2,
+            Work::Full(_ends) => 2,
             Work::Followed => 1 + WRITERS,
         }
     }
@@ -39,7 +43,16 @@ impl Work {
     fn point(&self) -> Option<Point> {
         match self {
             Work::Held(_ends) => Some(Point::Popped),
+            Work::Full(_ends) => None,
             Work::Followed => None,
+        }
+    }
+
+    fn max_places(&self) -> u32 {
+        match self {
+            Work::Full(_ends) => 1,
+            Work::Held(_ends) => 10_000,
+            Work::Followed => 10_000,
         }
     }
 }
@@ -51,7 +64,7 @@ pub(crate) fn with_sessions<R: AllocGlobal + Threads + Wait + Clock + Sync>(
 ) -> io::Result<String> {
     let marks = Arc::new(rt.alloc(), Marks::new())?;
     let hold = Hold::new(rt, marks.clone()?, work.point());
-    let Some(opened) = opened(rt.alloc(), work.sessions()) else {
+    let Some(opened) = opened(rt.alloc(), work.sessions(), work.max_places()) else {
         return Err(io::Error::from(ErrorKind::OutOfMemory));
     };
     match worked::<Brand, &R, R, Hold<&R>>(rt, rt, work, &marks, hold, opened) {
@@ -60,8 +73,8 @@ pub(crate) fn with_sessions<R: AllocGlobal + Threads + Wait + Clock + Sync>(
     }
 }
 
-/// What a database of so many sessions is opened with.
-fn opened(alloc: Global, sessions: u16) -> Option<Opened> {
+/// What a database of so many sessions and places is opened with.
+fn opened(alloc: Global, sessions: u16, max_places: u32) -> Option<Opened> {
     let config = Config::new(Limits {
         sessions,
         queue: 4,
@@ -69,7 +82,7 @@ fn opened(alloc: Global, sessions: u16) -> Option<Opened> {
         slice: 16,
         slack: 16,
         tries: 8,
-        max_places: 10_000,
+        max_places,
     })?;
     Opened::new(alloc, config).ok()
 }
@@ -110,6 +123,7 @@ fn work_of<R: AllocGlobal + Threads + Wait + Clock + Sync, S: Calls<R> + Send>(
 ) -> io::Result<String> {
     match work {
         Work::Held(ends) => serve_held(rt, ends, marks, sessions),
+        Work::Full(ends) => serve_full(rt, ends, sessions),
         Work::Followed => follow_others(rt, marks, sessions),
     }
 }

@@ -60,7 +60,7 @@ fn read_row(alloc: Global, value: Json) -> Result<Row, Fault>
     })
 }
 
-/// Whether the winner is deleted, which has to be said.
+/// Whether the winner is deleted. `deleted` may be left out where it is not.
 fn read_deleted(value: &Json) -> Result<bool, Reason>
     ensures { result ≡ deleted_in value.now }
 {

@@ -92,8 +92,8 @@ impl<C: Drop, J: Opening, G: Drop> Session<C, J, G> {
         self.latest.version()
     }
 
-    /// Sees what is published now, and nothing else: where that was seen already, it writes to no
-    /// memory that other sessions read. It waits for nobody and takes no memory.
+    /// Sees what is published now, and nothing else: where that was seen already, it writes to its own
+    /// place among the readers alone, which a publication reads. It waits for nobody and takes no memory.
     pub fn refresh(&mut self) -> Result<(), Fault>
         ensures looks { IfOk result (λ _. Looks self.old self.new) }
         ensures kept { OnErr result (self.new ≡ self.old) }

@@ -14,6 +14,7 @@ pub struct Shared<C: Drop, J: Queued, G: Drop> {
 }
 
 impl<C: Drop, J: Queued, G: Drop> Shared<C, J, G> {
+    /// What sessions share, with the updater's state behind its lock.
     pub fn new(line: Line<J>, gate: G, config: Config, core: C) -> Shared<C, J, G> {
         Shared {
             line,

@@ -33,6 +33,7 @@ impl<R: Wait + Drop, J: Opening, G: Gate + Drop> Session<Core<R, J>, J, G> {
         ensures lost { result ≡ Err fault.Lost → self.new ≡ record self.old { pushes = self.new.pushes; lost = true } }
         ensures for_ever { self.old.lost ≡ true → result ≡ Err fault.Lost }
         ensures for_ever_same { self.old.lost ≡ true → self.new ≡ self.old }
+        ensures pushes { self.new.pushes ≤ self.old.pushes + 1 }
         ensures entered { result ≢ Err fault.EntryRefused }
         ensures not_behind { result ≢ Err fault.Behind }
         ensures not_overrun { result ≢ Err fault.Overrun }
@@ -115,6 +116,7 @@ impl<C: Drop, J: Opening, G: Drop> Session<C, J, G> {
         ensures full { result ≡ Err fault.Full → Looks self.old self.new }
         ensures when_full { result ≡ Err fault.Full → length (seen self.new) ≡ J.max_places }
         ensures lost { result ≡ Err fault.Lost → self.new ≡ record self.old { lost = true } }
+        ensures pushes { self.new.pushes ≡ self.old.pushes }
         ensures not_busy { result ≢ Err fault.Busy }
         ensures entered { result ≢ Err fault.EntryRefused }
         ensures not_behind { result ≢ Err fault.Behind }
@@ -139,6 +141,7 @@ impl<C: Drop, J: Opening, G: Drop> Session<C, J, G> {
         ensures receipt { IfOk result (λ receipt. Writes self.old asked.now receipt self.new) }
         ensures lost { IfErr result (λ e. e ≡ fault.Lost) }
         ensures lost_same { IfErr result (λ _. self.new ≡ record self.old { lost = true }) }
+        ensures pushes { self.new.pushes ≡ self.old.pushes }
     {
         let (found, place, reply) = answer.into_parts();
         let publication = found.publication();
@@ -163,6 +166,7 @@ impl<C: Drop, J: Opening, G: Drop> Session<C, J, G> {
         ensures full { result ≡ fault.Full → Looks self.old self.new }
         ensures when_full { result ≡ fault.Full → length (seen self.new) ≡ J.max_places }
         ensures lost { result ≡ fault.Lost → self.new ≡ record self.old { lost = true } }
+        ensures pushes { self.new.pushes ≡ self.old.pushes }
     {
         let found = filled.into_found();
         let _count = found.publication();

@@ -1,4 +1,4 @@
-//! Whole runs on a shared map, for the programs in `benches/shared_map` and `tests/growths`.
+//! Whole runs on a shared map, for the program in `benches/shared_map`.
 #![tactic(auto)]
 
 use cow_index::CowMap;
@@ -87,71 +87,4 @@ pub extern "C" fn shared_map_walk(alloc: Global, keys: &[u64], walks: u32) -> u6
         }
     }
     sum
-}
-
-/// What a map tells of itself.
-#[repr(C)]
-pub struct Told {
-    pub len: u64,
-    pub height: u64,
-    pub nodes_made: u64,
-}
-
-/// Inserts the keys, removes those of `asked`, and tells of the map that is left. Answers whether
-/// memory was granted.
-#[unsafe(no_mangle)]
-pub extern "C" fn shared_map_tell(
-    alloc: Global,
-    keys: &[u64],
-    asked: &[u64],
-    told: &mut Told,
-) -> bool {
-    let Ok(map) = map_of(alloc, keys) else {
-        return false;
-    };
-    let Ok(map) = removed(map, asked) else {
-        return false;
-    };
-    told.len = map.len();
-    told.height = map.height();
-    told.nodes_made = map.nodes_made();
-    true
-}
-
-/// The length of the map with the other keys inserted and then all removed.
-fn left_of(map: &CowMap<u64, u64>, first: &[u64], others: &[u64]) -> Result<u64, AllocError> {
-    let more = added(map.share()?, others)?;
-    let fewer = removed(more, first)?;
-    Ok(removed(fewer, others)?.len())
-}
-
-/// Writes the keys that a walk meets, as many as there is room for, and answers how many it meets.
-fn walk(map: &CowMap<u64, u64>, met: &mut [u64]) -> u64 {
-    let mut place = 0usize;
-    for (key, _) in map.iter() {
-        if place < met.len() {
-            met[place] = *key;
-        }
-        place = place.saturating_add(1);
-    }
-    place as u64
-}
-
-/// Keeps the map of the first keys, inserts the others and removes all, and writes the keys that a
-/// walk over the kept map meets then. Answers how many it meets, or [`REFUSED`] where memory was
-/// refused or a key is left.
-#[unsafe(no_mangle)]
-pub extern "C" fn shared_map_keep(
-    alloc: Global,
-    first: &[u64],
-    others: &[u64],
-    met: &mut [u64],
-) -> u64 {
-    let Ok(kept) = map_of(alloc, first) else {
-        return REFUSED;
-    };
-    match left_of(&kept, first, others) {
-        Ok(0) => walk(&kept, met),
-        _ => REFUSED,
-    }
 }

@@ -7,12 +7,19 @@ mod soak;
 use commands::{Command, Edit, Limits, ReplyKind};
 use document_id::DocId;
 use json_profile::Body;
+use model::Refusal;
 use revision_id::RevId;
 use std::alloc::Global;
 use std::sync::Arc;
 
 /// The revision of a document's first edit, with the body `{}`.
 const FIRST: &str = "1-b7a5841aeb59f1be5d0e27b640827094";
+
+/// Ids of documents.
+const DOCUMENTS: [&str; 20] = [
+    "a", "b", "c", "d", "e", "f", "g", "h", "i", "j", "k", "l", "m", "n", "o", "p", "q", "r", "s",
+    "t",
+];
 
 /// Of two sessions.
 const LIMITS: Limits = Limits {
@@ -41,13 +48,10 @@ fn edit(alloc: Global, id: DocId, named: Option<RevId>) -> Option<Command> {
     Command::edits(Vec::from_array(alloc, [edit]).ok()?)
 }
 
-/// The revision that a command of one write is answered.
-fn revision(reply: &ReplyKind) -> Option<RevId> {
+/// What a command of one write is answered: its revision, or why it is refused.
+fn answer(reply: &ReplyKind) -> Option<Result<RevId, Refusal>> {
     let ReplyKind::Wrote(writes) = reply else {
         return None;
     };
-    match writes.first()? {
-        Ok(revision) => Some(*revision),
-        Err(_refusal) => None,
-    }
+    Some(*writes.first()?)
 }

@@ -1,5 +1,5 @@
 //! The updater's end of the queue.
-ghost use Rattle.std.specs.Prelude.{◌≡◌, ◌+◌, ◌<◌, ◌≤◌, [], ◌∷◌, ◌++◌, length, IfOk, OnErr, IsTrue, MatchOption};
+ghost use Rattle.std.specs.Prelude.{◌≡◌, ◌↔◌, ◌+◌, ◌<◌, ◌≤◌, [], ◌∷◌, ◌++◌, length, IfOk, OnErr, IsTrue, MatchOption};
 ghost use Rattle.crossbeam_queue.specs.Passes.{view as known};
 ghost use Rattle.turns.specs.Turns.{count, updater};
 
@@ -83,11 +83,12 @@ impl<J: Queued> Clerk<J> {
         Some(job)
     }
 
-    /// Tells a session how many of its jobs were taken, and answers whether these are all that it pushed.
+    /// Tells a session how many of its jobs were taken, and answers whether these are all that it pushed. Of a
+    /// session with no ticket the answer is no.
     pub fn tell(&mut self, line: &Line<J>, ticket: &mut Ticket<J>) -> bool
         ensures same { self.new ≡ self.old }
         ensures told { ticket.new ≡ record ticket.old { gone = count ticket.old.number self.old.taken } }
-        ensures all { IsTrue result → ticket.new.gone ≡ ticket.new.pushed }
+        ensures all { IsTrue result ↔ (ticket.old.number < self.old.made) × (ticket.new.gone ≡ ticket.new.pushed) }
     {
         let number = ticket.number as usize;
         inform(

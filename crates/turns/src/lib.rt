@@ -1,5 +1,5 @@
-//! Jobs on their way to the updater, in a bounded queue: at most one of each session waits, and what was taken
-//! and what waits is what was pushed.
+//! Jobs on their way to the updater, in a bounded queue: at most one of each session waits, and of each session
+//! as many were taken or wait as it pushed.
 #![tactic(auto)]
 
 mod clerk;

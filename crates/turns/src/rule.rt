@@ -27,7 +27,7 @@ pub struct Hand {
     pub bound: u64,
 }
 
-/// At most one job of each session waits. What was taken and what waits is what was pushed.
+/// At most one job of each session waits. Of each session as many were taken or wait as it pushed.
 pub struct InTurn;
 
 impl Protocol<Job, Hand> for InTurn {

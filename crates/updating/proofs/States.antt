@@ -1,13 +1,15 @@
 -- Going from state to state.
-use Rattle.std.proofs.Common.{◌≡◌, ◌<◌, ℕ, List, [], ◌∷◌, length, refl, subst, sym, arith}
+use Rattle.std.proofs.Common.{◌≡◌, ◌<◌, ℕ, List, [], ◌∷◌, length, Option, Some, None, refl, subst, sym, arith}
+use Rattle.std.specs.Prelude.{IfSome}
 use Rattle.model.specs.Command.{Job}
-use Rattle.updating.specs.State.{State, Pops, Puts, Goes, stays, pops, puts, gives_up, takes, after_taking}
+use Rattle.updating.specs.Outcomes.{Fate, outcome_of}
+use Rattle.updating.specs.State.{State, Pops, Puts, Goes, Takes, stays, pops, puts, gives_up, takes, after_taking}
 
 pub Goes-same : (max : ℕ) (s t u : State) → Goes max s t → u ≡ t → Goes max s u
 Goes-same max s t u g is = subst (Goes max s) (sym is) g
 
 pub Goes-pops : (max : ℕ) (s t u : State) → Goes max s t → Pops t u → Goes max s u
-Goes-pops max s t u g p = subst (Goes max s) (sym p.popped) (pops s t p.job g)
+Goes-pops max s t u g p = subst (Goes max s) (sym p.popped) (pops s t p.job g p.few)
 
 pub Goes-puts : (max : ℕ) (s t u : State) → Goes max s t → Puts max t u → Goes max s u
 Goes-puts max s t u g p = subst (Goes max s) (sym p.put) (puts s t g p.some p.room)
@@ -17,10 +19,15 @@ Goes-takes max s t u session g is = subst (Goes max s) (sym is) (takes s t sessi
 
 pub Goes-through : (max : ℕ) (s t u : State) → Goes max s t → Goes max t u → Goes max s u
 Goes-through max s t _ g (stays _) = g
-Goes-through max s t _ g (pops _ v job h) = pops s v job (Goes-through max s t v g h)
+Goes-through max s t _ g (pops _ v job h few) = pops s v job (Goes-through max s t v g h) few
 Goes-through max s t _ g (puts _ v h some room) = puts s v (Goes-through max s t v g h) some room
 Goes-through max s t _ g (gives_up _ v w h up) = gives_up s v w (Goes-through max s t v g h) up
 Goes-through max s t _ g (takes _ v session h) = takes s v session (Goes-through max s t v g h)
+
+-- the outcome that is taken, where there is one, is the session's
+pub takes_own : (max session : ℕ) (s t u : State) (outcome : Option Fate) → Goes max s t → outcome ≡ outcome_of t.outcomes session → u ≡ after_taking t session → IfSome outcome (Takes max session s u)
+takes_own max session s t u None g is taken = tt
+takes_own max session s t u (Some o) g is taken = record { before = t; goes = g; found = sym is; taken = taken }
 
 -- a put that was not refused
 pub Goes-put : {X : Type 0} (max : ℕ) (s t u : State) → Goes max s t → (t.batch ≡ [] → X × (u ≡ t)) → (0 < length t.batch → Puts max t u) → Goes max s u

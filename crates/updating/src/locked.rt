@@ -48,7 +48,7 @@ impl<R: Wait + Drop, J: Opening> Model for Core<R, J> {
 
     ghost coded = { coded_state (Prim.hlevel (codes, coded_members)) (Prim.hlevel (codes, coded_members)) (Prim.hlevel (codes, coded_members)) };
 
-    ghost view = { λ c. record { published = c.current; popped = c.clerk.taken; batch = c.batch.items; outcomes = c.outcomes.items } };
+    ghost view = { λ c. record { gather = c.gather; published = c.current; popped = c.clerk.taken; batch = c.batch.items; outcomes = c.outcomes.items } };
 
     ghost invariant = { λ c. (c.max_places ≡ J.max_places) × (c.gather ≤ vec_capacity c.batch) × (c.clerk.made ≤ length c.outcomes.items) × (length (newest c.current) ≤ J.max_places) × MayFollow (replay opening_base (newest c.current)) c.batch.items };
 }
@@ -66,7 +66,7 @@ impl<R: Wait + Drop, J: Opening> Core<R, J> {
         requires max_places { config.max_places ≡ J.max_places }
         requires sessions { clerk.made ≤ config.sessions }
         requires few { length (newest current) ≤ J.max_places }
-        ensures { IfOk result (λ core. core ≡ record { published = current; popped = clerk.taken; batch = []; outcomes = replicate config.sessions None }) }
+        ensures { IfOk result (λ core. core ≡ record { gather = config.gather; published = current; popped = clerk.taken; batch = []; outcomes = replicate config.sessions None }) }
     {
         let limits = config.limits();
         let batch = Vec::with_capacity(alloc, limits.gather as usize)?;

@@ -45,6 +45,7 @@ impl<J: Opening> Outcome<J> {
         Outcome { kind }
     }
 
+    /// What became of the job.
     pub fn into_kind(self) -> OutcomeKind<J>
         ensures { fate_of result ≡ self }
     {

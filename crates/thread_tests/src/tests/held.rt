@@ -1,8 +1,8 @@
 //! Writes that come while session 0 is held.
 ghost use Rattle.std.specs.Prelude.{◌≡◌};
 
-use crate::tests::{LIMITS, put};
-use commands::{Config, Limits};
+use crate::tests::{DOCUMENTS, LIMITS, answer, put};
+use commands::{Command, Config, Limits};
 use history_lock::{Opened, open};
 use sessions::{Fault, Receipt, Session};
 use std::alloc::Global;
@@ -34,6 +34,10 @@ struct Plan {
     pushed: u64,
     /// How many others were told that the queue is full, or looked.
     told: u64,
+    /// Whether each of the others pushes after the one before it has pushed.
+    in_order: bool,
+    /// Where that is not 0, session 0 compacts once so many were told that the history is full.
+    full: u64,
 }
 
 /// What was counted by all threads.
@@ -48,11 +52,13 @@ struct Tally {
     seen: AtomicU64,
     full: AtomicU64,
     busy: AtomicU64,
+    /// How many waits ended without what they waited for.
+    late: AtomicU64,
     failed: AtomicU64,
 }
 
 /// What a tally comes to: the sums over the places of two publications, the places seen by looks, and
-/// how many faults there were.
+/// how many faults and late waits there were.
 #[derive(Debug, Clone, Copy, PartialEq, Eq)]
 struct Sums {
     first: u64,
@@ -60,6 +66,7 @@ struct Sums {
     seen: u64,
     full: u64,
     busy: u64,
+    late: u64,
     failed: u64,
 }
 
@@ -76,14 +83,33 @@ fn power_of_two(place: u64) -> Option<u64> {
     1u64.checked_shl(u32::try_from(place).ok()?)
 }
 
-/// Waits until the count is there, or for so many turns.
-fn wait_for(clock: &impl Clock, count: &AtomicU64, wanted: u64) {
+/// Waits for so many turns until the count is there, and says whether it is.
+fn comes(clock: &impl Clock, count: &AtomicU64, wanted: u64) -> bool {
     for _ in 0..TURNS {
         if load(count) >= wanted {
-            return;
+            return true;
         }
         thread::sleep(clock, Duration::from_millis(1));
     }
+    false
+}
+
+/// How many others push before this one, in order.
+fn pushed_before(index: usize) -> u64 {
+    u64::try_from(index.saturating_sub(1)).unwrap_or(0)
+}
+
+/// The place of a session's write, in order.
+fn place_in_order(index: usize) -> Option<u64> {
+    u64::try_from(index).ok()?.checked_add(1)
+}
+
+/// Whether the document was new, and, in order, the place is next to that of the session before.
+fn is_right(plan: &Plan, index: usize, receipt: &Receipt) -> bool {
+    let Some(Ok(_revision)) = answer(receipt.reply.kind()) else {
+        return false;
+    };
+    !plan.in_order || place_in_order(index) == Some(receipt.place)
 }
 
 impl Tally {
@@ -97,6 +123,7 @@ impl Tally {
             seen: AtomicU64::new(0),
             full: AtomicU64::new(0),
             busy: AtomicU64::new(0),
+            late: AtomicU64::new(0),
             failed: AtomicU64::new(0),
         }
     }
@@ -108,14 +135,22 @@ impl Tally {
             seen: load(&self.seen),
             full: load(&self.full),
             busy: load(&self.busy),
+            late: load(&self.late),
             failed: load(&self.failed),
         }
     }
 
-    /// Counts a receipt or a fault.
-    fn count(&self, told: Result<Receipt, Fault>) {
+    /// Waits until the count is there. A wait that ends without it is late.
+    fn wait_for(&self, clock: &impl Clock, count: &AtomicU64, wanted: u64) {
+        if !comes(clock, count, wanted) {
+            add(&self.late, 1);
+        }
+    }
+
+    /// Counts a receipt or a fault of a session.
+    fn count(&self, plan: &Plan, index: usize, told: Result<Receipt, Fault>) {
         match told {
-            Ok(receipt) => self.count_place(receipt.place, receipt.publication),
+            Ok(receipt) => self.count_receipt(plan, index, &receipt),
             Err(Fault::Full) => add(&self.full, 1),
             Err(Fault::Busy) => {
                 add(&self.busy, 1);
@@ -123,6 +158,13 @@ impl Tally {
             }
             Err(_fault) => add(&self.failed, 1),
         }
+    }
+
+    fn count_receipt(&self, plan: &Plan, index: usize, receipt: &Receipt) {
+        if !is_right(plan, index, receipt) {
+            return add(&self.failed, 1);
+        }
+        self.count_place(receipt.place, receipt.publication);
     }
 
     fn count_place(&self, place: u64, publication: u64) {
@@ -153,14 +195,16 @@ impl<'a, C: Clock> Gate for Holds<'a, C> {
         }
         if point == self.plan.held {
             add(&self.tally.held, 1);
-            wait_for(self.clock, &self.tally.pushed, self.plan.pushed);
-            wait_for(self.clock, &self.tally.told, self.plan.told);
+            self.tally
+                .wait_for(self.clock, &self.tally.pushed, self.plan.pushed);
+            self.tally
+                .wait_for(self.clock, &self.tally.told, self.plan.told);
         }
     }
 }
 
 /// What each session does: session 0 writes, and while it is held others write, and then the last
-/// one looks.
+/// one looks. Where the history is full at the end, session 0 compacts.
 fn work<R: Wait + Clock, C: Wait + Drop, J: Opening, G: Gate + Drop>(
     rt: &R,
     alloc: Global,
@@ -170,17 +214,41 @@ fn work<R: Wait + Clock, C: Wait + Drop, J: Opening, G: Gate + Drop>(
     session: &mut Session<Core<C, J>, J, G>,
 ) {
     if index > 0 {
-        wait_for(rt, &tally.held, 1);
+        tally.wait_for(rt, &tally.held, 1);
     }
     if index >= WRITERS {
-        wait_for(rt, &tally.pushed, plan.pushed);
+        tally.wait_for(rt, &tally.pushed, plan.pushed);
         look(tally, session);
         return;
     }
-    match put(alloc, "a") {
-        Some(command) => tally.count(session.write(rt, command)),
+    if plan.in_order {
+        tally.wait_for(rt, &tally.pushed, pushed_before(index));
+    }
+    write(rt, alloc, plan, tally, index, session);
+    if index == 0 && plan.full > 0 {
+        tally.wait_for(rt, &tally.full, plan.full);
+        tally.count(plan, index, session.compact(rt));
+    }
+}
+
+/// Writes a document of the session's own.
+fn write<R: Wait, C: Wait + Drop, J: Opening, G: Gate + Drop>(
+    rt: &R,
+    alloc: Global,
+    plan: &Plan,
+    tally: &Tally,
+    index: usize,
+    session: &mut Session<Core<C, J>, J, G>,
+) {
+    match own_put(alloc, index) {
+        Some(command) => tally.count(plan, index, session.write(rt, command)),
         None => add(&tally.failed, 1),
     }
+}
+
+/// The first edit of a session's own document.
+fn own_put(alloc: Global, index: usize) -> Option<Command> {
+    put(alloc, DOCUMENTS.get(index)?)
 }
 
 fn look<C: Drop, J: Opening, G: Drop>(tally: &Tally, session: &mut Session<C, J, G>) {
@@ -244,6 +312,8 @@ const GATHERED: Plan = Plan {
     held: Point::Popped,
     pushed: 4,
     told: 1,
+    in_order: false,
+    full: 0,
 };
 
 const NOTHING: Sums = Sums {
@@ -252,6 +322,7 @@ const NOTHING: Sums = Sums {
     seen: 0,
     full: 0,
     busy: 0,
+    late: 0,
     failed: 0,
 };
 
@@ -276,12 +347,14 @@ fn a_full_history_takes_no_more(rt: HostRuntime) -> Result<(), Fail> {
     let plan = Plan {
         limits,
         told: 0,
+        in_order: true,
+        full: 2,
         ..GATHERED
     };
     let sums = Sums {
         first: 2,
         second: 12,
-        full: 2,
+        full: 3,
         ..NOTHING
     };
     assert_eq!(rt; outcome(&rt, rt.alloc(), plan)?, (sums, 3));
@@ -291,16 +364,21 @@ fn a_full_history_takes_no_more(rt: HostRuntime) -> Result<(), Fail> {
 #[test]
 fn a_full_queue_is_busy(rt: HostRuntime) -> Result<(), Fail> {
     let plan = Plan {
-        limits: Limits { queue: 1, ..LIMITS },
-        held: Point::Pushed,
-        pushed: 0,
-        told: 1,
+        limits: Limits {
+            sessions: 3,
+            queue: 1,
+            ..LIMITS
+        },
+        pushed: 1,
+        in_order: true,
+        ..GATHERED
     };
     let sums = Sums {
         first: 2,
+        second: 4,
         busy: 1,
         ..NOTHING
     };
-    assert_eq!(rt; outcome(&rt, rt.alloc(), plan)?, (sums, 1));
+    assert_eq!(rt; outcome(&rt, rt.alloc(), plan)?, (sums, 2));
     Ok(())
 }

@@ -1,7 +1,7 @@
 //! Many threads that write and look for a while.
 ghost use Rattle.std.specs.Prelude.{◌≡◌};
 
-use crate::tests::{LIMITS, edit, revision};
+use crate::tests::{DOCUMENTS, LIMITS, edit};
 use commands::{Command, Config, Entry, Limits, Seat};
 use document_id::DocId;
 use history_lock::{Opened, open};
@@ -26,11 +26,6 @@ const WRITES: usize = 1000;
 /// How many writes there are.
 const ALL: u64 = 16_000;
 
-const DOCUMENTS: [&str; 20] = [
-    "a", "b", "c", "d", "e", "f", "g", "h", "i", "j", "k", "l", "m", "n", "o", "p", "q", "r", "s",
-    "t",
-];
-
 /// The revision to write over, which wins in the version.
 fn winner(version: &Version, id: &DocId) -> Option<RevId> {
     Some(version.database().documents().get(id)?.tree().winner().rev)
@@ -47,7 +42,7 @@ fn next_edit(alloc: Global, version: &Version, turn: usize) -> Option<Command> {
 fn is_of(entry: &Entry, receipt: &Receipt) -> bool {
     entry.seat.session() == receipt.seat.session()
         && entry.seat.call() == receipt.seat.call()
-        && revision(entry.reply.kind()) == revision(receipt.reply.kind())
+        && entry.reply.is_same(&receipt.reply)
 }
 
 /// A session looks and writes over what it saw. Whether it then sees the entry of its receipt.
@@ -88,9 +83,7 @@ fn acted_again(version: &Version, entry: &Entry) -> Option<Version> {
     let seat = Seat::new(session, version.next_call(session))?;
     let next = version.act(seat, &entry.command).ok()?;
     let again = next.entry(place + 1)?;
-    if entry.seat.call() != seat.call()
-        || revision(again.reply.kind()) != revision(entry.reply.kind())
-    {
+    if entry.seat.call() != seat.call() || !again.reply.is_same(&entry.reply) {
         return None;
     }
     Some(next)
