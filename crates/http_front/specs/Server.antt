@@ -21,6 +21,6 @@ pub record ServesSessions (workers connections : ℕ) : Type 0 where
   pub legal : IsLegal opening_base history
   pub one : All (λ (k : Known). IsPrefix k.seen history) finals
 
--- so it was, or no database was opened
+-- so it was and the status is 0, or it is 1, as where no database was opened
 abbrev pub ServesListener : ℕ → ℕ → ℕ → Type 0
 ServesListener workers connections status = (ServesSessions workers connections × (status ≡ 0)) ⊎ (status ≡ 1)

@@ -21,10 +21,10 @@ const REST_MILLISECONDS: u64 = 1;
 const LINGER_SECONDS: u64 = 2;
 
 /// So many bytes are let go at once.
-const LINGER_BYTES: usize = 4096;
+const LINGER_BYTES: usize = 8192;
 
-/// So often at most: together two of the largest requests.
-const LINGER_READS: usize = 512;
+/// So often at most: together eight of the largest bodies.
+const LINGER_READS: usize = 1024;
 
 /// Serves the connections that come to the listener: each session is lent to a worker of its own,
 /// which accepts so many of them, one after the other, or goes on without end where the number is 0.
