@@ -143,7 +143,7 @@ fn seen_by_others<R: Wait + Clock, C: Wait + Drop, J: Opening>(
     two: &mut Session<Core<C, J>, J, NoGate>,
     command: Command,
 ) -> Option<Seen> {
-    let receipt = written(&zero.write(rt, command).ok()?);
+    let receipt = told_by(&zero.write(rt, command).ok()?);
     let looked = one.look().ok()?.place();
     let past = two.wait_past(rt, 0, 1).ok()?;
     Some(Seen {
@@ -162,7 +162,7 @@ fn meets<R: Wait, C: Wait + Drop, J: Opening>(
     two: &mut Session<Core<C, J>, J, NoGate>,
     command: Command,
 ) -> Option<Met> {
-    let receipt = written(&one.write(rt, command).ok()?);
+    let receipt = told_by(&one.write(rt, command).ok()?);
     two.refresh().ok()?;
     let met = zero.meet(one).ok()?;
     Some(Met {
@@ -172,7 +172,8 @@ fn meets<R: Wait, C: Wait + Drop, J: Opening>(
     })
 }
 
-fn written(receipt: &Receipt) -> Written {
+/// What a receipt tells.
+fn told_by(receipt: &Receipt) -> Written {
     Written {
         place: receipt.place,
         publication: receipt.publication,
