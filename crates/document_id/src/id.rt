@@ -8,30 +8,30 @@ ghost use Rattle.model.specs.Command.{IsId};
 ghost use Rattle.document_id.specs.declared.fault.IdFault.TheVariants.{Length};
 
 use crate::fault::IdFault;
+use crate::text::Text;
 use cow_index::IndexKey;
 use std::alloc::{AllocError, Global};
 use std::cmp::Ordering;
 use std::marker::Model;
-use std::sync::ArcStr;
 
 /// The most bytes of an id.
 const MAX_BYTES: usize = 512;
 
-/// A text of 1 to 512 bytes, shared by all that name the document.
+/// A text of 1 to 512 bytes, shared by all that name the document where it is too long to lie in each.
 #[derive(Drop)]
 pub struct DocId {
-    text: ArcStr,
+    text: Text,
 }
 
 impl Model for DocId {
-    ghost use Rattle.std.specs.Arc.{arc_str_bytes};
     ghost use Rattle.model.specs.Command.{Id, IsId};
+    ghost use Rattle.document_id.specs.Text.{bytes_of};
 
     ghost Value = { Id };
 
-    ghost view = { λ d. arc_str_bytes d.text };
+    ghost view = { λ d. bytes_of d.text };
 
-    ghost invariant = { λ d. IsId (arc_str_bytes d.text) };
+    ghost invariant = { λ d. IsId (bytes_of d.text) };
 }
 
 impl DocId {
@@ -44,10 +44,11 @@ impl DocId {
             return Err(IdFault::Length);
         }
         Ok(DocId {
-            text: ArcStr::from_str(alloc, text)?,
+            text: Text::new(alloc, text)?,
         })
     }
 
+    /// The text.
     pub fn as_str(&self) -> &str
         ensures text { result.now ≡ self.now }
         ensures is_id { IsId self.now }
@@ -55,13 +56,12 @@ impl DocId {
         self.text.as_str()
     }
 
-    /// One more owner of the same text. It takes no memory, but is refused at the largest count of
-    /// owners.
+    /// The same id. It takes no memory, but is refused at the largest count of a long text's owners.
     pub fn share(&self) -> Result<DocId, AllocError>
         ensures same { IfOk result (λ id. id ≡ self.now) }
     {
         Ok(DocId {
-            text: self.text.clone()?,
+            text: self.text.share()?,
         })
     }
 }

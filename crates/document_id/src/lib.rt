@@ -3,6 +3,7 @@
 
 mod fault;
 mod id;
+mod text;
 
 pub use fault::IdFault;
 pub use id::DocId;

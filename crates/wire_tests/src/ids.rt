@@ -21,6 +21,20 @@ fn texts_are_ids(rt: HostRuntime) -> Result<(), IdFault> {
     Ok(())
 }
 
+/// A short text lies in its id and a longer one is shared, which neither the text nor the order tells.
+#[test]
+fn long_ids_stand_among_short_ones(rt: HostRuntime) -> Result<(), IdFault> {
+    let sixteen = DocId::new(rt.alloc(), "0123456789abcdef")?;
+    let seventeen = DocId::new(rt.alloc(), "0123456789abcdef0")?;
+    let later = DocId::new(rt.alloc(), "1")?;
+    assert!(&rt; sixteen.as_str() == "0123456789abcdef");
+    assert!(&rt; seventeen.as_str() == "0123456789abcdef0");
+    assert!(&rt; sixteen < seventeen);
+    assert!(&rt; seventeen < later);
+    assert!(&rt; seventeen.share()?.as_str() == "0123456789abcdef0");
+    Ok(())
+}
+
 #[test]
 fn lengths_are_kept(rt: HostRuntime) -> Result<(), IdFault> {
     let mut text = String::new(rt.alloc());
