@@ -81,13 +81,14 @@ impl<K: IndexKey, V: Drop> CowMap<K, V> {
         self.root.height()
     }
 
-    /// How many nodes were made by the call that made this map.
+    /// How many nodes were made, or changed in their places, by the call that made this map.
     pub fn nodes_made(&self) -> u64
         ensures { result ≡ self.now.nodes_made }
     {
         self.nodes_made
     }
 
+    /// The value at the key, found on one way down from the root.
     pub fn get(&self, key: &K) -> Option<&V>
         ensures { option_copied result ≡ find K.cmp key.now self.now.entries }
     {
@@ -153,7 +154,7 @@ impl<K: IndexKey, V: Drop> CowMap<K, V> {
     }
 
     /// As [`insert`](CowMap::insert), of a map that is given up. The nodes that no other map holds
-    /// are changed in their places, and nothing is counted for them.
+    /// are changed in their places.
     pub fn into_with(self, key: K, value: V) -> Result<Self, AllocError>
         ensures entries { IfOk result (λ m. m.entries ≡ put K.cmp key value self.entries) }
         ensures some_nodes { IfOk result (λ m. 0 < m.nodes_made) }
@@ -176,7 +177,7 @@ impl<K: IndexKey, V: Drop> CowMap<K, V> {
         ensures few_nodes { IfOk result (λ m. m.nodes_made ≤ 4 * (max self.height m.height + 1)) }
     {
         if self.get(key).is_none() {
-            return self.share();
+            return Ok(CowMap::of_root(self.alloc, self.root, 0));
         }
         prove!(self.root.height() <= MAX_HEIGHT as u64);
         let mut nodes = NodeMaker::new(self.alloc);

@@ -92,8 +92,8 @@ impl NodeMaker {
         self.make(left.share()?, Arc::try_clone(entry)?, right.share()?)
     }
 
-    // The left side is two levels higher.
-    pub(crate) fn lean_left<K: Drop, V: Drop>(
+    /// The same over a left side that is two levels higher: it is turned to the right, once or twice.
+    pub(crate) fn rotate_right<K: Drop, V: Drop>(
         &mut self,
         left: &Tree<K, V>,
         entry: &Arc<Entry<K, V>>,
@@ -122,8 +122,8 @@ impl NodeMaker {
         self.make_shared(&left, &middle.entry, &right)
     }
 
-    // The right side is two levels higher.
-    pub(crate) fn lean_right<K: Drop, V: Drop>(
+    /// The same over a right side that is two levels higher: it is turned to the left, once or twice.
+    pub(crate) fn rotate_left<K: Drop, V: Drop>(
         &mut self,
         left: &Tree<K, V>,
         entry: &Arc<Entry<K, V>>,
@@ -170,9 +170,9 @@ impl NodeMaker {
     {
         let (left_height, right_height) = (left.height(), right.height());
         if left_height > right_height.saturating_add(1) {
-            self.lean_left(&left, &entry, &right)
+            self.rotate_right(&left, &entry, &right)
         } else if right_height > left_height.saturating_add(1) {
-            self.lean_right(&left, &entry, &right)
+            self.rotate_left(&left, &entry, &right)
         } else {
             self.make(left, entry, right)
         }

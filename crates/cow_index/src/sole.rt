@@ -109,9 +109,9 @@ impl NodeMaker {
     {
         let (left_height, right_height) = (left.height(), root.right.height());
         if left_height > right_height.saturating_add(1) {
-            self.lean_left(&left, &root.entry, &root.right)
+            self.rotate_right(&left, &root.entry, &root.right)
         } else if right_height > left_height.saturating_add(1) {
-            self.lean_right(&left, &root.entry, &root.right)
+            self.rotate_left(&left, &root.entry, &root.right)
         } else {
             self.put_left(root, left)
         }
@@ -133,9 +133,9 @@ impl NodeMaker {
     {
         let (left_height, right_height) = (root.left.height(), right.height());
         if left_height > right_height.saturating_add(1) {
-            self.lean_left(&root.left, &root.entry, &right)
+            self.rotate_right(&root.left, &root.entry, &right)
         } else if right_height > left_height.saturating_add(1) {
-            self.lean_right(&root.left, &root.entry, &right)
+            self.rotate_left(&root.left, &root.entry, &right)
         } else {
             self.put_right(root, right)
         }

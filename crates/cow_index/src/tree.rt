@@ -30,8 +30,8 @@ pub(crate) struct Tree<K, V> {
     pub(crate) root: Option<Arc<Node<K, V>>>,
 }
 
-/// An entry between two sides whose heights differ by at most one, with the height and the number
-/// of entries of it all.
+/// An entry between two sides, with the height and the number of entries of it all. In a tree the heights
+/// of the sides differ by at most one; at the root of a map the left side may be the higher one by more.
 #[cycle(tree)]
 #[derive(Drop)]
 pub(crate) struct Node<K, V> {
