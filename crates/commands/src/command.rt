@@ -3,6 +3,7 @@ ghost use Rattle.std.specs.Prelude.{◌≡◌, ◌↔◌, ◌≤◌, ◌<◌, le
 ghost use Rattle.std.specs.Arc.{arc_value};
 ghost use Rattle.model.specs.Command as model;
 ghost use Rattle.model.specs.Map.{entries};
+ghost use Rattle.model.specs.World.{is_compact};
 ghost use Rattle.commands.specs.Command.{command_of};
 
 use crate::copied::{Copied, copy_all};
@@ -146,11 +147,19 @@ impl Command {
         })
     }
 
+    /// What is asked, by its kind.
     pub fn kind(&self) -> &CommandKind
         ensures kind { command_of result.now ≡ self.now }
         ensures is_command { model.IsCommand self.now }
     {
         &self.kind
+    }
+
+    /// Whether it is a compaction, for which sessions have a call of its own.
+    pub fn is_compaction(&self) -> bool
+        ensures { result ≡ is_compact self.now }
+    {
+        matches!(self.kind, CommandKind::Compact)
     }
 
     /// Whether the two are one command. Takes no memory.

@@ -2,11 +2,11 @@
 ghost use Rattle.std.specs.Prelude.{◌≡◌, ◌≤◌, length};
 ghost use Rattle.httparse.specs.Spans.{IsResponseOf as IsHeadOf, IsResponseWithin as IsHeadWithin};
 ghost use Rattle.http_framing.specs.Front.{IsFrontOfWindow};
-ghost use Rattle.http_framing.specs.Refusal.{head_window};
 ghost use Rattle.http_framing.specs.Request.{header_limit};
 ghost use Rattle.http_client.specs.Front.{IsFrontOf, IsResponseAt, response_at};
 
 use crate::headers::told_length;
+use http_framing::front::head_window;
 use http_framing::{HEAD_LIMIT, HEADER_LIMIT};
 use httparse::Status;
 use httparse::spans::{
@@ -47,14 +47,6 @@ pub(crate) enum Front {
     More(usize),
     /// No response that can be read, whatever follows.
     Unreadable,
-}
-
-/// The bytes in which a head has to end.
-#[tactic(auto, using(std::proofs::lemmas::List::take_min))]
-fn head_window(bytes: &[u8]) -> &[u8]
-    ensures { result.now ≡ head_window bytes.now }
-{
-    &bytes[..HEAD_LIMIT.min(bytes.len())]
 }
 
 /// What the bytes begin with, by the head that was found in them.

@@ -7,14 +7,8 @@ ghost use Rattle.http_framing.specs.Headers.{is_named, values_named};
 ghost use Rattle.http_client.specs.Response.{only, told_length};
 
 use decimals::parse_number;
+use http_framing::is_named;
 use httparse::spans::HeaderSpan;
-
-fn is_named(bytes: &[u8], header: &HeaderSpan, name: &[u8]) -> bool
-    requires { IsHeaderWithin (length bytes.now) header.now }
-    ensures { result ≡ is_named name.now (header_bytes bytes.now header.now) }
-{
-    header.name.of(bytes).eq_ignore_ascii_case(name)
-}
 
 /// The value of the header of this name, if there is just one.
 fn only_value<'a>(bytes: &'a [u8], headers: &[HeaderSpan], name: &[u8]) -> Option<&'a [u8]>

@@ -66,7 +66,7 @@ pub enum Front {
 
 /// The bytes in which a head has to end.
 #[tactic(auto, using(std::proofs::lemmas::List::take_min))]
-fn head_window(bytes: &[u8]) -> &[u8]
+pub fn head_window(bytes: &[u8]) -> &[u8]
     ensures { result.now ≡ head_window bytes.now }
 {
     &bytes[..HEAD_LIMIT.min(bytes.len())]

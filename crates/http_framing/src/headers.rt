@@ -11,7 +11,8 @@ use crate::{BODY_LIMIT, FramingFault};
 use decimals::is_digits;
 use httparse::spans::HeaderSpan;
 
-fn is_named(bytes: &[u8], header: &HeaderSpan, name: &[u8]) -> bool
+/// Whether a header that was found in `bytes` has this name, in upper or lower case.
+pub fn is_named(bytes: &[u8], header: &HeaderSpan, name: &[u8]) -> bool
     requires { IsHeaderWithin (length bytes.now) header.now }
     ensures { result ≡ is_named name.now (header_bytes bytes.now header.now) }
 {

@@ -12,6 +12,8 @@ mod lines;
 pub mod request;
 mod target;
 
+pub use headers::is_named;
+
 /// The most bytes of a head.
 pub const HEAD_LIMIT: usize = 16_384;
 

@@ -5,6 +5,7 @@ use Rattle.std.proofs.lemmas.List.{append-nil, append_cancel_left}
 use Rattle.model.specs.Map.{same_key}
 use Rattle.model.specs.Command.{Command, Edits, Merges, PutLocal, Purge, SetLimit, Compact, Entry, numbers}
 use Rattle.model.specs.History.{IsLegal, of_session}
+use Rattle.model.specs.World.{is_compact}
 use Rattle.model.proofs.ListLaws.{by_cases}
 use Rattle.model.proofs.CallLaws.{each_seat_once}
 use Rattle.publications.specs.Histories.{opening_base}
@@ -13,7 +14,7 @@ use Rattle.sessions.specs.Calls.{Looks as LooksOnThreads, Writes as WritesOnThre
 use Rattle.sessions.specs.declared.fault.Fault.{Fault}
 use Rattle.sessions.specs.declared.fault.Fault.TheVariants as of_threads
 use Rattle.http_front.specs.Known.{Known}
-use Rattle.http_front.specs.Calls.{Looks, WritesCall, CommandFails, CompactionFails, EditFails, FailsFor, is_compaction}
+use Rattle.http_front.specs.Calls.{Looks, WritesCall, CommandFails, CompactionFails, EditFails, FailsFor}
 use Rattle.http_front.specs.Sessions.{known_of}
 use Rattle.http_front.specs.declared.calls.CallFault.{CallFault}
 use Rattle.http_front.proofs.Histories.{of_session-append, looks_itself}
@@ -99,7 +100,7 @@ module _ (room : ℕ) (old new : KnownOfThreads) where
 
 -- ---- commands
 
-pub compacts : (command : Command) → is_compaction command ≡ true → Compact ≡ command
+pub compacts : (command : Command) → is_compact command ≡ true → Compact ≡ command
 compacts Compact is = refl
 compacts (Edits edits) is = absurd (cc)
 compacts (Merges merges) is = absurd (cc)
@@ -107,10 +108,10 @@ compacts (PutLocal id named body) is = absurd (cc)
 compacts (Purge named) is = absurd (cc)
 compacts (SetLimit limit) is = absurd (cc)
 
-pub fails_compaction : (command : Command) (r : Result ℕ CallFault) → is_compaction command ≡ true → IfErr r (FailsFor CompactionFails) → IfErr r (FailsFor (CommandFails command))
+pub fails_compaction : (command : Command) (r : Result ℕ CallFault) → is_compact command ≡ true → IfErr r (FailsFor CompactionFails) → IfErr r (FailsFor (CommandFails command))
 fails_compaction command r is fails = subst (λ (c : Command). IfErr r (FailsFor (CommandFails c))) (compacts command is) fails
 
-pub fails_edit : (command : Command) (r : Result ℕ CallFault) → is_compaction command ≡ false → IfErr r (FailsFor EditFails) → IfErr r (FailsFor (CommandFails command))
+pub fails_edit : (command : Command) (r : Result ℕ CallFault) → is_compact command ≡ false → IfErr r (FailsFor EditFails) → IfErr r (FailsFor (CommandFails command))
 fails_edit Compact r is fails = absurd (cc)
 fails_edit (Edits edits) r is fails = fails
 fails_edit (Merges merges) r is fails = fails

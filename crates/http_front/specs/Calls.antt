@@ -1,7 +1,8 @@
 -- What the calls of a session do.
 use Rattle.std.specs.Prelude.{◌≡◌, ℕ, ◌<◌, List, [], ◌∷◌, length, Bool, true, false, ⊤}
-use Rattle.model.specs.Command.{Command, Edits, Merges, PutLocal, Purge, SetLimit, Compact, Entry}
+use Rattle.model.specs.Command.{Command, Entry}
 use Rattle.model.specs.History.{IsLegal, of_session}
+use Rattle.model.specs.World.{is_compact}
 use Rattle.http_response.specs.declared.no_service.Unavailable.{Unavailable}
 use Rattle.http_response.specs.declared.no_service.Unavailable.TheVariants as unavailable
 use Rattle.http_front.specs.Known.{Known, HasEntryAt, sees_more}
@@ -30,14 +31,6 @@ pub record WritesCall (old : Known) (command : Command) (place : ℕ) (new : Kno
 
 -- ---- why a call is not taken, though memory is there
 
-abbrev pub is_compaction : Command → Bool
-is_compaction (Edits edits) = false
-is_compaction (Merges merges) = false
-is_compaction (PutLocal id named body) = false
-is_compaction (Purge named) = false
-is_compaction (SetLimit limit) = false
-is_compaction Compact = true
-
 -- an edit waits in the queue of commands
 abbrev pub EditFails : Unavailable → Type 0
 EditFails unavailable.Busy = ⊤
@@ -61,7 +54,7 @@ FailsIf true why = CompactionFails why
 FailsIf false why = EditFails why
 
 abbrev pub CommandFails : Command → Unavailable → Type 0
-CommandFails command why = FailsIf (is_compaction command) why
+CommandFails command why = FailsIf (is_compact command) why
 
 -- a look enters what is published
 abbrev pub LookFails : Unavailable → Type 0

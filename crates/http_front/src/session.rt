@@ -1,13 +1,13 @@
 //! A session that shares its database with other threads.
 ghost use Rattle.std.specs.Prelude.{◌≡◌, length, Err, IfOk, IfErr, OnErr};
 ghost use Rattle.model.specs.Command.{Compact};
-ghost use Rattle.http_front.specs.Calls.{CompactionFails, EditFails, FailsFor, Looks, WritesCall, is_compaction};
+ghost use Rattle.http_front.specs.Calls.{CompactionFails, EditFails, FailsFor, Looks, WritesCall};
 ghost use Rattle.http_front.specs.Sessions.{call_fault, known_of};
 ghost use Rattle.http_front.specs.declared.calls.CallFault.TheVariants as fault;
 ghost use Rattle.http_response.specs.declared.no_service.Unavailable.TheVariants as unavailable;
 
 use crate::calls::{CallFault, Calls, Viewer};
-use commands::{Command, CommandKind};
+use commands::Command;
 use http_response::Unavailable;
 use sessions::{Fault, Session};
 use snapshots::Version;
@@ -38,7 +38,7 @@ impl<C: Drop, J: Opening, G: Drop> Viewer for Session<C, J, G> {
 impl<R: Wait + Drop, J: Opening, G: Gate + Drop, X: Wait + Clock> Calls<X>
     for Session<Core<R, J>, J, G> {
     fn write(&mut self, context: &X, command: Command) -> Result<u64, CallFault> {
-        if is_compaction(&command) {
+        if command.is_compaction() {
             return compact(self, context);
         }
         edit(self, context, command)
@@ -51,13 +51,6 @@ impl<R: Wait + Drop, J: Opening, G: Gate + Drop, X: Wait + Clock> Calls<X>
             Err(fault) => Err(call_fault(fault)),
         }
     }
-}
-
-/// Whether it is a compaction, which a session has a call of its own for.
-fn is_compaction(command: &Command) -> bool
-    ensures { result ≡ is_compaction command.now }
-{
-    matches!(command.kind(), CommandKind::Compact)
 }
 
 /// Writes a command that is no compaction.

@@ -6,15 +6,9 @@ ghost use Rattle.machine.specs.States.{stepped};
 
 use crate::machine::Machine;
 use crate::views::{is_free, set_free};
-use commands::{Command, CommandKind, Copied, Job, Seat};
+use commands::{Command, Copied, Job, Seat};
 use std::alloc::AllocError;
 use std::collections::VecDeque;
-
-fn is_compaction(command: &Command) -> bool
-    ensures { result ≡ is_compact command.now }
-{
-    matches!(command.kind(), CommandKind::Compact)
-}
 
 /// The jobs that wait longest go into the batch, so many.
 fn take_jobs(waiting: &mut VecDeque<Job>, batch: &mut Vec<Job>, n: usize)
@@ -40,7 +34,7 @@ impl Machine {
     {
         let limits = self.config.limits();
         is_free(&self.views, session)
-            && !is_compaction(command)
+            && !command.is_compaction()
             && self.waiting.len() < limits.queue as usize
     }
 
