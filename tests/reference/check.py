@@ -101,7 +101,11 @@ WORKED = {
     ],
     "first-path/depth": [(400, 0, DEPTH)] * 5 + [(404, 0, MISSING)],
     "first-path/depth-past-the-reader": [(400, 0, JSON)] * 2 + [(404, 0, MISSING)],
-    "conflicts/winner-is-not-deleted": [(201, 1, "[]"), (200, 1, '{"_id":"d","_rev":"%s"}' % revision("1-0*"))],
+    "conflicts/winner-is-not-deleted": [
+        (201, 1, "[]"),
+        (200, 1, '{"_id":"d","_rev":"%s"}' % revision("1-0*")),
+        (200, 1, info(1, 0, 2)),
+    ],
     "conflicts/conflict-kept": [
         (201, 1, "[]"),
         (201, 2, "[]"),

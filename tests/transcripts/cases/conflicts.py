@@ -19,6 +19,7 @@ TOLD = {
     "winner-is-not-deleted": [
         merge(at("d", rev(2, "f"), _deleted=True), at("d", rev(1, "0"))),
         get("/db/d"),
+        get("/db"),
     ],
     "conflict-kept": [merge(at("d", rev(1, "a"))), merge(at("d", rev(1, "b"))), get("/db/d?conflicts=true")],
     "second-parent-refused": [
