@@ -40,6 +40,25 @@ const NO_ENTRY: &[u8] = b"{\"couch_history\":1}\n";
 const ONE_ENTRY: &[u8] =
     b"{\"couch_history\":1}\n{\"command\":{\"bulk\":[{\"body\":{},\"deleted\":false,\"id\":\"a\"}],\"new_edits\":true},\"reply\":[\"1-b7a5841aeb59f1be5d0e27b640827094\"],\"seat\":[0,1]}\n";
 
+/// The input of a connection, as the script cuts it.
+fn scripted_reader<'a>(input: &'a [u8], script: &'a [Step]) -> Stream<ScriptedReader<'a>> {
+    Stream::new(ScriptedReader {
+        rest: input,
+        script,
+    })
+}
+
+/// What takes the output of a connection, as the script cuts it.
+fn scripted_writer<'a, R: AllocGlobal>(
+    rt: &R,
+    script: &'a [Step],
+) -> Result<Stream<ScriptedWriter<'a>>, Fail> {
+    Ok(Stream::new(ScriptedWriter {
+        taken: Vec::with_capacity(rt.alloc(), 512)?,
+        script,
+    }))
+}
+
 /// A run of the program over an input, and what has to come of it.
 #[derive(Drop)]
 struct Row<'a> {
@@ -56,14 +75,8 @@ impl Row<'_> {
         reading: &[Step],
         writing: &[Step],
     ) -> Result<(), Fail> {
-        let mut reader = Stream::new(ScriptedReader {
-            rest: self.input,
-            script: reading,
-        });
-        let mut writer = Stream::new(ScriptedWriter {
-            taken: Vec::with_capacity(rt.alloc(), 512)?,
-            script: writing,
-        });
+        let mut reader = scripted_reader(self.input, reading);
+        let mut writer = scripted_writer(rt, writing)?;
         assert_eq!(rt; run_once(&mut reader, &mut writer, rt), self.status);
         assert_eq!(rt; writer.into_inner().taken.as_slice(), self.output);
         Ok(())
@@ -76,14 +89,8 @@ impl Row<'_> {
         reading: &[Step],
         dump: &[u8],
     ) -> Result<(), Fail> {
-        let mut reader = Stream::new(ScriptedReader {
-            rest: self.input,
-            script: reading,
-        });
-        let mut writer = Stream::new(ScriptedWriter {
-            taken: Vec::with_capacity(rt.alloc(), 512)?,
-            script: &[],
-        });
+        let mut reader = scripted_reader(self.input, reading);
+        let mut writer = scripted_writer(rt, &[])?;
         assert_eq!(rt; run_dump(&mut reader, &mut writer, rt), self.status);
         assert_eq!(rt; writer.into_inner().taken.as_slice(), dump);
         Ok(())
