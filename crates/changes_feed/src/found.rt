@@ -15,8 +15,8 @@ use revision_tree::RevTree;
 use snapshots::Version;
 use std::alloc::{AllocError, Global};
 
-/// The winner of a document, or the revision named: with `latest` the newest leaf that descends
-/// from it.
+/// The winner of a document, or the revision named: with `latest` the first of the leaves that descend
+/// from it, in the winner's order.
 pub fn get(
     alloc: Global,
     version: &Version,

@@ -53,6 +53,7 @@ impl Locals {
         }
     }
 
+    /// The local document of the id, found in logarithmic time.
     pub fn get(&self, id: &DocId) -> Option<&LocalDoc>
         ensures found { option_copied result ≡ get self.now id.now }
     {

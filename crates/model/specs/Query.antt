@@ -11,7 +11,8 @@ use Rattle.model.specs.Body.{Body}
 use Rattle.model.specs.Revision.{Rev}
 use Rattle.model.specs.Command.{Id, names}
 
--- what beside its body is asked of a document; `latest` asks for the newest in the place of a revision
+-- what beside its body is asked of a document; `latest` asks for the first of the leaves that descend from a
+-- revision, in the winner's order, in its place
 -- CouchDB: GET /{db}/{docid}, "latest", "revs", "revs_info", "conflicts", "deleted_conflicts"
 pub record Options : Type 0 where
   pub latest : Bool

@@ -5,7 +5,7 @@
 /// CouchDB: `GET /{db}/{docid}`, 404 Not Found.
 #[derive(Clone, Copy, Debug, PartialEq, Eq)]
 pub enum Absent {
-    /// There was never such a document or revision.
+    /// No such document or revision is known, or its body is not kept: it was never written, or was purged, stemmed or stripped.
     IsMissing,
     /// The document is deleted.
     WasDeleted,

@@ -90,6 +90,7 @@ impl Model for Opened {
 }
 
 impl Opened {
+    /// A new book in which nothing stands.
     pub fn new() -> Opened {
         let (seen, mut first, _second) = Seen::open(Start::alone(), 0, 0);
         Opened {

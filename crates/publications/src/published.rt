@@ -103,6 +103,7 @@ impl<J: Naming> Model for Published<J> {
 }
 
 impl<J: Naming> Published<J> {
+    /// The version that the publications up to `front` end with.
     pub fn new(version: Version, front: Front<J>) -> Published<J>
         requires newest { IsNewest version front }
         ensures front { result ≡ front }
@@ -141,12 +142,14 @@ impl<J: Naming> Published<J> {
         })
     }
 
+    /// The version, whose history is the newest of the published ones.
     pub fn version(&self) -> &Version
         ensures newest { result.now ≡ record { base = opening_base; entries = newest self.now } }
     {
         &self.version
     }
 
+    /// The beginning of the log of publications that the version stands at the end of.
     pub fn front(&self) -> &Front<J>
         ensures front { result.now ≡ self.now }
     {

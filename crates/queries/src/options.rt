@@ -5,7 +5,7 @@ use std::marker::Model;
 /// What beside its body is asked of a document.
 #[derive(Debug, Clone, Copy, Drop)]
 pub struct Options {
-    /// The newest in the place of a revision.
+    /// In the place of a revision the first of the leaves that descend from it, in the winner's order.
     pub latest: bool,
     pub revs: bool,
     pub revs_info: bool,

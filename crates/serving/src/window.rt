@@ -35,6 +35,7 @@ impl Model for Window {
 }
 
 impl Window {
+    /// A window of no bytes, with all its memory.
     pub fn new(alloc: Global) -> Result<Window, AllocError>
         ensures { IfOk result (λ w. w.bytes ≡ []) }
     {

@@ -34,7 +34,7 @@ impl Base {
         Base { kept: None }
     }
 
-    /// The same database. It grows nothing.
+    /// The same database. It takes no memory.
     pub(crate) fn share(&self) -> Result<Base, AllocError>
         ensures { IfOk result (λ b. b ≡ self.now) }
     {

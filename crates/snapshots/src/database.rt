@@ -28,7 +28,8 @@ const DEFAULT_REVS_LIMIT: u32 = 1000;
 /// The documents with their numbers, the local documents, the log of purges, the limit of
 /// revisions, and how many commands each session has made.
 ///
-/// Versions lend it to be read. Only their commands change it, each in a share of its own.
+/// Versions lend it to be read. Only their commands change it: in a share of its own, or in its place where the
+/// version is given up.
 #[derive(Drop)]
 pub struct Database {
     alloc: Global,
@@ -69,7 +70,7 @@ impl Database {
         }
     }
 
-    /// The same database. It grows nothing.
+    /// The same database. It takes no memory.
     pub(crate) fn share(&self) -> Result<Database, AllocError>
         ensures { IfOk result (λ d. d ≡ self.now) }
     {

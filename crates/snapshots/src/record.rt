@@ -33,6 +33,7 @@ impl Record {
         Record { tree, seq }
     }
 
+    /// Its revisions.
     pub fn tree(&self) -> &RevTree
         ensures { result.now ≡ self.now.tree }
     {

@@ -60,7 +60,7 @@ impl Records {
         }
     }
 
-    /// The same documents. It grows nothing.
+    /// The same documents. It takes no memory.
     pub fn share(&self) -> Result<Records, AllocError>
         ensures same { IfOk result (λ d. d ≡ self.now) }
     {
@@ -72,6 +72,7 @@ impl Records {
         })
     }
 
+    /// The document of the id, found in logarithmic time.
     pub fn get(&self, id: &DocId) -> Option<&Record>
         ensures { option_copied result ≡ get self.now.docs id.now }
     {

@@ -56,7 +56,7 @@ impl Version {
         }
     }
 
-    /// The same version. It grows nothing, but is refused at the largest count of owners.
+    /// The same version. It takes no memory, but is refused at the largest count of owners.
     pub fn share(&self) -> Result<Version, AllocError>
         ensures same { IfOk result (λ v. v ≡ self.now) }
     {
