@@ -28,7 +28,6 @@ pub use differences::differences_text;
 pub use limit::{number_text, read_limit};
 pub use list::append_list;
 pub use named_revisions::read_named_revisions;
-pub use objects::append_object;
 pub use opened::all_opened_text;
 pub use purge::{append_named_revisions, purged_text, read_purge};
 pub use reply::{local_written_text, written_text};

@@ -13,7 +13,7 @@ use std::alloc::AllocError;
 /// # Errors
 ///
 /// Memory may be refused, and what an item's member is refused by.
-pub fn append_object<X, F: Fn(&mut MembersText, &X) -> Result<(), AllocError> + Drop>(
+pub(crate) fn append_object<X, F: Fn(&mut MembersText, &X) -> Result<(), AllocError> + Drop>(
     text: String,
     items: &[X],
     push: F,

@@ -1,5 +1,5 @@
 -- The words of `couchd replicate`.
-use Rattle.std.specs.Prelude.{◌≡◌, ◌≤◌, true, List, Option, Some, length, codes, string_bytes}
+use Rattle.std.specs.Prelude.{◌≡◌, ◌≢◌, ◌≤◌, true, List, [], ◌∷◌, Option, Some, length, codes, string_bytes}
 use Rattle.std.specs.Net.Grammar.{IsSocketText}
 use Rattle.std.specs.declared.net.socket_addr.SocketAddr.{SocketAddr}
 use Rattle.clap.specs.Words.{App, Row, Rule, Text, new_app, new_rule, with_rule, first_of}
@@ -21,9 +21,14 @@ replicate =
 abbrev pub IsAddressOf : Option Text → SocketAddr → Type 0
 IsAddressOf given address = (text : Text) × (given ≡ Some text) × IsSocketText text address
 
--- the text is this id, which has 1 to 512 bytes
+-- the text has a first byte, which is not `_`
+abbrev pub BeginsPlain : Text → Type 0
+BeginsPlain [] = ⊥
+BeginsPlain (byte ∷ rest) = byte ≢ 95
+
+-- the text is this id, which has 1 to 512 bytes, of which the first is not `_`
 abbrev pub IsIdOf : Option Text → Text → Type 0
-IsIdOf given id = (given ≡ Some id) × (1 ≤ length id) × (length id ≤ 512)
+IsIdOf given id = (given ≡ Some id) × BeginsPlain id × (length id ≤ 512)
 
 -- each is the one that the words give
 pub record IsReplicatingOf (given : List Row) (replicating : Replicating) : Type 0 where

@@ -1,9 +1,9 @@
 //! The words of `couchd replicate`.
-ghost use Rattle.std.specs.Prelude.{◌≡◌, List, Some, false, IfOk, IfSome, IfNone, codes};
+ghost use Rattle.std.specs.Prelude.{◌≡◌, ◌≤◌, ◌↔◌, List, Some, false, length, IfOk, IfSome, IfNone, IsTrue, codes};
 ghost use Rattle.std.specs.declared.net.socket_addr.SocketAddr.{SocketAddr};
 ghost use Rattle.clap.specs.Words.{Row, Text, app_of, first_of, found_of, rows_of, rule_of, subcommand_rows_of};
 ghost use Rattle.clap.specs.declared.builder.command.Command.TheViews.{out-Command as fields_of};
-ghost use Rattle.command_line.specs.Replicate.{replicate, text_option, IsAddressOf, IsIdOf, IsReplicatingOf};
+ghost use Rattle.command_line.specs.Replicate.{replicate, text_option, BeginsPlain, IsAddressOf, IsIdOf, IsReplicatingOf};
 
 use crate::numbers::with_option;
 use clap::{Arg, ArgMatches, Command};
@@ -20,7 +20,7 @@ pub struct Replicating {
     pub source: SocketAddr,
     /// Where the database is that they are brought to.
     pub target: SocketAddr,
-    /// The id of the checkpoints, of 1 to 512 bytes.
+    /// The id of the checkpoints, of 1 to 512 bytes, of which the first is not `_`.
     pub id: String,
 }
 
@@ -33,7 +33,9 @@ pub(crate) fn replicate<'a>(alloc: Global) -> Result<Command<'a>, AllocError>
         "Where the changes come from; the host is a numeric address",
     );
     let target = text_option(alloc, "target", "HOST:PORT").help("Where they are brought to");
-    let id = text_option(alloc, "id", "ID").help("The id of the checkpoints, 1 to 512 bytes");
+    let id = text_option(alloc, "id", "ID").help(
+        "The id of the checkpoints, 1 to 512 bytes, not beginning with '_'",
+    );
     let replicate = Command::new(alloc, "replicate").about(
         "Brings the changes of one database to another",
     );
@@ -54,7 +56,7 @@ fn text_option<'a>(alloc: Global, name: &'a str, value_name: &'a str) -> Arg<'a>
 }
 
 /// What the words of the subcommand give; nothing where an address can't be read, or the id is
-/// empty or too long.
+/// none.
 pub(crate) fn replicating_in(
     alloc: Global,
     matches: &ArgMatches<'_>,
@@ -71,7 +73,7 @@ pub(crate) fn replicating_in(
     replicating_of(alloc, options)
 }
 
-/// What was given; nothing where an address can't be read, or the id is empty or too long.
+/// What was given; nothing where an address can't be read, or the id is none.
 fn replicating_of(
     alloc: Global,
     options: &ArgMatches<'_>,
@@ -108,7 +110,8 @@ fn address_of(options: &ArgMatches<'_>, name: &str) -> Option<SocketAddr>
     Some(address)
 }
 
-/// The id that was given; nothing where it is empty or too long.
+/// The id that was given; nothing where it is empty or too long, or begins with `_`, as no request
+/// can name such an id.
 fn id_of<'a>(options: &ArgMatches<'a>) -> Option<&'a str>
     ensures id { IfSome result (λ id. IsIdOf (first_of (codes "id") (rows_of (found_of options.now))) id.now) }
     ensures none { IfNone result ((id : Text)
@@ -117,8 +120,18 @@ fn id_of<'a>(options: &ArgMatches<'a>) -> Option<&'a str>
     let Some(text) = options.get_str("id") else {
         return None;
     };
-    if text.len() < 1 || text.len() > MAX_ID {
+    if !is_id(text.as_bytes()) {
         return None;
     }
     Some(text)
+}
+
+/// Whether these are the bytes of an id that checkpoints can have.
+fn is_id(bytes: &[u8]) -> bool
+    ensures { IsTrue result ↔ (BeginsPlain bytes.now × (length bytes.now ≤ 512)) }
+{
+    match bytes {
+        [] => false,
+        [first, ..] => *first != b'_' && bytes.len() <= MAX_ID,
+    }
 }

@@ -40,6 +40,18 @@ pub(crate) enum Change {
     Compaction,
 }
 
+/// The first edit of the document `a`.
+pub(crate) const FIRST: Change = Change::Edit("a", None, "{}");
+
+/// The edit over it.
+pub(crate) const SECOND: Change = Change::Edit("a", Some("A1"), "{\"n\":1}");
+
+/// The first edit of the document `b`.
+pub(crate) const OTHER: Change = Change::Edit("b", None, "{}");
+
+/// The deletion of `a` over `FIRST`.
+pub(crate) const DELETION: Change = Change::Deletion("a", Some("A1"));
+
 /// The version after these changes.
 pub(crate) fn changed(alloc: Global, changes: &[Change]) -> Result<Version, Fail> {
     let mut version = Version::empty(alloc);

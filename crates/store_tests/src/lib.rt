@@ -18,6 +18,8 @@ mod maps;
 #[cfg(test)]
 mod names;
 #[cfg(test)]
+mod past;
+#[cfg(test)]
 mod texts;
 #[cfg(test)]
 mod threads;

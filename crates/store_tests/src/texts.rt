@@ -7,7 +7,8 @@ use model::Refusal;
 use revision_id::RevId;
 use revision_tree::Node;
 use snapshots::{Record, Version};
-use std::alloc::AllocError;
+use std::alloc::{AllocError, Global};
+use std::test::Fail;
 
 fn refusal(refusal: Refusal) -> &'static str {
     match refusal {
@@ -19,7 +20,7 @@ fn refusal(refusal: Refusal) -> &'static str {
     }
 }
 
-pub(crate) fn push_reply(text: &mut String, reply: &Reply) -> Result<(), AllocError> {
+fn push_reply(text: &mut String, reply: &Reply) -> Result<(), AllocError> {
     match reply.kind() {
         ReplyKind::Wrote(writes) => push_writes(text, writes),
         ReplyKind::WroteLocal(Ok(counter)) => write!(text, " local {counter}"),
@@ -91,4 +92,33 @@ fn push_node(text: &mut String, node: &Node) -> Result<(), AllocError> {
         text.push('-')?;
     }
     Ok(())
+}
+
+/// What the last command was answered, what stands, and where they are not those of an empty
+/// database the limit of revisions and the number of the local document.
+fn push_version(text: &mut String, version: &Version, local: &DocId) -> Result<(), AllocError> {
+    if let Some(entry) = version.entry(version.place()) {
+        push_reply(text, &entry.reply)?;
+    }
+    push_content(text, version)?;
+    push_limit(text, version.database().revs_limit())?;
+    match version.database().locals().get(local) {
+        Some(local) => write!(text, "[local {}]", local.counter),
+        None => Ok(()),
+    }
+}
+
+fn push_limit(text: &mut String, limit: u32) -> Result<(), AllocError> {
+    if limit != 1000 {
+        write!(text, "[limit {limit}]")?;
+    }
+    Ok(())
+}
+
+/// The text of a version, with the local document `r`.
+pub(crate) fn told(alloc: Global, version: &Version) -> Result<String, Fail> {
+    let local = DocId::new(alloc, "r")?;
+    let mut text = String::new(alloc);
+    push_version(&mut text, version, &local)?;
+    Ok(text)
 }

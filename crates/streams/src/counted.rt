@@ -1,15 +1,19 @@
 //! Readers and writers of `std` whose failures are counted.
-ghost use Rattle.std.specs.Prelude.{◌≡◌, ◌-◌, ◌<◌, ◌^◌};
+ghost use Rattle.std.specs.Prelude.{◌≡◌, ◌-◌, ◌<◌, ◌≤◌, ◌^◌, length, IfOk};
+ghost use Rattle.std.specs.Io.KnownBytes.{ReadConsumes, WriteAppends};
 ghost use Rattle.streams.specs.Counts.{CountRose};
 
 use crate::traits::{Failed, Sink, Source};
-use std::io::{Read, Write};
+use std::io::{self, ErrorKind, Read, Write};
+
+/// How often a call is made that is interrupted each time.
+const MAX_TRIES: u32 = 1000;
 
 /// A reader or a writer of `std` as a source or a sink.
 ///
 /// It gives at most 2^64 - 1 bytes, and fails from then on. A write that takes nothing is a
-/// failure, and so is a call that was interrupted. It does not flush, so a writer that keeps bytes
-/// back delays them.
+/// failure. A call that a signal interrupts, as when a stopped program goes on, is made again, at
+/// most [`MAX_TRIES`] times. It does not flush, so a writer that keeps bytes back delays them.
 #[derive(Debug, Drop)]
 pub struct Stream<T> {
     inner: T,
@@ -65,7 +69,7 @@ impl<R: Read> Source for Stream<R> {
             return Err(self.fail());
         }
         let room = buf.len().min(self.budget as usize);
-        match self.inner.read(&mut buf[..room]) {
+        match read_uninterrupted(&mut self.inner, &mut buf[..room]) {
             Ok(n) => {
                 self.budget -= n as u64;
                 Ok(n)
@@ -85,7 +89,7 @@ impl<W: Write> Sink for Stream<W> {
     ghost failed_writes = { λ s. s.failures };
 
     fn write(&mut self, buf: &[u8]) -> Result<usize, Failed> {
-        match self.inner.write(buf) {
+        match write_uninterrupted(&mut self.inner, buf) {
             Ok(0) | Err(_) => Err(self.fail()),
             Ok(n) => Ok(n),
         }
@@ -94,4 +98,32 @@ impl<W: Write> Sink for Stream<W> {
     fn failures(&self) -> u64 {
         self.failures
     }
+}
+
+/// Reads, again where a signal interrupts the read.
+fn read_uninterrupted<R: Read>(reader: &mut R, buf: &mut [u8]) -> io::Result<usize>
+    ensures within { IfOk result (λ n. n ≤ length buf.new) }
+    ensures bytes { ReadConsumes (R.remaining reader.old) (R.remaining reader.new) result buf.new }
+{
+    for _ in 1..MAX_TRIES {
+        match reader.read(buf) {
+            Err(error) if error.kind() == ErrorKind::Interrupted => {}
+            outcome => return outcome,
+        }
+    }
+    reader.read(buf)
+}
+
+/// Writes, again where a signal interrupts the write.
+fn write_uninterrupted<W: Write>(writer: &mut W, buf: &[u8]) -> io::Result<usize>
+    ensures within { IfOk result (λ n. n ≤ length buf.now) }
+    ensures bytes { WriteAppends (W.contents writer.old) (W.contents writer.new) result buf.now }
+{
+    for _ in 1..MAX_TRIES {
+        match writer.write(buf) {
+            Err(error) if error.kind() == ErrorKind::Interrupted => {}
+            outcome => return outcome,
+        }
+    }
+    writer.write(buf)
 }

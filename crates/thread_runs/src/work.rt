@@ -89,7 +89,7 @@ pub(crate) fn compact_twice<R: Wait, C: Wait + Drop, J: Opening>(
     Some([Some(told), Some(compact(rt, session))])
 }
 
-/// Writes so many documents of its own.
+/// Writes so many documents of its own, each beside those that the other sessions write meanwhile.
 pub(crate) fn write_all<R: Wait, C: Wait + Drop, J: Opening>(
     rt: &R,
     alloc: Global,
@@ -98,7 +98,7 @@ pub(crate) fn write_all<R: Wait, C: Wait + Drop, J: Opening>(
     times: u32,
 ) -> Option<()> {
     for number in 0..times {
-        let id = format!(in alloc; "{index}-{number}").ok()?;
+        let id = format!(in alloc; "{number}-{index}").ok()?;
         let _told = write(rt, alloc, session, id.as_str())?;
     }
     Some(())

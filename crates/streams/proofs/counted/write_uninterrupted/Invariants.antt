@@ -1,0 +1,6 @@
+-- Where each write so far was interrupted, nothing was written.
+use Rattle.std.specs.Io.KnownBytes.{Keeps}
+use Rattle.streams.proofs.counted.write_uninterrupted.Given as goal
+
+abbrev pub invariant-loop : goal.invariant-loop
+invariant-loop g l = Keeps (g.W.Write.contents l.initial.writer) (g.W.Write.contents l.writer)
