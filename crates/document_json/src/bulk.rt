@@ -41,9 +41,10 @@ pub(crate) struct Named {
 ///
 /// # Errors
 ///
-/// A body that is no JSON of the profile is refused as that, and then by the first of these that
-/// some document gives: [`Reason::Depth`] of its body, [`Reason::Shape`], [`Reason::Member`],
-/// [`Reason::Id`], [`Reason::Revision`]. Memory may be refused.
+/// A body that is no JSON of the profile is refused as that, one that is no object with a list `docs`
+/// of at most as many documents as a command takes by [`Reason::Shape`], and then by the first of
+/// these: [`Reason::Depth`] of some document's body, [`Reason::Shape`] of `new_edits` or of some
+/// document, [`Reason::Member`], [`Reason::Id`], [`Reason::Revision`]. Memory may be refused.
 pub fn read_bulk(alloc: Global, body: &[u8]) -> Result<Command, Fault>
     ensures { Decides result (bulk_of body.now) }
 {

@@ -127,11 +127,8 @@ impl Parts {
     fn names_no_other(&self, id: &DocId) -> bool
         ensures { result ≡ names_no_other id.now (text_of self.now.id) }
     {
-        match &self.id {
-            Some(own) => match own.as_str() {
-                Some(text) => text == id.as_str(),
-                None => true,
-            },
+        match self.id_text() {
+            Some(text) => text == id.as_str(),
             None => true,
         }
     }
@@ -242,9 +239,10 @@ fn read_document(alloc: Global, body: &[u8]) -> Result<Parts, Fault>
 ///
 /// # Errors
 ///
-/// A body that is no JSON of the profile is refused as that, one that is no document by
-/// [`Reason::Shape`], an unknown special member by [`Reason::Member`], another id by
-/// [`Reason::Id`], and a wrong or another revision by [`Reason::Revision`]. Memory may be refused.
+/// A body that is no JSON of the profile is refused as that, one that nests too deep for a document by
+/// [`Reason::Depth`], one that is no document by [`Reason::Shape`], an unknown special member by
+/// [`Reason::Member`], another id by [`Reason::Id`], and a wrong or another revision by
+/// [`Reason::Revision`]. Memory may be refused.
 pub fn read_edit(alloc: Global, id: DocId, rev: Option<RevId>, body: &[u8]) -> Result<Edit, Fault>
     ensures { Decides result (edit_of id rev body.now) }
 {

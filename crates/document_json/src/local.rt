@@ -113,9 +113,10 @@ fn counter_over(
 /// # Errors
 ///
 /// What is named and is no revision is refused by [`Reason::Revision`]. A body that is no JSON of
-/// the profile is refused as that, one that is no document by [`Reason::Shape`], a special member
-/// beside `_id` and `_rev` by [`Reason::Member`], another id by [`Reason::Id`], and a wrong or
-/// another revision by [`Reason::Revision`]. Memory may be refused.
+/// the profile is refused as that, one that nests too deep for a document by [`Reason::Depth`], one
+/// that is no document by [`Reason::Shape`], a special member beside `_id` and `_rev` by
+/// [`Reason::Member`], another id by [`Reason::Id`], and a wrong or another revision by
+/// [`Reason::Revision`]. Memory may be refused.
 pub fn read_local_edit(
     alloc: Global,
     id: DocId,
