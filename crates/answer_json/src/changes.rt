@@ -12,7 +12,7 @@ use revision_id::RevId;
 use serde_json::{Value, json};
 use std::alloc::{AllocError, Global};
 
-/// A revision by its name.
+/// A revision, as the member `rev` of an object.
 pub(crate) fn named_rev_value(alloc: Global, rev: &RevId) -> Result<Value, AllocError>
     ensures { IfOk result (λ value. view value ≡ named_rev_data rev.now) }
 {
@@ -81,7 +81,7 @@ fn rows_text(alloc: Global, last_seq: u64, pending: u64, rows: &[Row]) -> Result
     Ok(text)
 }
 
-/// Some of the changes.
+/// The answer of `_changes`: the last update number, how many rows are left, and the rows.
 pub fn page_text(alloc: Global, page: &ChangesPage) -> Result<String, AllocError>
     ensures { IfOk result (λ text. string_bytes text ≡ compact_text (page_data page.now)) }
 {

@@ -56,7 +56,7 @@ impl ListText {
 ///
 /// # Errors
 ///
-/// Memory may be refused, and what an item's text is refused by.
+/// Memory may be refused, here or for an item's text.
 pub fn append_list<X, F: Fn(&X) -> Result<String, AllocError> + Drop>(
     text: String,
     items: &[X],

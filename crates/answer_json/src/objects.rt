@@ -12,7 +12,7 @@ use std::alloc::AllocError;
 ///
 /// # Errors
 ///
-/// Memory may be refused, and what an item's member is refused by.
+/// Memory may be refused, here or for an item's member.
 pub(crate) fn append_object<X, F: Fn(&mut MembersText, &X) -> Result<(), AllocError> + Drop>(
     text: String,
     items: &[X],

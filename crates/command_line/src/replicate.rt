@@ -20,7 +20,8 @@ pub struct Replicating {
     pub source: SocketAddr,
     /// Where the database is that they are brought to.
     pub target: SocketAddr,
-    /// The id of the checkpoints, of 1 to 512 bytes, of which the first is not `_`.
+    /// The id of the checkpoints, of 1 to 512 bytes, of which the first is not `_`. It is to belong to
+    /// this source and this target alone.
     pub id: String,
 }
 

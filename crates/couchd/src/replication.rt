@@ -26,9 +26,11 @@ impl Watch for Lines<'_> {
     }
 }
 
-/// Replicates between the two ends that were given, and prints what came of it.
+/// Replicates between the two ends that were given, and prints what came of it. What fails before the
+/// first request is told on standard error.
 pub(crate) fn replicate(rt: &HostRuntime, replicating: &Replicating) -> io::Result<ExitCode> {
     let Ok(id) = DocId::new(rt.alloc(), replicating.id.as_str()) else {
+        let _printed = eprintln!(rt; "couchd: no memory");
         return Ok(ExitCode::FAILURE);
     };
     let Some(source) = connect(rt, "source", replicating.source) else {

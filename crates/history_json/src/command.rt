@@ -34,7 +34,8 @@ pub(crate) fn put_command(
     }
 }
 
-/// The command that a value is, if it is one.
+/// The command that a value is, if it is one. Another value may be read as a command too: a line is
+/// written again and compared.
 pub(crate) fn read_command(alloc: Global, value: Json) -> Result<Option<Command>, AllocError>
     ensures { IfOk result (λ found. (command : model.Command) → model.IsCommand command
         → value ≡ command_data command → found ≡ Some command) }

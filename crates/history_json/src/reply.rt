@@ -30,7 +30,8 @@ pub(crate) fn put_reply(text: &mut String, alloc: Global, reply: &Reply) -> Resu
     }
 }
 
-/// The reply that a value is, if it has the form of an answer to the command.
+/// The reply that a value is, if it has the form of an answer to the command. Another value may be read
+/// as one too: a line is written again and compared.
 pub(crate) fn read_reply(
     alloc: Global,
     command: &Command,

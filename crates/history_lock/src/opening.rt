@@ -95,8 +95,11 @@ fn share<R: Wait + Drop, J: Opening, G: Gate + Drop>(
 }
 
 /// A master and its sessions, numbered from 0, each having seen the empty history. The writer's
-/// runtime is `rt`, and the gate is called between the steps of a write and of a compaction. A fault is
-/// want of memory, or that a reader was refused.
+/// runtime is `rt`, and the gate is called between the steps of a write and of a compaction.
+///
+/// # Errors
+///
+/// [`Fault::Memory`] where memory was refused, and [`Fault::EntryRefused`] where a reader was.
 pub fn open<R: Wait + Drop, J: Opening, G: Gate + Drop>(
     rt: R,
     opened: Opened,

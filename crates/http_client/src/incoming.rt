@@ -22,9 +22,9 @@ pub enum ResponseFault {
     /// A read failed.
     #[error("a read failed")]
     ReadFailed,
-    /// What came is no response: it has no head of HTTP/1.0 or 1.1 with at most 64 headers in its
-    /// first 16,384 bytes, or none that tells the length of the body in one `Content-Length` of 1 to
-    /// 18 digits.
+    /// What came is no response that is read: it has no head of HTTP/1.0 or 1.1 with at most 64 headers
+    /// in its first 16,384 bytes, or none that tells the length of the body in one `Content-Length` of 1
+    /// to 18 digits, or it has a `Transfer-Encoding`, since no body in chunks is read.
     #[error("what came is no response")]
     Unreadable,
     /// Memory for the bytes was refused.

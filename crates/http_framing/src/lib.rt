@@ -28,7 +28,8 @@ pub const REQUEST_LIMIT: usize = HEAD_LIMIT + BODY_LIMIT;
 
 /// Why what follows on a connection is refused, and the connection closes.
 ///
-/// The faults are looked for in this order.
+/// Each is looked for before the next, but that a head with too many headers is
+/// [`FramingFault::LargeHead`], whatever stands behind them.
 #[derive(Clone, Copy, Debug, PartialEq, Eq)]
 pub enum FramingFault {
     /// The bytes can't become a head.

@@ -4,7 +4,7 @@ ghost use Rattle.http_front.specs.Calls.{CommandFails, FailsFor, LookFails, Look
 ghost use Rattle.http_front.specs.declared.calls.CallFault.TheVariants as fault;
 ghost use Rattle.http_response.specs.declared.no_service.Unavailable.TheVariants as unavailable;
 ghost use Rattle.model.specs.History.{IsLegal, now};
-ghost use Rattle.std.specs.Prelude.{◌≡◌, length, nat_lt, Err, IfOk, IfErr, OnErr};
+ghost use Rattle.std.specs.Prelude.{◌≡◌, ◌≢◌, length, nat_lt, Err, IfOk, IfErr, OnErr};
 
 use commands::Command;
 use http_response::Unavailable;
@@ -15,7 +15,8 @@ use snapshots::Version;
 pub enum CallFault {
     /// Memory was refused. The call left no entry.
     Memory,
-    /// The call was not taken. It left no entry, or one that is never seen where the session is lost.
+    /// The call has no answer for this reason. It left no entry, but for [`Unavailable::Lost`]: of the
+    /// call that lost the session one may stand, which the session never sees.
     Unavailable(Unavailable),
 }
 
@@ -36,6 +37,7 @@ pub trait Viewer {
     /// Sees what is there now. It waits for nobody and takes no memory.
     fn refresh(&mut self) -> Result<(), CallFault>
         ensures looks { Looks (known self.old) (known self.new) }
+        ensures no_memory { result ≢ Err fault.Memory }
         ensures fault { IfErr result (FailsFor LookFails) };
 }
 
@@ -51,10 +53,11 @@ pub trait Calls<X>: Viewer {
             → length (Self.known self.new).seen ≡ (Self.known self.new).room };
 
     /// Looks at most `turns` times, and once where that is 0, until what was seen has an update
-    /// number above `seq`, and says whether it has.
+    /// number above `seq`, and says whether it has. It takes no memory.
     fn wait_past(&mut self, context: &X, seq: u64, turns: u64) -> Result<bool, CallFault>
         ensures past { IfOk result (λ past.
             past ≡ nat_lt seq (now (history_of (Self.known self.new))).update_seq) }
         ensures looks { Looks (Self.known self.old) (Self.known self.new) }
+        ensures no_memory { result ≢ Err fault.Memory }
         ensures fault { IfErr result (FailsFor LookFails) };
 }

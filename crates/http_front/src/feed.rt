@@ -15,7 +15,7 @@ use crate::progress::{Progress, lines};
 use crate::reading::since_seen;
 use crate::response::send;
 use crate::setting::Setting;
-use http_request::{Asked, ChangesAsked, Feed};
+use http_request::{Asked, ChangesAsked, Feed, Since};
 use http_response::{feed_head, feed_last};
 use std::alloc::{AllocError, Global};
 use streams::{Failed, Sink, write_all};
@@ -120,12 +120,11 @@ fn has_more<X, S: Calls<X>>(
     if pending > 0 {
         return Ok(true);
     }
-    session.wait_past(setting.context, seen_seq(session), setting.turns)
-}
-
-/// The update number of what has been seen.
-fn seen_seq<S: Viewer>(session: &S) -> u64 {
-    session.version().database().documents().update_seq()
+    session.wait_past(
+        setting.context,
+        since_seen(session, Since::Now),
+        setting.turns,
+    )
 }
 
 /// Writes the next rows of what has been seen, and answers how many are left. Nothing where memory

@@ -96,7 +96,8 @@ fn once_opened<J: Opening, T: Wait + Drop, R: Source, W: Sink, A: AllocGlobal + 
 }
 
 /// Serves a database of one session, whose writer keeps a runtime of its own, to one connection, and
-/// closes it. Nothing where it was not opened.
+/// closes it. Nothing where it was not opened, or memory for the routes was refused: then nothing was
+/// read.
 pub(crate) fn serve_opened<
     J: Opening,
     T: Wait + Drop,

@@ -38,7 +38,7 @@ impl Sent {
         }
     }
 
-    /// Sends the response, or says that memory for it was refused.
+    /// What is to be sent: the response, or that memory for it was refused.
     pub(crate) fn made(
         response: Result<Response, AllocError>,
         closes: bool,

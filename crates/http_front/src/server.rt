@@ -22,7 +22,8 @@ const SERVED: u8 = 0;
 
 /// Serves an empty database to the connections of a listener, by so many workers (1 to 64), each with
 /// a session of its own and so many connections, or without end where that number is 0. The answer is
-/// the exit status: 0 after the last connection, or 1 where no database was opened.
+/// the exit status: 0 after the last connection, or 1 where no database was opened, or memory for the
+/// routes was refused.
 pub fn run_server<A: AllocGlobal + Threads + Wait + Clock + Sync>(
     listener: &TcpListener,
     workers: u16,

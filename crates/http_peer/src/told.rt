@@ -71,11 +71,8 @@ pub(crate) fn opened_told(alloc: Global, status: u16, body: &[u8]) -> Result<Ope
     if !is_taken(status) {
         return Err(PeerFault::Unreadable);
     }
-    match read_opened(alloc, body) {
-        Ok(revisions) => Ok(Opened { revisions }),
-        Err(Fault::Refused(_)) => Err(PeerFault::Unreadable),
-        Err(Fault::Memory) => Err(PeerFault::Memory),
-    }
+    let revisions = readable(read_opened(alloc, body))?;
+    Ok(Opened { revisions })
 }
 
 /// That all documents of a bulk were taken, as a response tells.
@@ -86,12 +83,10 @@ pub(crate) fn bulk_told(alloc: Global, status: u16, body: &[u8]) -> Result<(), P
     if !is_taken(status) {
         return Err(PeerFault::Unreadable);
     }
-    match read_all_taken(alloc, body) {
-        Ok(true) => Ok(()),
-        Ok(false) => Err(PeerFault::Refused),
-        Err(Fault::Refused(_)) => Err(PeerFault::Unreadable),
-        Err(Fault::Memory) => Err(PeerFault::Memory),
+    if !readable(read_all_taken(alloc, body))? {
+        return Err(PeerFault::Refused);
     }
+    Ok(())
 }
 
 /// The checkpoint that a response tells, if there is one.
@@ -111,11 +106,8 @@ pub(crate) fn checkpoint_told(
     if !is_taken(status) {
         return Err(PeerFault::Unreadable);
     }
-    match read_checkpoint(alloc, body) {
-        Ok((counter, last_seq)) => Ok(Some(Checkpoint { counter, last_seq })),
-        Err(Fault::Refused(_)) => Err(PeerFault::Unreadable),
-        Err(Fault::Memory) => Err(PeerFault::Memory),
-    }
+    let (counter, last_seq) = readable(read_checkpoint(alloc, body))?;
+    Ok(Some(Checkpoint { counter, last_seq }))
 }
 
 /// The number of the checkpoint's revision that a response tells.

@@ -1,4 +1,4 @@
-//! The responses to calls that the database did not take, which take no memory.
+//! The responses to calls that have no answer though memory was there, which take no memory.
 ghost use Rattle.std.specs.Prelude.{◌≡◌};
 ghost use Rattle.http_response.specs.Texts.{unavailable_body, unavailable_text};
 
@@ -7,12 +7,12 @@ use crate::connection::Connection;
 use crate::response::Response;
 use crate::status::StatusCode;
 
-/// Why a call was not taken, though memory was there.
+/// Why a call has no answer, though memory was there. It left no entry, but for [`Unavailable::Lost`].
 #[derive(Clone, Copy, Debug, PartialEq, Eq)]
 pub enum Unavailable {
     /// The queue of commands was full.
     Busy,
-    /// The session is lost: its call may have an entry, and it has no more calls.
+    /// The session is lost: the call that lost it may have an entry, and each later call is answered so.
     Lost,
     /// The history has as many entries as it has room for.
     Full,
@@ -20,11 +20,11 @@ pub enum Unavailable {
     Behind,
     /// More was purged beside a compaction than the log of purges keeps.
     Overrun,
-    /// The session could not enter what is published.
+    /// The session could not enter what is published, or a share of it was refused.
     Entry,
 }
 
-/// The response to a call that was not taken.
+/// The response to a call that has no answer.
 #[tactic(auto, unfolding(crate::specs::Texts::unavailable_text))]
 pub fn service_unavailable(place: u64, connection: Connection, why: Unavailable) -> Response
     ensures text { result ≡ unavailable_text place connection why }

@@ -5,7 +5,7 @@ use crate::ends::{Clients, Ends};
 use document_id::DocId;
 use http_front::run_server;
 use http_peer::HttpPeer;
-use replicator::{Progress, Worker};
+use replicator::{MAX_BATCH, Progress, Worker};
 use std::alloc::Global;
 use std::io::ErrorKind;
 use std::net::TcpStream;
@@ -14,9 +14,6 @@ use std::thread::Threads;
 use std::time::Clock;
 use std::{io, thread};
 use streams::Stream;
-
-/// At most how many changes are asked for at once.
-const BATCH: u64 = 100;
 
 /// Two paths of one document, which are in conflict.
 const CONFLICT: &str = r#"{"docs":[
@@ -76,7 +73,7 @@ fn run(alloc: Global, source: &TcpStream, target: &TcpStream) -> io::Result<&'st
     let Ok(id) = DocId::new(alloc, "r") else {
         return Err(io::Error::from(ErrorKind::OutOfMemory));
     };
-    let Some(mut worker) = Worker::new(id, BATCH) else {
+    let Some(mut worker) = Worker::new(id, MAX_BATCH) else {
         return Err(io::Error::from(ErrorKind::InvalidInput));
     };
     let mut source = HttpPeer::new(alloc, Stream::new(source), Stream::new(source));

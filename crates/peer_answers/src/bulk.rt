@@ -4,30 +4,30 @@ ghost use Rattle.serde_json.specs.View.{items_view};
 ghost use Rattle.document_json.specs.Steps.{Decides};
 ghost use Rattle.peer_answers.specs.Bulk.{all_taken_in, all_taken_of, is_empty};
 
-use document_json::{Fault, Reason, read_json};
+use document_json::{Fault, read_json};
 use json_profile::Json;
 use serde_json::Value;
 use std::alloc::Global;
 
-/// Whether all the documents of a bulk were taken, as the list of those that were refused tells.
+/// Whether all the documents of a bulk were taken: the answer is the list of those that were refused,
+/// and empty.
 ///
 /// # Errors
 ///
-/// An answer that is no JSON of the profile is refused as that, and one that is no list by
-/// [`Reason::Shape`]. Memory may be refused.
+/// An answer that is no JSON of the profile is refused as that. Memory may be refused.
 pub fn read_all_taken(alloc: Global, body: &[u8]) -> Result<bool, Fault>
     ensures taken { Decides result (all_taken_of body.now) }
 {
     let value = read_json(alloc, body)?;
-    Ok(are_all_taken(&value)?)
+    Ok(are_all_taken(&value))
 }
 
-fn are_all_taken(value: &Json) -> Result<bool, Reason>
+fn are_all_taken(value: &Json) -> bool
     ensures { result ≡ all_taken_in value.now }
 {
     match value.value().as_array() {
-        Some(refused) => Ok(is_none(refused)),
-        None => Err(Reason::Shape),
+        Some(refused) => is_none(refused),
+        None => false,
     }
 }
 

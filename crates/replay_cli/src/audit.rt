@@ -9,8 +9,8 @@ use std::alloc::{AllocError, Global};
 
 /// What a text is. All lines are read before any entry is judged.
 ///
-/// Beside the text it takes memory for the entries, each of which is given up as the database takes
-/// its command over.
+/// Beside the text it takes memory for the entries, each of which goes once the database has its
+/// command.
 ///
 /// # Errors
 ///

@@ -7,5 +7,5 @@ mod run;
 mod watch;
 
 pub use report::Report;
-pub use run::{replicate, run_replication};
-pub use watch::{Unwatched, Watch};
+pub use run::run_replication;
+pub use watch::Watch;

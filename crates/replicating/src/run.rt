@@ -15,7 +15,7 @@ use streams::{Sink, Source};
 
 /// Brings all changes of a source to a target, with checkpoints of this id, and tells of each batch.
 /// It ends where there are no more changes, or at the first fault.
-pub fn replicate<S: Peer + Drop, T: Peer + Drop, W: Watch + Drop>(
+pub(crate) fn replicate<S: Peer + Drop, T: Peer + Drop, W: Watch + Drop>(
     alloc: Global,
     id: DocId,
     source: S,

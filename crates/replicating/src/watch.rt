@@ -9,7 +9,7 @@ pub trait Watch {
 
 /// Nobody is told.
 #[derive(Clone, Copy, Drop)]
-pub struct Unwatched;
+pub(crate) struct Unwatched;
 
 impl Watch for Unwatched {
     fn checkpoint(&self, _last_seq: u64, _documents_read: u64) {}

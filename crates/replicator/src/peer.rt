@@ -35,7 +35,9 @@ impl Model for Opened {
 
 /// A database, as one end of a replication.
 ///
-/// Whatever its answers are, contracts tell what a worker does with them.
+/// Whatever its answers are, contracts tell what a worker does with them. Each call may fail, by which
+/// the count of failures rises; its answer may be unreadable, after which what was asked may have been
+/// done all the same; and memory may be refused, before the call or after it.
 pub trait Peer {
     /// It goes from one state to another by this call with its answer.
     ghost goes: { Self → Call → Self → Type 0 };
@@ -55,7 +57,7 @@ pub trait Peer {
         ensures failures { CountsFailed (failed_calls self.old) (failed_calls self.new) result }
         ensures reads { OnlyReads result };
 
-    /// These revisions of a document, or newer ones in their place.
+    /// These revisions of a document, or newer ones in their place; one that is missing by its name.
     fn open_revs(&mut self, alloc: Global, id: &DocId, revs: &[RevId]) -> Result<Opened, PeerFault>
         ensures goes { goes self.old (call.OpenRevs id.now revs.now result) self.new }
         ensures failures { CountsFailed (failed_calls self.old) (failed_calls self.new) result }

@@ -44,7 +44,10 @@ impl Model for Worker {
 
 impl Worker {
     /// A worker whose checkpoints have this id, and which asks for so many changes at once, 1 to
-    /// [`MAX_BATCH`].
+    /// [`MAX_BATCH`]; nothing for another number.
+    ///
+    /// The id is to belong to this source and this target alone, in this direction: the first changes that
+    /// are asked for are told by whatever checkpoints stand under it.
     pub fn new(id: DocId, batch: u64) -> Option<Worker>
         ensures in_range { IsSome result ↔ ((0 < batch) × (batch ≤ 100)) }
         ensures unread { IfSome result (λ worker. worker ≡ record { id = id; batch = batch; stage = Unread }) }
@@ -89,8 +92,8 @@ impl Worker {
         }
     }
 
-    /// Makes at most so many steps, until there are no more changes, and answers what the last one
-    /// told.
+    /// Makes at most so many steps, until there are no more changes or a step has a fault, and answers
+    /// what the last one told; of no step [`Progress::Going`].
     ///
     /// # Errors
     ///

@@ -60,13 +60,6 @@ impl<'c, X, S: Viewer> SessionPeer<'c, X, S> {
         &self.session
     }
 
-    /// The session, which is no longer an end.
-    pub fn into_session(self) -> S
-        ensures known { S.known result ≡ self.entry.known }
-    {
-        self.session
-    }
-
     /// Sees what is there now.
     fn look(&mut self) -> Result<(), PeerFault>
         ensures looks { Looks self.old.known self.new.known }

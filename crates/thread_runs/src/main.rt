@@ -1,9 +1,9 @@
 //! Runs of sessions on threads, whose times and requests for memory are taken from outside.
 //!
-//! `thread_runs write` has the one session of a database write a document, and once more where memory
-//! was refused; it prints what each write was answered. `thread_runs compact` has it write three documents
-//! and compact, slice by slice, and once more where memory was refused. `thread_runs looks THREADS TIMES` has as many
-//! threads look so often each at a document, each time with a snapshot of its own, and
+//! `thread_runs write` has the one session of a database write a document, and once more where it had no
+//! receipt; it prints what each write was answered. `thread_runs compact` has it write three documents
+//! and compact, slice by slice, and once more where it had no receipt. `thread_runs looks THREADS TIMES`
+//! has as many threads look so often each at a document, each time with a snapshot of its own, and
 //! `thread_runs refreshes THREADS TIMES` without. `thread_runs writes SESSIONS GATHER TIMES` has as many
 //! threads write so many documents each, of which so many may be one publication. The last line is how
 //! many entries the history has in the end. The status is 1 where memory was refused before a session

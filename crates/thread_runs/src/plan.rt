@@ -5,9 +5,9 @@ use commands::{Config, Limits, MAX_PLACES};
 /// What the sessions do.
 #[derive(Debug, Clone, Copy, PartialEq, Eq)]
 pub(crate) enum Work {
-    /// One writes a document, and once more where memory was refused.
+    /// One writes a document, and once more where it had no receipt.
     Write,
-    /// One writes three documents and compacts, and compacts once more where memory was refused.
+    /// One writes three documents and compacts, and compacts once more where it had no receipt.
     Compact,
     /// Each looks so often, with a snapshot of its own.
     Looks(u32),

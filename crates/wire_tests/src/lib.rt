@@ -1,4 +1,5 @@
-//! Tests of values, of requests and of the texts of responses.
+//! Tests of plain data (values, ids, revisions, commands and their limits), and of texts: requests,
+//! responses, the lines of a dump and the requests of a replication.
 #![tactic(auto)]
 
 #[cfg(test)]
