@@ -29,7 +29,7 @@ pub record WritesCall (old : Known) (command : Command) (place : ℕ) (new : Kno
   pub above : length old.seen < place
   pub only : of_session old.number more ≡ entry ∷ []
 
--- ---- why a call is not taken, though memory is there
+-- ---- why a call has no answer, though memory is there
 
 -- an edit waits in the queue of commands
 abbrev pub EditFails : Unavailable → Type 0
@@ -65,7 +65,7 @@ LookFails unavailable.Behind = ⊥
 LookFails unavailable.Overrun = ⊥
 LookFails unavailable.Entry = ⊤
 
--- memory was refused, or the call was not taken for such a reason
+-- memory was refused, or it is such a reason
 abbrev pub FailsFor : (Unavailable → Type 0) → CallFault → Type 0
 FailsFor can fault.Memory = ⊤
 FailsFor can (fault.Unavailable why) = can why

@@ -41,7 +41,7 @@ pub data Outcome : Type 0 where
   Fed : List Piece → Option Ending → Outcome
   -- memory was refused for a request, and no entry was written
   Memory : Outcome
-  -- its call was not taken, and what was seen has no entry of it
+  -- its call has no answer for this reason, and what was seen has no entry of it
   Failed : Unavailable → Outcome
 
 -- what became of an item, the place that the response names, and the entries that the session had seen then
@@ -90,7 +90,7 @@ abbrev pub Asks : Item → Asking → Type 0
 Asks (Requested request) asking = decide request ≡ Ok asking
 Asks (Refused fault) asking = ⊥
 
--- a call for what is asked may not be taken for this reason
+-- a call for what is asked may have no answer for this reason
 abbrev pub CanFail : Asking → Unavailable → Type 0
 CanFail asked.Welcome why = ⊥
 CanFail (asked.Command form command) why = CommandFails command why
@@ -153,7 +153,7 @@ module _ (k : Known) where
     pub ends : IfSome ending (EndsFeed k after)
     pub said : text ≡ feed_head_text place ++ (pieces_text pieces ++ ending_text after.follower.cursor ending)
 
-  -- the item is a request for a call that was not taken for this reason
+  -- the item is a request for a call that has no answer for this reason
   pub record IsNotTaken (item : Item) (place : ℕ) (why : Unavailable) : Type 0 where
     pub asking : Asking
     pub asked : Asks item asking

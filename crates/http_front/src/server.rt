@@ -14,7 +14,7 @@ use std::thread::Threads;
 use std::time::Clock;
 use updating::{NoGate, Opening};
 
-/// So often a wait for changes looks, which is a minute or two.
+/// So often a wait for changes looks, which is about two minutes.
 const TURNS: u64 = 100_000;
 
 /// The exit status after the last connection.

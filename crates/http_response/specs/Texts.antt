@@ -44,7 +44,7 @@ reply_text place connection form command reply = option_map (told_text place con
 unfoldable pub answer_text : ℕ → Connection → Query → Answer → Option (List ℕ)
 answer_text place connection query answer = option_map (told_text place connection) (answer_told query answer)
 
--- ---- a call that was not taken
+-- ---- a call that has no answer
 
 abbrev pub unavailable_reason : Unavailable → List ℕ
 unavailable_reason unavailable.Busy = codes "busy"
