@@ -50,9 +50,14 @@ pub(crate) const NOT_TEXT: &str = "invalid UTF-8 was detected in one or more arg
 /// What is said of a number that is out of its range. `clap` refuses each such number before.
 pub(crate) const OUT_OF_RANGE: &str = "a number is out of its range";
 
-/// What is said of an address that can't be read, or an id that is none.
-pub(crate) const NO_REPLICATION: &str =
-    "a source or target is no numeric address with a port, or an id has not 1 to 512 bytes or begins with '_'";
+/// What is said of a source that can't be read.
+pub(crate) const NO_SOURCE: &str = "the source is no numeric address with a port";
+
+/// What is said of a target that can't be read.
+pub(crate) const NO_TARGET: &str = "the target is no numeric address with a port";
+
+/// What is said of an id that is none.
+pub(crate) const NO_ID: &str = "the id has not 1 to 512 bytes, or begins with '_'";
 
 /// The fault that a parse ends with.
 pub(crate) fn fault(alloc: Global, error: &clap::Error) -> WordsFault

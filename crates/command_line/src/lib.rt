@@ -18,12 +18,12 @@ mod tests;
 pub use arguments::given_words;
 use clap::Command;
 pub use faults::WordsFault;
-use faults::{NO_REPLICATION, NOT_TEXT, OUT_OF_RANGE, fault, refuse};
+use faults::{NOT_TEXT, OUT_OF_RANGE, fault, refuse};
 use lines::{program, with_subcommand};
 pub use numbers::Serving;
 use numbers::{serve, serving_in};
 pub use replicate::Replicating;
-use replicate::{replicate, replicating_in};
+use replicate::{replicate, replicating_in, what_is_wrong};
 use std::alloc::{AllocError, Global};
 use std::convert::AsStr;
 
@@ -100,7 +100,7 @@ pub fn read_words<S: AsStr>(alloc: Global, words: &[S]) -> Result<Run, WordsFaul
         },
         "replicate" => match replicating_in(alloc, &matches) {
             Ok(Some(replicating)) => Ok(Run::Replicate(replicating)),
-            Ok(None) => Err(refuse(alloc, couchd(alloc), NO_REPLICATION)),
+            Ok(None) => Err(refuse(alloc, couchd(alloc), what_is_wrong(&matches))),
             Err(_) => Err(WordsFault::Memory),
         },
         _ => unreachable!(),

@@ -5,6 +5,7 @@ ghost use Rattle.clap.specs.Words.{Row, Text, app_of, first_of, found_of, rows_o
 ghost use Rattle.clap.specs.declared.builder.command.Command.TheViews.{out-Command as fields_of};
 ghost use Rattle.command_line.specs.Replicate.{replicate, text_option, BeginsPlain, IsAddressOf, IsIdOf, IsReplicatingOf};
 
+use crate::faults::{NO_ID, NO_SOURCE, NO_TARGET};
 use crate::numbers::with_option;
 use clap::{Arg, ArgMatches, Command};
 use std::alloc::{AllocError, Global};
@@ -72,6 +73,20 @@ pub(crate) fn replicating_in(
         return Ok(None);
     };
     replicating_of(alloc, options)
+}
+
+/// What is said of words that give no replication: which of them is the first that can't be read.
+pub(crate) fn what_is_wrong(matches: &ArgMatches<'_>) -> &'static str {
+    let Some((_name, options)) = matches.subcommand() else {
+        return NO_SOURCE;
+    };
+    if address_of(options, "source").is_none() {
+        return NO_SOURCE;
+    }
+    if address_of(options, "target").is_none() {
+        return NO_TARGET;
+    }
+    NO_ID
 }
 
 /// What was given; nothing where an address can't be read, or the id is none.

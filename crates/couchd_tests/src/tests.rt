@@ -40,6 +40,10 @@ const NO_ENTRY: &[u8] = b"{\"couch_history\":1}\n";
 const ONE_ENTRY: &[u8] =
     b"{\"couch_history\":1}\n{\"command\":{\"bulk\":[{\"body\":{},\"deleted\":false,\"id\":\"a\"}],\"new_edits\":true},\"reply\":[\"1-b7a5841aeb59f1be5d0e27b640827094\"],\"seat\":[0,1]}\n";
 
+/// The history of the largest number's edit.
+const ENTRY_OF_N: &[u8] =
+    b"{\"couch_history\":1}\n{\"command\":{\"bulk\":[{\"body\":{\"n\":9223372036854775807},\"deleted\":false,\"id\":\"n\"}],\"new_edits\":true},\"reply\":[\"1-2bd4f50ce7065c614af5a47da249f585\"],\"seat\":[0,1]}\n";
+
 /// The input of a connection, as the script cuts it.
 fn scripted_reader<'a>(input: &'a [u8], script: &'a [Step]) -> Stream<ScriptedReader<'a>> {
     Stream::new(ScriptedReader {
@@ -142,9 +146,16 @@ fn requests_are_answered_however_they_are_cut(rt: HostRuntime) -> Result<(), Fai
 }
 
 #[test]
-fn a_request_is_answered_wherever_it_is_cut(rt: HostRuntime) -> Result<(), Fail> {
-    for first in 1..PUT_A.len() {
-        served(PUT_A, CREATED_A).assert_cut(&rt, first)?;
+fn requests_are_answered_wherever_they_are_cut(rt: HostRuntime) -> Result<(), Fail> {
+    let rows = [
+        (PUT_A, CREATED_A),
+        (PUT_A_TWICE, CONFLICT),
+        (PUT_AND_GET_A, CREATED_AND_FOUND_A),
+    ];
+    for (input, output) in rows {
+        for first in 1..input.len() {
+            served(input, output).assert_cut(&rt, first)?;
+        }
     }
     Ok(())
 }
@@ -152,9 +163,16 @@ fn a_request_is_answered_wherever_it_is_cut(rt: HostRuntime) -> Result<(), Fail>
 #[test]
 fn a_request_that_is_cut_does_nothing(rt: HostRuntime) -> Result<(), Fail> {
     for len in 0..PUT_A.len() {
-        served(&PUT_A[..len], b"").assert_run(&rt, &[], &[])?;
+        let cut = served(&PUT_A[..len], b"");
+        cut.assert_run(&rt, &[], &[])?;
+        cut.assert_dump(&rt, &[], NO_ENTRY)?;
     }
-    Ok(())
+    served(A_LONGER_BODY, b"").assert_dump(&rt, &[], NO_ENTRY)
+}
+
+#[test]
+fn a_request_that_is_refused_leaves_no_entry(rt: HostRuntime) -> Result<(), Fail> {
+    served(PUT_NUMBERS, b"").assert_dump(&rt, &[], ENTRY_OF_N)
 }
 
 const LONG_POLL: &[u8] = b"GET /db/_changes?feed=longpoll HTTP/1.1\r\n\r\n";

@@ -1,6 +1,7 @@
 //! A feed that goes on while another connection writes.
 
 use crate::client::Client;
+use crate::ended::with_status;
 use crate::ends::{Clients, Ends};
 use http_front::run_server;
 use std::alloc::Global;
@@ -25,12 +26,12 @@ pub(crate) fn told<R: AllocGlobal + Threads + Wait + Clock + Sync>(
     ends: Ends,
 ) -> io::Result<String> {
     let Ends { listener, clients } = ends;
-    let (told, _status) = thread::join(
+    let (told, status) = thread::join(
         rt,
         move || read_beside_writes(rt.alloc(), clients),
         || run_server(&listener, 2, 1, rt),
     );
-    told
+    with_status(told, status)
 }
 
 /// Reads a line of the feed after each write, and then the last line.

@@ -3,11 +3,13 @@
 //! The program takes no words. A write is held before it is published while another connection reads. A
 //! feed that goes on is read beside the writes of another connection. A follower takes the rows of a
 //! database while other sessions write. A history of one place takes no second write. A worker replicates
-//! a conflict between two servers, twice. What clients were answered is printed as it came.
+//! a conflict between two servers, twice. What clients were answered is printed as it came, and then the
+//! exit status of each server, or how many sessions were lost.
 #![tactic(auto)]
 
 mod client;
 mod command;
+mod ended;
 mod ends;
 mod feed;
 mod follow;

@@ -1,6 +1,7 @@
 //! A replication between two servers.
 
 use crate::client::Client;
+use crate::ended::with_status;
 use crate::ends::{Clients, Ends};
 use document_id::DocId;
 use http_front::run_server;
@@ -33,12 +34,12 @@ pub(crate) fn told<R: AllocGlobal + Threads + Wait + Clock + Sync>(
     target: Ends,
 ) -> io::Result<String> {
     let Ends { listener, clients } = source;
-    let (told, _status) = thread::join(
+    let (told, status) = thread::join(
         rt,
         move || serve_target(rt, clients, target),
         || run_server(&listener, 2, 1, rt),
     );
-    told
+    with_status(told, status)
 }
 
 fn serve_target<R: AllocGlobal + Threads + Wait + Clock + Sync>(
@@ -47,12 +48,12 @@ fn serve_target<R: AllocGlobal + Threads + Wait + Clock + Sync>(
     target: Ends,
 ) -> io::Result<String> {
     let Ends { listener, clients } = target;
-    let (told, _status) = thread::join(
+    let (told, status) = thread::join(
         rt,
         move || replicate(rt.alloc(), source, clients),
         || run_server(&listener, 2, 1, rt),
     );
-    told
+    with_status(told, status)
 }
 
 /// Makes a conflict on the source, and replicates twice.

@@ -1,6 +1,7 @@
 //! A database whose sessions work on threads.
 ghost use Rattle.std.specs.Prelude.{◌≡◌};
 
+use crate::ended::with_lost;
 use crate::ends::Ends;
 use crate::follow::follow_others;
 use crate::full::serve_full;
@@ -111,8 +112,8 @@ fn worked<
         return None;
     };
     let told = work_of(rt, work, marks, sessions.as_mut_slice());
-    let _closed = master.close(sessions, rt);
-    Some(told)
+    let closed = master.close(sessions, rt);
+    Some(with_lost(told, closed.lost()))
 }
 
 fn work_of<R: AllocGlobal + Threads + Wait + Clock + Sync, S: Calls<R> + Send>(
