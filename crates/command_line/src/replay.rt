@@ -40,6 +40,11 @@ pub fn refuse_bytes(alloc: Global) -> WordsFault {
 }
 
 /// The run that the words ask for. The first word is the program's name, as in `std::env::args`.
+///
+/// # Errors
+///
+/// [`WordsFault::Words`] where the words name no run, with the text that says so, and
+/// [`WordsFault::Memory`] where memory was refused.
 pub fn read_words<S: AsStr>(alloc: Global, words: &[S]) -> Result<Run, WordsFault>
     // The run has the name of the subcommand in the words.
     ensures run { IfOk result (IsRunOf (map S.text words.now)) }

@@ -74,6 +74,11 @@ fn length_said(value: &[u8]) -> Result<usize, FramingFault>
 }
 
 /// The length of the body after a head with these headers.
+///
+/// # Errors
+///
+/// [`FramingFault::TransferEncoding`], [`FramingFault::ContentLength`] or [`FramingFault::LargeBody`], the
+/// first of them that is so.
 pub fn body_length(bytes: &[u8], headers: &[HeaderSpan]) -> Result<usize, FramingFault>
     requires { All (IsHeaderWithin (length bytes.now)) headers.now }
     ensures { result ≡ body_length (map (header_bytes bytes.now) headers.now) }

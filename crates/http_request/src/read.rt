@@ -25,6 +25,10 @@ use std::alloc::{AllocError, Global};
 use std::sync::Arc;
 
 /// What a request asks, or why it is rejected.
+///
+/// # Errors
+///
+/// Memory may be refused.
 pub fn read_request(
     alloc: Global,
     routes: &Routes,

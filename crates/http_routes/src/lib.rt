@@ -131,6 +131,10 @@ fn router_of(alloc: Global, paths: &[(&str, Route)]) -> Result<Router<Route>, Al
 
 impl Routes {
     /// Builds the router.
+    ///
+    /// # Errors
+    ///
+    /// Memory may be refused.
     pub fn new(alloc: Global) -> Result<Routes, AllocError> {
         let router = router_of(alloc, &TABLE)?;
         Ok(Routes { router })

@@ -48,6 +48,10 @@ pub trait Service<C> {
 }
 
 /// Writes a response that is at hand, and passes on whether the connection closes after it.
+///
+/// # Errors
+///
+/// A write failed. A beginning of the response may have been written.
 pub fn write_response<W: Sink>(
     writer: &mut W,
     head: &str,

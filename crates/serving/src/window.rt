@@ -36,6 +36,10 @@ impl Model for Window {
 
 impl Window {
     /// A window of no bytes, with all its memory.
+    ///
+    /// # Errors
+    ///
+    /// Memory may be refused.
     pub fn new(alloc: Global) -> Result<Window, AllocError>
         ensures { IfOk result (λ w. w.bytes ≡ []) }
     {
@@ -70,6 +74,10 @@ impl Window {
 
     /// Reads until so many more bytes have come, and answers whether they did before the input
     /// ended.
+    ///
+    /// # Errors
+    ///
+    /// A read failed. What came before it is in the window.
     pub fn fill<R: Source>(&mut self, reader: &mut R, more: usize) -> Result<bool, Failed>
         requires { length self.old.bytes + more ≤ request_limit }
         ensures grows { (piece : List ℕ) × (self.new.bytes ≡ self.old.bytes ++ piece)

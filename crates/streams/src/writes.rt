@@ -9,7 +9,11 @@ use arrayvec::ArrayString;
 /// Room for a short response, whose copy costs less than a second write.
 const JOINED_ROOM: usize = 1024;
 
-/// Writes all the bytes, or a beginning of them and then fails.
+/// Writes all the bytes.
+///
+/// # Errors
+///
+/// A write failed. A beginning of the bytes, not all, may have been written.
 pub fn write_all<W: Sink>(writer: &mut W, bytes: &[u8]) -> Result<(), Failed>
     ensures written { Writes (W.taken writer.old) (W.taken writer.new) result bytes.now }
     ensures failures { CountsFailure (W.failed_writes writer.old)
@@ -24,6 +28,10 @@ pub fn write_all<W: Sink>(writer: &mut W, bytes: &[u8]) -> Result<(), Failed>
 
 /// Writes a head and what stands behind it as one text: in one write where both are short, as most
 /// responses are.
+///
+/// # Errors
+///
+/// A write failed. A beginning of the text, not all, may have been written.
 pub fn write_both<W: Sink>(writer: &mut W, head: &str, body: &str) -> Result<(), Failed>
     ensures written { Writes (W.taken writer.old) (W.taken writer.new) result
         (head.now ++ body.now) }
