@@ -1,7 +1,7 @@
 """Faults: in the parts of a request that are told apart by a refusal, and in the bytes of a head."""
 import json
 
-from .legal import encoded, request
+from outside.requests import encoded, request
 
 MEMBERS = {
     "_x": [1, []],

@@ -1,10 +1,9 @@
 """A few fixed inputs near the limits."""
 import json
 
+from outside.requests import request
 from reference import revisions
 from reference.json_profile import Body
-
-from .legal import request
 
 BODY = 1048576  # bytes, the most of a body
 

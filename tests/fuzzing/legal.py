@@ -12,20 +12,6 @@ DIGITS = "abc"
 TRUTH = ["true", "true", "false"]
 
 
-def encoded(value):
-    if isinstance(value, bytes):
-        return value
-    return value.encode() if isinstance(value, str) else json.dumps(value, separators=(",", ":"), ensure_ascii=False).encode()
-
-
-def request(method, target, body=None, headers=()):
-    lines = ["%s %s HTTP/1.1" % (method, target), *headers]
-    data = b"" if body is None else encoded(body)
-    if body is not None:
-        lines.append("Content-Length: %d" % len(data))
-    return "".join(line + "\r\n" for line in lines).encode() + b"\r\n" + data
-
-
 class Maker:
     """Makes requests over a database, by a source of random numbers. A request is its method, target and body."""
 

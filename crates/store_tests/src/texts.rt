@@ -20,7 +20,7 @@ fn refusal(refusal: Refusal) -> &'static str {
     }
 }
 
-fn push_reply(text: &mut String, reply: &Reply) -> Result<(), AllocError> {
+pub(crate) fn push_reply(text: &mut String, reply: &Reply) -> Result<(), AllocError> {
     match reply.kind() {
         ReplyKind::Wrote(writes) => push_writes(text, writes),
         ReplyKind::WroteLocal(Ok(counter)) => write!(text, " local {counter}"),

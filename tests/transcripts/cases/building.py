@@ -3,21 +3,7 @@ import hashlib
 import json
 from urllib.parse import quote
 
-
-def request(method, target, body=None, headers=(), version="HTTP/1.1"):
-    """A body that is a dictionary, a list or a number is sent as JSON, a text or bytes as they are."""
-    lines = ["%s %s %s" % (method, target, version), *headers]
-    data = b"" if body is None else encoded(body)
-    if body is not None:
-        lines.append("Content-Length: %d" % len(data))
-    return "".join(line + "\r\n" for line in lines).encode("utf-8") + b"\r\n" + data
-
-
-def encoded(body):
-    if isinstance(body, bytes):
-        return body
-    text = body if isinstance(body, str) else json.dumps(body, separators=(",", ":"), ensure_ascii=False)
-    return text.encode("utf-8")
+from outside.requests import encoded, request
 
 
 def get(target, **more):
