@@ -1,6 +1,5 @@
 """Requests as bytes, and identities of revisions, as the transcripts use them."""
 import hashlib
-import json
 from urllib.parse import quote
 
 from outside.requests import encoded, request
