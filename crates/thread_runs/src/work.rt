@@ -8,6 +8,12 @@ use std::alloc::Global;
 use std::sync::{Arc, Wait};
 use updating::{Core, NoGate, Opening};
 
+/// The most sessions of a database.
+const MAX_SESSIONS: u32 = 64;
+
+/// An odd number, so that products with it differ where the factors do.
+const SCATTER: u32 = 2_654_435_761;
+
 /// The first edit of the document of an id, with the body `{}`.
 fn put(alloc: Global, id: &str) -> Option<Command> {
     let edit = Edit {
@@ -89,7 +95,14 @@ pub(crate) fn compact_twice<R: Wait, C: Wait + Drop, J: Opening>(
     Some([Some(told), Some(compact(rt, session))])
 }
 
-/// Writes so many documents of its own, each beside those that the other sessions write meanwhile.
+/// The number in the id of a session's write. The numbers of all writes differ, and come in no order,
+/// so that a write costs the same however many sessions there are.
+fn scattered(index: usize, number: u32) -> u32 {
+    let place = number.wrapping_mul(MAX_SESSIONS).wrapping_add(index as u32);
+    place.wrapping_mul(SCATTER)
+}
+
+/// Writes so many documents of its own.
 pub(crate) fn write_all<R: Wait, C: Wait + Drop, J: Opening>(
     rt: &R,
     alloc: Global,
@@ -98,7 +111,7 @@ pub(crate) fn write_all<R: Wait, C: Wait + Drop, J: Opening>(
     times: u32,
 ) -> Option<()> {
     for number in 0..times {
-        let id = format!(in alloc; "{number}-{index}").ok()?;
+        let id = format!(in alloc; "{}", scattered(index, number)).ok()?;
         let _told = write(rt, alloc, session, id.as_str())?;
     }
     Some(())
