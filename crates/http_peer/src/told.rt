@@ -71,8 +71,11 @@ pub(crate) fn opened_told(alloc: Global, status: u16, body: &[u8]) -> Result<Ope
     if !is_taken(status) {
         return Err(PeerFault::Unreadable);
     }
-    let revisions = readable(read_opened(alloc, body))?;
-    Ok(Opened { revisions })
+    match read_opened(alloc, body) {
+        Ok(revisions) => Ok(Opened { revisions }),
+        Err(Fault::Refused(_)) => Err(PeerFault::Unreadable),
+        Err(Fault::Memory) => Err(PeerFault::Memory),
+    }
 }
 
 /// That all documents of a bulk were taken, as a response tells.
@@ -83,10 +86,11 @@ pub(crate) fn bulk_told(alloc: Global, status: u16, body: &[u8]) -> Result<(), P
     if !is_taken(status) {
         return Err(PeerFault::Unreadable);
     }
-    if !readable(read_all_taken(alloc, body))? {
-        return Err(PeerFault::Refused);
+    match readable(read_all_taken(alloc, body)) {
+        Ok(true) => Ok(()),
+        Ok(false) => Err(PeerFault::Refused),
+        Err(fault) => Err(fault),
     }
-    Ok(())
 }
 
 /// The checkpoint that a response tells, if there is one.
@@ -106,8 +110,10 @@ pub(crate) fn checkpoint_told(
     if !is_taken(status) {
         return Err(PeerFault::Unreadable);
     }
-    let (counter, last_seq) = readable(read_checkpoint(alloc, body))?;
-    Ok(Some(Checkpoint { counter, last_seq }))
+    match readable(read_checkpoint(alloc, body)) {
+        Ok((counter, last_seq)) => Ok(Some(Checkpoint { counter, last_seq })),
+        Err(fault) => Err(fault),
+    }
 }
 
 /// The number of the checkpoint's revision that a response tells.
