@@ -9,7 +9,7 @@ use std::sync::{Arc, Wait};
 use updating::{Core, NoGate, Opening};
 
 /// The most sessions of a database.
-const MAX_SESSIONS: u32 = 64;
+const MAX_SESSIONS: usize = 64;
 
 /// An odd number, so that products with it differ where the factors do.
 const SCATTER: u32 = 2_654_435_761;
@@ -98,8 +98,9 @@ pub(crate) fn compact_twice<R: Wait, C: Wait + Drop, J: Opening>(
 /// The number in the id of a session's write. The numbers of all writes differ, and come in no order,
 /// so that a write costs the same however many sessions there are.
 fn scattered(index: usize, number: u32) -> u32 {
-    let place = number.wrapping_mul(MAX_SESSIONS).wrapping_add(index as u32);
-    place.wrapping_mul(SCATTER)
+    let first = number.wrapping_mul(MAX_SESSIONS as u32);
+    let own = (index % MAX_SESSIONS) as u32;
+    first.wrapping_add(own).wrapping_mul(SCATTER)
 }
 
 /// Writes so many documents of its own.
