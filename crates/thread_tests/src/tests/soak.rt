@@ -89,13 +89,19 @@ fn acted_again(version: &Version, entry: &Entry) -> Option<Version> {
     Some(next)
 }
 
-/// How many entries there are, where all commands are answered the same one after another.
+/// The same, where there are a version and an entry.
+fn goes_on(version: Option<Version>, entry: Option<&Entry>) -> Option<Version> {
+    acted_again(&version?, entry?)
+}
+
+/// How many entries there are, where all commands are answered the same one after another. No call in
+/// the loop returns early, since that is proved anew for each with the version that is then let go.
 fn replayed(alloc: Global, version: &Version) -> Option<u64> {
-    let mut again = Version::empty(alloc);
+    let mut again = Some(Version::empty(alloc));
     for place in 0..version.place() {
-        again = acted_again(&again, version.entry(place + 1)?)?;
+        again = goes_on(again, version.entry(place + 1));
     }
-    Some(again.place())
+    Some(again?.place())
 }
 
 /// How many receipts were right, and how many entries are replayed.
