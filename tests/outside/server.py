@@ -85,8 +85,12 @@ class Connection(Messages):
         self.place = int(headers["Couch-Place"])
         return int(first.split()[1]), headers
 
+    def answer(self):
+        """The status and the value of the response that comes."""
+        status, headers = self.head()
+        return status, json.loads(self.next_bytes(int(headers["Content-Length"])))
+
     def ask(self, method, target, body=None):
         """The status and the value of the response to a request."""
         self.send(method, target, body)
-        status, headers = self.head()
-        return status, json.loads(self.next_bytes(int(headers["Content-Length"])))
+        return self.answer()
