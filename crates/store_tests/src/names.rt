@@ -4,9 +4,10 @@ use revision_id::RevId;
 use std::alloc::Global;
 use std::test::Fail;
 
-/// The names of revisions, each with its text. `A1` is what an edit makes of the body `{}`, `A2` one of `{"n":1}` over it, and `A3` one of
-/// `{"n":2}` over that; `X2` is the deletion over `A1`, and `A3'` what an edit makes of `{}` over that;
-/// `N1` is what an edit makes of `{"n":1}`. The others come from elsewhere.
+/// The names of revisions, each with its text. `A1` is what an edit makes of the body `{}`, `A2` one of
+/// `{"n":1}` over it, and `A3` one of `{"n":2}` over that; `X2` is the deletion over `A1`, and `A3'` what
+/// an edit makes of `{}` over that; `N1` is what an edit makes of `{"n":1}`. The others come from
+/// elsewhere.
 const NAMES: [(&str, &str); 17] = [
     ("A1", "1-b7a5841aeb59f1be5d0e27b640827094"),
     ("A2", "2-da7da3d3a3fd852f31bbfc77446d4d45"),

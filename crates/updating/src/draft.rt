@@ -86,8 +86,9 @@ pub(crate) fn drafts_after(
     requires { after ≤ length version.now.entries }
     ensures { IfOk result (λ drafts. drafts.items ≡ drafts_from version.now after (drop after version.now.entries)) }
 {
-    let mut drafts = Vec::new(alloc);
-    for place in after..version.place() {
+    let end = version.place();
+    let mut drafts = Vec::with_capacity(alloc, (end - after) as usize)?;
+    for place in after..end {
         let Some(draft) = draft_at(alloc, version, place + 1)? else {
             unreachable!()
         };
