@@ -1,5 +1,6 @@
 -- What a parse that succeeds has met.
 use Rattle.std.proofs.Common.{◌≡◌, ◌∙◌, refl, ap, subst, true, false, Bool, List, ℕ, Option, Some, None, is_some, option_map, [], ◌∷◌, ◌⊎◌, find, inl, inr, sym, if◌then◌else◌}
+use Rattle.std.proofs.lemmas.Option.{same_Some}
 use Rattle.clap.specs.Words.{App, HasMatchesOf, IsParsedFrom, Row, Text, app_of, built, is_simple, is_simple_and_free, subcommand_name_of, subcommand_of, subcommand_rows, subcommand_rows_of}
 use Rattle.clap.specs.Simple.{entered, rows_at, label_of, Shape, names_of, argument_words}
 use Rattle.clap.specs.Walk.{answers_to, stop_after}
@@ -89,6 +90,12 @@ module _ (line : App) (simple : is_simple line ≡ true) (command : Command) (ma
       with_name (Some (found, given)) e =
           let same : found ≡ name = cc in
           (given, ap (λ (n : Text). Some (n, given)) same)
+
+  -- what is found of the subcommand holds the rows that the words name
+  pub rows_held : {P : Type 0} (rows : P → List Row) (found : Option P) (held : P) → option_map rows found ≡ option_map (λ s. s.1) (subcommand_rows_of matches) → found ≡ Some held
+      → (name : Text) (given : List Row) → subcommand_of line words ≡ Some (name, given) → given ≡ rows held
+  rows_held rows found held of_found is name given named =
+      same_Some given (rows held) (ap (option_map (λ (s : Text × List Row). s.1)) (sym named ∙ sym rows_named) ∙ sym of_found ∙ ap (option_map rows) is)
 
 -- what an option holds, from its image
 pub mapped_some : {A : Type 0} (f : A → List ℕ) (o : Option A) (x : A) (y : List ℕ) → option_map f o ≡ Some y → o ≡ Some x → f x ≡ y

@@ -21,9 +21,9 @@ pub use faults::WordsFault;
 use faults::{NOT_TEXT, OUT_OF_RANGE, fault, refuse};
 use lines::{program, with_subcommand};
 pub use numbers::Serving;
-use numbers::{serve, serving_in};
+use numbers::{serve, serving_of};
 pub use replicate::Replicating;
-use replicate::{replicate, replicating_in, what_is_wrong};
+use replicate::{given_in, replicate};
 use std::alloc::{AllocError, Global};
 use std::convert::AsStr;
 
@@ -96,17 +96,17 @@ pub fn read_words<S: AsStr>(alloc: Global, words: &[S]) -> Result<Run, WordsFaul
         Ok(matches) => matches,
         Err(error) => return Err(fault(alloc, &error)),
     };
-    match matches.subcommand_name().unwrap() {
+    let (name, options) = matches.subcommand().unwrap();
+    match name {
         "once" => Ok(Run::Once),
         "dump" => Ok(Run::Dump),
-        "serve" => match serving_in(&matches) {
+        "serve" => match serving_of(options) {
             Some(serving) => Ok(Run::Serve(serving)),
             None => Err(refuse(alloc, couchd(alloc), OUT_OF_RANGE)),
         },
-        "replicate" => match replicating_in(alloc, &matches) {
-            Ok(Some(replicating)) => Ok(Run::Replicate(replicating)),
-            Ok(None) => Err(refuse(alloc, couchd(alloc), what_is_wrong(&matches))),
-            Err(_) => Err(WordsFault::Memory),
+        "replicate" => match given_in(options) {
+            Ok(given) => Ok(Run::Replicate(given.into_replicating(alloc)?)),
+            Err(reason) => Err(refuse(alloc, couchd(alloc), reason)),
         },
         _ => unreachable!(),
     }

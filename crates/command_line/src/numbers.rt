@@ -1,6 +1,6 @@
 //! The numbers of `couchd serve`.
-ghost use Rattle.std.specs.Prelude.{◌≡◌, ◌≤◌, ℕ, List, Some, false, IfOk, IfSome, IfNone};
-ghost use Rattle.clap.specs.Words.{Row, Text, app_of, first_of, found_of, rows_of, rule_of, subcommand_rows_of, with_rule};
+ghost use Rattle.std.specs.Prelude.{◌≡◌, ◌≤◌, ℕ, false, IfOk, IfSome, IfNone};
+ghost use Rattle.clap.specs.Words.{app_of, first_of, found_of, rows_of, rule_of, with_rule};
 ghost use Rattle.clap.specs.declared.builder.command.Command.TheViews.{out-Command as fields_of};
 ghost use Rattle.command_line.specs.Serve.{serve, number_option, IsNumberOf, IsServingOf};
 
@@ -77,18 +77,7 @@ fn number_option<'a>(
 }
 
 /// The numbers that the words of the subcommand give; nothing where one is out of its range.
-pub(crate) fn serving_in(matches: &ArgMatches<'_>) -> Option<Serving>
-    ensures given { (given : Text × List Row) → subcommand_rows_of matches.now ≡ Some given
-        → IfSome result (IsServingOf given.1) }
-    ensures no_number { (given : Text × List Row) → subcommand_rows_of matches.now ≡ Some given
-        → IfNone result ((serving : Serving) → IsServingOf given.1 serving → ⊥) }
-{
-    let (_name, options) = matches.subcommand()?;
-    serving_of(options)
-}
-
-/// The numbers that were given; nothing where one is out of its range.
-fn serving_of(options: &ArgMatches<'_>) -> Option<Serving>
+pub(crate) fn serving_of(options: &ArgMatches<'_>) -> Option<Serving>
     ensures given { IfSome result (IsServingOf (rows_of (found_of options.now))) }
     ensures no_number { IfNone result ((serving : Serving)
         → IsServingOf (rows_of (found_of options.now)) serving → ⊥) }

@@ -1,7 +1,7 @@
 //! The words of `couchd replicate`.
-ghost use Rattle.std.specs.Prelude.{◌≡◌, ◌≤◌, ◌↔◌, List, Some, false, length, IfOk, IfSome, IfNone, IsTrue, codes};
+ghost use Rattle.std.specs.Prelude.{◌≡◌, ◌≤◌, ◌↔◌, false, length, IfOk, IfErr, IfSome, IfNone, IsTrue, codes, string_bytes};
 ghost use Rattle.std.specs.declared.net.socket_addr.SocketAddr.{SocketAddr};
-ghost use Rattle.clap.specs.Words.{Row, Text, app_of, first_of, found_of, rows_of, rule_of, subcommand_rows_of};
+ghost use Rattle.clap.specs.Words.{Text, app_of, first_of, found_of, rows_of, rule_of};
 ghost use Rattle.clap.specs.declared.builder.command.Command.TheViews.{out-Command as fields_of};
 ghost use Rattle.command_line.specs.Replicate.{replicate, text_option, BeginsPlain, IsAddressOf, IsIdOf, IsReplicatingOf};
 
@@ -57,58 +57,47 @@ fn text_option<'a>(alloc: Global, name: &'a str, value_name: &'a str) -> Arg<'a>
         .required(true)
 }
 
-/// What the words of the subcommand give; nothing where an address can't be read, or the id is
-/// none.
-pub(crate) fn replicating_in(
-    alloc: Global,
-    matches: &ArgMatches<'_>,
-) -> Result<Option<Replicating>, AllocError>
-    ensures given { (given : Text × List Row) → subcommand_rows_of matches.now ≡ Some given
-        → IfOk result (λ found. IfSome found (IsReplicatingOf given.1)) }
-    ensures none { (given : Text × List Row) → subcommand_rows_of matches.now ≡ Some given
-        → IfOk result (λ found. IfNone found ((replicating : Replicating)
-        → IsReplicatingOf given.1 replicating → ⊥)) }
-{
-    let Some((_name, options)) = matches.subcommand() else {
-        return Ok(None);
-    };
-    replicating_of(alloc, options)
+/// What the words of the subcommand give, as they give it.
+#[derive(Clone, Copy)]
+pub(crate) struct Given<'a> {
+    source: SocketAddr,
+    target: SocketAddr,
+    id: &'a str,
 }
 
-/// What is said of words that give no replication: which of them is the first that can't be read.
-pub(crate) fn what_is_wrong(matches: &ArgMatches<'_>) -> &'static str {
-    let Some((_name, options)) = matches.subcommand() else {
-        return NO_SOURCE;
-    };
-    if address_of(options, "source").is_none() {
-        return NO_SOURCE;
+impl<'a> Given<'a> {
+    /// The same, with an id of its own.
+    pub(crate) fn into_replicating(self, alloc: Global) -> Result<Replicating, AllocError>
+        ensures source { IfOk result (λ replicating. replicating.source ≡ self.entry.source) }
+        ensures target { IfOk result (λ replicating. replicating.target ≡ self.entry.target) }
+        ensures id { IfOk result (λ replicating. string_bytes replicating.id ≡ self.entry.id.now) }
+    {
+        Ok(Replicating {
+            source: self.source,
+            target: self.target,
+            id: String::from_str(alloc, self.id)?,
+        })
     }
-    if address_of(options, "target").is_none() {
-        return NO_TARGET;
-    }
-    NO_ID
 }
 
-/// What was given; nothing where an address can't be read, or the id is none.
-fn replicating_of(
-    alloc: Global,
-    options: &ArgMatches<'_>,
-) -> Result<Option<Replicating>, AllocError>
-    ensures given { IfOk result (λ found. IfSome found (IsReplicatingOf (rows_of (found_of options.now)))) }
-    ensures none { IfOk result (λ found. IfNone found ((replicating : Replicating)
-        → IsReplicatingOf (rows_of (found_of options.now)) replicating → ⊥)) }
+/// What the words of the subcommand give, or what is said of the first of them that can't be read.
+pub(crate) fn given_in<'a>(options: &ArgMatches<'a>) -> Result<Given<'a>, &'static str>
+    ensures source { IfOk result (λ given. IsAddressOf (first_of (codes "source") (rows_of (found_of options.now))) given.source) }
+    ensures target { IfOk result (λ given. IsAddressOf (first_of (codes "target") (rows_of (found_of options.now))) given.target) }
+    ensures id { IfOk result (λ given. IsIdOf (first_of (codes "id") (rows_of (found_of options.now))) given.id.now) }
+    ensures none { IfErr result (λ _. (replicating : Replicating)
+        → IsReplicatingOf (rows_of (found_of options.now)) replicating → ⊥) }
 {
     let Some(source) = address_of(options, "source") else {
-        return Ok(None);
+        return Err(NO_SOURCE);
     };
     let Some(target) = address_of(options, "target") else {
-        return Ok(None);
+        return Err(NO_TARGET);
     };
     let Some(id) = id_of(options) else {
-        return Ok(None);
+        return Err(NO_ID);
     };
-    let id = String::from_str(alloc, id)?;
-    Ok(Some(Replicating { source, target, id }))
+    Ok(Given { source, target, id })
 }
 
 /// The address that was given under this name; nothing where the text is none.

@@ -1,24 +1,25 @@
-use Rattle.std.proofs.Common.{◌∙◌, sym, map, ap, subst, inl, inr, codes, Option, Some, option_map}
-use Rattle.std.specs.Prelude.{IfSome, IfNone}
-use Rattle.command_line.specs.Replicate.{IsReplicatingOf}
+use Rattle.std.proofs.Common.{◌∙◌, List, sym, map, ap, subst, inl, inr, codes, Some, option_map}
+use Rattle.command_line.specs.Serve.{IsServingOf}
+use Rattle.command_line.specs.declared.numbers.Serving.{Serving}
+use Rattle.command_line.specs.Replicate.{IsAddressOf, IsIdOf, IsReplicatingOf}
 use Rattle.command_line.specs.declared.replicate.Replicating.{Replicating}
-use Rattle.clap.specs.Words.{App, is_simple_and_free, fault_of}
-use Rattle.command_line.proofs.Words.{mapped_some, meets_one, rows_named, names, couchd_is_simple, couchd_is_simple_and_free}
+use Rattle.clap.specs.Words.{App, Row, is_simple_and_free, fault_of, first_of, found_of, rows_of}
+use Rattle.command_line.proofs.Words.{mapped_some, meets_one, names, rows_held, couchd_is_simple, couchd_is_simple_and_free}
 use Rattle.command_line.proofs.Runs.{of_memory, no_run, no_replication}
 use Rattle.command_line.proofs.read_words.Goals as goal
 
 pub unreachable-requires : goal.unreachable-requires
 unreachable-requires g c =
     let one = meets_one _ couchd_is_simple _ _ _ c.in_ok-couchd.ensures.app c.in-Ok.ensures.matches c.in_ok-couchd.ensures.local c.in_ok-couchd.ensures.subcommand c.in-Ok.ensures.parsed in
-    let named = mapped_some (λ s. s.now) c.subcommand_name.result c.unwrap.result in
+    let named = mapped_some (λ p. p.0.now) c.subcommand.result c.unwrap.result in
     elim one [
-      | inl once ↦ c.in_default.not-once (named _ (c.subcommand_name.ensures ∙ once) c.unwrap.ensures)
+      | inl once ↦ c.in_default.not-once (named _ (c.subcommand.ensures.name ∙ once) c.unwrap.ensures)
       | inr other ↦ elim other [
-        | inl dump ↦ c.in_default.not-dump (named _ (c.subcommand_name.ensures ∙ dump) c.unwrap.ensures)
+        | inl dump ↦ c.in_default.not-dump (named _ (c.subcommand.ensures.name ∙ dump) c.unwrap.ensures)
         | inr later ↦ elim later [
-          | inl serve ↦ c.in_default.not-serve (named _ (c.subcommand_name.ensures ∙ serve) c.unwrap.ensures)
+          | inl serve ↦ c.in_default.not-serve (named _ (c.subcommand.ensures.name ∙ serve) c.unwrap.ensures)
           | inr last ↦ elim last [
-            | inl replicate ↦ c.in_default.not-replicate (named _ (c.subcommand_name.ensures ∙ replicate) c.unwrap.ensures)
+            | inl replicate ↦ c.in_default.not-replicate (named _ (c.subcommand.ensures.name ∙ replicate) c.unwrap.ensures)
             | inr none ↦ absurd none
           ]
         ]
@@ -52,33 +53,45 @@ returns-in-Some-clause-faultless g c =
 pub returns-in-Some-clause-run : goal.returns-in-Some-clause-run
 returns-in-Some-clause-run g c =
     let app = c.in_ok-couchd.ensures.app in
-    let name = sym c.subcommand_name.ensures ∙ ap (option_map (λ s. s.now)) c.unwrap.ensures ∙ ap Some c.in-serve.is in
+    let name = sym c.subcommand.ensures.name ∙ ap (option_map (λ p. p.0.now)) c.unwrap.ensures ∙ ap Some c.in-serve.is in
     let given = names _ couchd_is_simple _ _ _ app c.in-Ok.ensures.matches (codes "serve") name in
-    (given.0, given.1, c.in-Some.ensures.given (codes "serve", given.0) (rows_named _ couchd_is_simple _ _ _ app c.in-Ok.ensures.matches ∙ given.1))
+    let held = rows_held _ couchd_is_simple _ _ _ app c.in-Ok.ensures.matches (λ p. rows_of (found_of p.1.now)) c.subcommand.result c.unwrap.result c.subcommand.ensures.rows c.unwrap.ensures (codes "serve") given.0 given.1 in
+    (given.0, given.1, subst (λ (rows : List Row). IsServingOf rows c.in-Some.serving) (sym held) c.in-Some.ensures.given)
 
 pub returns-in-serve-clause-faulty : goal.returns-in-serve-clause-faulty
 returns-in-serve-clause-faulty g c = λ none.
     let app = c.in_ok-couchd.ensures.app in
-    let name = sym c.subcommand_name.ensures ∙ ap (option_map (λ s. s.now)) c.unwrap.ensures ∙ ap Some c.in-serve.is in
+    let name = sym c.subcommand.ensures.name ∙ ap (option_map (λ p. p.0.now)) c.unwrap.ensures ∙ ap Some c.in-serve.is in
     let given = names _ couchd_is_simple _ _ _ app c.in-Ok.ensures.matches (codes "serve") name in
-    inr (no_run (map g.S.AsStr.text c.args.words.now) given.0 given.1 (c.in-None.ensures.no_number (codes "serve", given.0) (rows_named _ couchd_is_simple _ _ _ app c.in-Ok.ensures.matches ∙ given.1)))
+    let held = rows_held _ couchd_is_simple _ _ _ app c.in-Ok.ensures.matches (λ p. rows_of (found_of p.1.now)) c.subcommand.result c.unwrap.result c.subcommand.ensures.rows c.unwrap.ensures (codes "serve") given.0 given.1 in
+    inr (no_run (map g.S.AsStr.text c.args.words.now) given.0 given.1 (subst (λ (rows : List Row). (serving : Serving) → IsServingOf rows serving → ⊥) (sym held) c.in-None.ensures.no_number))
 
-pub returns-in-Ok-Some-clause-faultless : goal.returns-in-Ok-Some-clause-faultless
-returns-in-Ok-Some-clause-faultless g c =
+pub returns-in-Ok-given_in-clause-faultless : goal.returns-in-Ok-given_in-clause-faultless
+returns-in-Ok-given_in-clause-faultless g c =
     let app = c.in_ok-couchd.ensures.app in
     let h = c.in-Ok.ensures.kinds (ap is_simple_and_free app ∙ couchd_is_simple_and_free) in
     ap (λ (a : App). fault_of a (map g.S.AsStr.text c.args.words.now)) (sym app) ∙ h
 
-pub returns-in-Ok-Some-clause-run : goal.returns-in-Ok-Some-clause-run
-returns-in-Ok-Some-clause-run g c =
+pub returns-in-Ok-given_in-clause-run : goal.returns-in-Ok-given_in-clause-run
+returns-in-Ok-given_in-clause-run g c =
     let app = c.in_ok-couchd.ensures.app in
-    let name = sym c.subcommand_name.ensures ∙ ap (option_map (λ s. s.now)) c.unwrap.ensures ∙ ap Some c.in-replicate.is in
+    let name = sym c.subcommand.ensures.name ∙ ap (option_map (λ p. p.0.now)) c.unwrap.ensures ∙ ap Some c.in-replicate.is in
     let given = names _ couchd_is_simple _ _ _ app c.in-Ok.ensures.matches (codes "replicate") name in
-    (given.0, given.1, subst (λ (o : Option Replicating). IfSome o (IsReplicatingOf given.0)) c.in-Ok-Some.field-0-is (c.in-Ok-Some.ensures.given (codes "replicate", given.0) (rows_named _ couchd_is_simple _ _ _ app c.in-Ok.ensures.matches ∙ given.1)))
+    let held = rows_held _ couchd_is_simple _ _ _ app c.in-Ok.ensures.matches (λ p. rows_of (found_of p.1.now)) c.subcommand.result c.unwrap.result c.subcommand.ensures.rows c.unwrap.ensures (codes "replicate") given.0 given.1 in
+    let rows = rows_of (found_of c.unwrap.result.1.now) in
+    let words = c.in-Ok-given_in.ensures in
+    let made = c.in_ok-into_replicating-in-Ok-given_in in
+    let is : IsReplicatingOf rows made.field-0 = record {
+      source = subst (IsAddressOf (first_of (codes "source") rows)) (sym made.ensures.source) words.source;
+      target = subst (IsAddressOf (first_of (codes "target") rows)) (sym made.ensures.target) words.target;
+      id = subst (IsIdOf (first_of (codes "id") rows)) (sym made.ensures.id) words.id;
+    } in
+    (given.0, given.1, subst (λ (rows : List Row). IsReplicatingOf rows made.field-0) (sym held) is)
 
-pub returns-in-Ok-None-clause-faulty : goal.returns-in-Ok-None-clause-faulty
-returns-in-Ok-None-clause-faulty g c = λ none.
+pub returns-in-replicate-clause-faulty : goal.returns-in-replicate-clause-faulty
+returns-in-replicate-clause-faulty g c = λ none.
     let app = c.in_ok-couchd.ensures.app in
-    let name = sym c.subcommand_name.ensures ∙ ap (option_map (λ s. s.now)) c.unwrap.ensures ∙ ap Some c.in-replicate.is in
+    let name = sym c.subcommand.ensures.name ∙ ap (option_map (λ p. p.0.now)) c.unwrap.ensures ∙ ap Some c.in-replicate.is in
     let given = names _ couchd_is_simple _ _ _ app c.in-Ok.ensures.matches (codes "replicate") name in
-    inr (no_replication (map g.S.AsStr.text c.args.words.now) given.0 given.1 (subst (λ (o : Option Replicating). IfNone o ((r : Replicating) → IsReplicatingOf given.0 r → ⊥)) c.in-Ok-None.field-0-is (c.in-Ok-None.ensures.none (codes "replicate", given.0) (rows_named _ couchd_is_simple _ _ _ app c.in-Ok.ensures.matches ∙ given.1))))
+    let held = rows_held _ couchd_is_simple _ _ _ app c.in-Ok.ensures.matches (λ p. rows_of (found_of p.1.now)) c.subcommand.result c.unwrap.result c.subcommand.ensures.rows c.unwrap.ensures (codes "replicate") given.0 given.1 in
+    inr (no_replication (map g.S.AsStr.text c.args.words.now) given.0 given.1 (subst (λ (rows : List Row). (replicating : Replicating) → IsReplicatingOf rows replicating → ⊥) (sym held) c.in-Err-given_in.ensures.none))

@@ -1,4 +1,4 @@
-use Rattle.command_line.proofs.replicate.replicating_of.Goals as goal
+use Rattle.command_line.proofs.replicate.given_in.Goals as goal
 
 pub returns-in_default-clause-none : goal.returns-in_default-clause-none
 returns-in_default-clause-none c = λ replicating is. c.in_default.ensures.none replicating.source is.source
