@@ -9,10 +9,16 @@ use revision_id::RevId;
 use revision_tree::RevTree;
 use std::alloc::{AllocError, Global};
 
-/// The leaves that descend from a revision, itself if it is one, in the winner's order.
+/// The leaves that descend from a revision, in the winner's order; of a leaf itself alone, which takes
+/// no walk over the others.
 pub(crate) fn latest_of(alloc: Global, tree: &RevTree, rev: RevId) -> Result<Vec<RevId>, AllocError>
     ensures { IfOk result (λ revs. revs.items ≡ latest_in tree.now rev) }
 {
+    // Its revisions make a tree.
+    let _oldest = tree.oldest();
+    if tree.is_leaf(rev) {
+        return Vec::from_slice(alloc, &[rev]);
+    }
     descendants(alloc, tree, rev, &tree.leaves(alloc)?)
 }
 

@@ -58,7 +58,7 @@ pub(crate) fn sliced(
         mut last,
     } = part;
     for (id, _stored) in rest(version, &last).take(n as usize) {
-        records = taken_one(alloc, visited, &records, version, id)?;
+        records = taken_one(alloc, visited, records, version, id)?;
         last = Some(id.share()?);
     }
     Ok(Part { records, last })

@@ -35,14 +35,14 @@ fn look_up<'a>(visited: &mut u64, version: &'a Version, id: &DocId) -> Option<&'
 pub(crate) fn taken_one(
     alloc: Global,
     visited: &mut u64,
-    records: &Records,
+    records: Records,
     version: &Version,
     id: &DocId,
 ) -> Result<Records, AllocError>
     requires count { visited.old < u64.MAX }
-    requires coherent { IsCoherent records.now.docs (now version.now) }
-    requires upto { records.now.update_seq ≡ (now version.now).update_seq }
-    ensures taken { IfOk result (λ r. r ≡ record records.now { docs = taken_in records.now.docs (now version.now) id.now }) }
+    requires coherent { IsCoherent records.docs (now version.now) }
+    requires upto { records.update_seq ≡ (now version.now).update_seq }
+    ensures taken { IfOk result (λ r. r ≡ record records { docs = taken_in records.docs (now version.now) id.now }) }
     ensures counted { visited.new ≡ visited.old + 1 }
 {
     let _place = version.place();
@@ -57,13 +57,13 @@ pub(crate) fn taken_one(
 /// With the strip of this record of the document, in place of what was there.
 fn with_strip(
     alloc: Global,
-    records: &Records,
+    records: Records,
     id: &DocId,
     stored: &Record,
 ) -> Result<Records, AllocError>
-    requires number { (0 < stored.now.seq) × (stored.now.seq ≤ records.now.update_seq) }
-    requires free { IsFree records.now.docs id.now stored.now.seq }
-    ensures { IfOk result (λ r. r ≡ record records.now { docs = put records.now.docs id.now (stripped stored.now) }) }
+    requires number { (0 < stored.now.seq) × (stored.now.seq ≤ records.update_seq) }
+    requires free { IsFree records.docs id.now stored.now.seq }
+    ensures { IfOk result (λ r. r ≡ record records { docs = put records.docs id.now (stripped stored.now) }) }
 {
     let stripped = stored.stripped(alloc)?;
     let placed = records.put(alloc, id, stripped)?;
@@ -96,7 +96,7 @@ fn taken_purged(
     let mut purge_mark = taken.purge_mark;
     let log = version.database().purges();
     for (number, purged) in log.above(taken.purge_mark).take(n as usize) {
-        records = taken_one(alloc, visited, &records, version, purged.id())?;
+        records = taken_one(alloc, visited, records, version, purged.id())?;
         purge_mark = *number;
     }
     Ok(Taken {
@@ -132,7 +132,7 @@ fn taken_updated(
     let mut update_mark = taken.update_mark;
     let database = version.database();
     for (number, changed) in database.changed_since(taken.update_mark).take(n as usize) {
-        records = taken_one(alloc, visited, &records, version, &changed.0)?;
+        records = taken_one(alloc, visited, records, version, &changed.0)?;
         update_mark = *number;
     }
     Ok(Taken {

@@ -145,5 +145,5 @@ fn newest(
     if all.len() <= limit as u64 {
         return Ok(all);
     }
-    all.remove(&(purge_seq - limit as u64))
+    all.into_without(&(purge_seq - limit as u64))
 }

@@ -29,6 +29,7 @@ impl Purged {
         Purged { id, leaves }
     }
 
+    /// The id that the document had.
     pub fn id(&self) -> &DocId
         ensures { result.now ≡ self.now.0 }
     {

@@ -6,12 +6,14 @@ ghost use Rattle.model.specs.Database.{removed_of, after_purge, after_purges, pu
 ghost use Rattle.model.specs.PurgeLog.{logged};
 
 use crate::database::Database;
+use crate::records::Records;
 use commands::{AskedRevisions, NamedRevisions};
 use document_id::DocId;
 use purge::cut_document;
 use revision_id::RevId;
 use revision_tree::RevTree;
 use std::alloc::AllocError;
+use std::mem;
 
 impl Database {
     /// One document after another, in the byte order of the ids.
@@ -56,10 +58,12 @@ impl Database {
         }
     }
 
+    /// Removes the document. Where memory is refused, no documents are left.
     fn remove(&mut self, id: &DocId) -> Result<(), AllocError>
         ensures { IfOk result (λ _. self.new ≡ model.without_document self.old id.now) }
     {
-        self.documents = self.documents.remove(id)?;
+        let documents = mem::replace(&mut self.documents, Records::new(self.alloc));
+        self.documents = documents.remove(id)?;
         Ok(())
     }
 

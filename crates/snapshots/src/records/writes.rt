@@ -29,14 +29,14 @@ impl Records {
     }
 
     /// With this record of the document, in place of the one that it had. No other document has
-    /// its number.
-    pub fn put(&self, alloc: Global, id: &DocId, stored: Record) -> Result<Records, AllocError>
-        requires number { (0 < stored.seq) × (stored.seq ≤ self.now.update_seq) }
-        requires free { IsFree self.now.docs id.now stored.seq }
-        ensures { IfOk result (λ d. d ≡ record self.now { docs = put_in self.now.docs id.now stored }) }
+    /// its number. What no other value holds is changed in its place.
+    pub fn put(self, alloc: Global, id: &DocId, stored: Record) -> Result<Records, AllocError>
+        requires number { (0 < stored.seq) × (stored.seq ≤ self.update_seq) }
+        requires free { IsFree self.docs id.now stored.seq }
+        ensures { IfOk result (λ d. d ≡ record self { docs = put_in self.docs id.now stored }) }
     {
         let update_seq = self.update_seq();
-        self.share()?.placed(alloc, id, stored, update_seq)
+        self.placed(alloc, id, stored, update_seq)
     }
 
     /// With this tree of the document, at the next update number.
@@ -92,15 +92,17 @@ impl Records {
         Ok(copied)
     }
 
-    /// Without the document, if it is there.
-    pub fn remove(&self, id: &DocId) -> Result<Records, AllocError>
-        ensures { IfOk result (λ d. d ≡ record self.now { docs = without self.now.docs id.now }) }
+    /// Without the document, if it is there. What no other value holds is changed in its place.
+    pub fn remove(self, id: &DocId) -> Result<Records, AllocError>
+        ensures { IfOk result (λ d. d ≡ record self { docs = without self.docs id.now }) }
     {
+        let numbers = self.by_number;
         let old = found(&self.by_id, id);
+        let live = self.live - live_count(old);
         Ok(Records {
-            by_id: self.by_id.remove(id)?,
-            by_number: without_old(self.by_number.share()?, old)?,
-            live: self.live - live_count(old),
+            by_number: without_old(numbers, old)?,
+            by_id: self.by_id.into_without(id)?,
+            live,
             update_seq: self.update_seq,
         })
     }

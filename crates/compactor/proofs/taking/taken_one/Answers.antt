@@ -11,4 +11,4 @@ pub returns-clause-taken : goal.returns-clause-taken
 returns-clause-taken c =
     let d : Database = now c.args.version.now in
     let there : get d.docs c.args.id.now ≡ Some c.in-Some.stored.now = sym c.in-Some.ensures.stored in
-    c.in_ok-more.ensures ∙ ap (λ (docs : Map names Record). record c.args.records.now { docs = docs }) (sym (taken-there c.args.records.now.docs d c.args.id.now c.in-Some.stored.now there))
+    c.in_ok-more.ensures ∙ ap (λ (docs : Map names Record). record c.args.records { docs = docs }) (sym (taken-there c.args.records.docs d c.args.id.now c.in-Some.stored.now there))

@@ -4,4 +4,4 @@ use Rattle.model.specs.Database.{Record}
 use Rattle.compactor.proofs.taking.with_strip.Goals as goal
 
 pub returns : goal.returns
-returns c = c.in_ok-placed.ensures ∙ ap (λ (r : Record). record c.args.records.now { docs = put c.args.records.now.docs c.args.id.now r }) c.in_ok-stripped.ensures
+returns c = c.in_ok-placed.ensures ∙ ap (λ (r : Record). record c.args.records { docs = put c.args.records.docs c.args.id.now r }) c.in_ok-stripped.ensures
