@@ -1,9 +1,10 @@
 //! HTTP as a client speaks it to another database: the texts of its requests, and the responses that
 //! come back.
 //!
-//! A request is one text: [`request_text`] makes it of a method, a target and a body, and the
-//! functions of `target` make the targets. Responses come one after another from a source into an
-//! [`Incoming`], which reads each byte once and keeps what has come of the next.
+//! A request is one text: [`request_text`] makes it of a method, a target and a body, and
+//! [`changes_target`], [`open_revs_target`] and [`local_target`] make the targets. Responses come one
+//! after another from a source into an [`Incoming`], which reads each byte once and keeps what has come
+//! of the next.
 #![tactic(auto)]
 
 mod front;

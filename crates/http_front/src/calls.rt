@@ -35,6 +35,11 @@ pub trait Viewer {
         ensures { result.now ≡ history_of (known self.now) };
 
     /// Sees what is there now. It waits for nobody and takes no memory.
+    ///
+    /// # Errors
+    ///
+    /// [`CallFault::Unavailable`] where the session is lost or can't enter to read. It then sees what it
+    /// saw.
     fn refresh(&mut self) -> Result<(), CallFault>
         ensures looks { Looks (known self.old) (known self.new) }
         ensures no_memory { result ≢ Err fault.Memory }
@@ -44,6 +49,11 @@ pub trait Viewer {
 /// A session of a database, whose calls that wait do so by the context `X`.
 pub trait Calls<X>: Viewer {
     /// Writes a command, or compacts, and answers the place of its entry.
+    ///
+    /// # Errors
+    ///
+    /// After each but [`Unavailable::Lost`] the call left no entry. After that one it may stand, and the
+    /// session never sees it.
     fn write(&mut self, context: &X, command: Command) -> Result<u64, CallFault>
         ensures written { IfOk result (λ place.
             WritesCall (Self.known self.old) command place (Self.known self.new)) }
@@ -54,6 +64,10 @@ pub trait Calls<X>: Viewer {
 
     /// Looks at most `turns` times, and once where that is 0, until what was seen has an update
     /// number above `seq`, and says whether it has. It takes no memory.
+    ///
+    /// # Errors
+    ///
+    /// As [`refresh`](Viewer::refresh), at the first look that is refused.
     fn wait_past(&mut self, context: &X, seq: u64, turns: u64) -> Result<bool, CallFault>
         ensures past { IfOk result (λ past.
             past ≡ nat_lt seq (now (history_of (Self.known self.new))).update_seq) }

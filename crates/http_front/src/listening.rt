@@ -5,13 +5,13 @@ ghost use Rattle.http_front.specs.Listening.{Serves, ServesAll};
 use crate::calls::Calls;
 use crate::connection::{serve, serve_in};
 use crate::setting::Setting;
+use http_framing::BODY_LIMIT;
 use serving::{Cause, Ended, Window};
-use std::io::Read;
 use std::net::{Shutdown, TcpListener, TcpStream};
 use std::thread;
 use std::thread::Threads;
 use std::time::{Clock, Duration};
-use streams::{Stream, set_up};
+use streams::{Source, Stream, set_up};
 
 /// How many milliseconds a worker waits after a connection that can't be accepted, as where the
 /// process has no descriptor left.
@@ -20,11 +20,14 @@ const REST_MILLISECONDS: u64 = 1;
 /// How many seconds a client may stall that still sends after the last response.
 const LINGER_SECONDS: u64 = 2;
 
-/// So many bytes are let go at once.
-const LINGER_BYTES: usize = 8192;
+/// So many bytes are let go at most: eight of the largest bodies.
+const LINGER_BYTES: usize = 8 * BODY_LIMIT;
 
-/// So often at most: together eight of the largest bodies.
-const LINGER_READS: usize = 1024;
+/// So many of them at once.
+const LINGER_ROOM: usize = 8192;
+
+/// In so many reads at most, so that a client which sends a few bytes at a time holds no worker for ever.
+const LINGER_READS: usize = 65_536;
 
 /// Serves the connections that come to the listener: each session is lent to a worker of its own,
 /// which accepts so many of them, one after the other, or goes on without end where the number is 0.
@@ -112,16 +115,21 @@ fn serve_socket<X, S: Calls<X>>(
 
 /// Says that no more responses come, and lets go what the client still sends: a connection that is
 /// closed with bytes unread is reset, and the client may lose the last response.
-fn linger(mut socket: &TcpStream) {
+fn linger(socket: &TcpStream) {
     let Ok(()) = socket.shutdown(Shutdown::Write) else {
         return;
     };
     let _stall = socket.set_read_timeout(Some(Duration::from_secs(LINGER_SECONDS)));
-    let mut bytes = [0; LINGER_BYTES];
+    let mut reader = Stream::new(socket);
+    let mut room = [0; LINGER_ROOM];
+    let mut left = LINGER_BYTES;
     for _ in 0..LINGER_READS {
-        match socket.read(&mut bytes) {
+        match reader.read(&mut room) {
             Ok(0) | Err(_) => return,
-            Ok(_) => {}
+            Ok(len) => left = left.saturating_sub(len),
+        }
+        if left == 0 {
+            return;
         }
     }
 }

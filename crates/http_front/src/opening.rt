@@ -4,7 +4,7 @@ ghost use Rattle.http_front.specs.Once.{max_places};
 
 use commands::{Config, Limits};
 
-/// The exit status where nothing was served, since memory was refused before.
+/// The exit status where nothing was served, since memory or a reader was refused before.
 pub(crate) const NOT_OPENED: u8 = 1;
 
 /// A database of so many sessions.

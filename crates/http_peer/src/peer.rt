@@ -30,8 +30,8 @@ use streams::{Sink, Source, write_all};
 /// from a source.
 ///
 /// The connection is given up where a request was not written whole, or no response was read after
-/// it, or bytes came that nothing asked for. From then on each call is [`PeerFault::Failed`], and
-/// nothing is written and nothing read.
+/// it, or bytes came that nothing asked for. From then on each call that has the memory for its request
+/// is [`PeerFault::Failed`], and nothing is written and nothing read.
 #[derive(Drop)]
 pub struct HttpPeer<R: Source, W: Sink> {
     reader: R,

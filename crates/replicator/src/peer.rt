@@ -35,9 +35,14 @@ impl Model for Opened {
 
 /// A database, as one end of a replication.
 ///
-/// Whatever its answers are, contracts tell what a worker does with them. Each call may fail, by which
-/// the count of failures rises; its answer may be unreadable, after which what was asked may have been
-/// done all the same; and memory may be refused, before the call or after it.
+/// Whatever its answers are, contracts tell what a worker does with them.
+///
+/// # Errors
+///
+/// Each call answers [`PeerFault::Failed`] where it failed, by which the count of failures rises;
+/// [`PeerFault::Unreadable`] where its answer can't be read, after which what was asked may have been
+/// done all the same; and [`PeerFault::Memory`] where memory was refused, before the call or after it.
+/// A call that only reads is never [`PeerFault::Refused`].
 pub trait Peer {
     /// It goes from one state to another by this call with its answer.
     ghost goes: { Self → Call → Self → Type 0 };

@@ -20,6 +20,10 @@ pub trait Service<C> {
 
     /// Writes the response to a request, and answers whether the connection closes after it, as it
     /// does where the request asks for that.
+    ///
+    /// # Errors
+    ///
+    /// A write failed. A beginning of the response may have been written.
     fn answer<W: Sink>(
         &mut self,
         context: &C,
@@ -34,6 +38,10 @@ pub trait Service<C> {
             (W.failed_writes writer.new) result };
 
     /// Writes the response to bytes that are refused, after which the connection closes.
+    ///
+    /// # Errors
+    ///
+    /// A write failed. A beginning of the response may have been written.
     fn refuse<W: Sink>(
         &mut self,
         context: &C,

@@ -159,6 +159,7 @@ writes old new found command receipt e own later grows at is seat_is one publica
       only = (λ i. of_session (number i) (newest (published i))) ∙ sym receipts';
       first = omega (arith, first, publication);
       bound = omega (arith, bound, publication);
+      counted = publication ∙ ap (λ (p : List (List Entry)). length p) (sym published);
       same = λ i. record {
         number = number i;
         published = new.published;

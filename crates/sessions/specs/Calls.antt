@@ -29,7 +29,7 @@ pub record Told : Type 0 where
   pub publication : ℕ
 
 -- After a receipt: a legal history is seen, which extends what was seen, tells the call, and has of this session exactly
--- its earlier entries with a receipt and this one. The publication is one of those up to the place.
+-- its earlier entries with a receipt and this one. The publication is the last that is seen, one of those up to the place.
 pub record Writes (old : Known) (command : Command) (receipt : Told) (new : Known) : Type 0 where
   pub legal : IsLegal opening_base (seen new)
   pub extends : IsPrefix (seen old) (seen new)
@@ -39,6 +39,7 @@ pub record Writes (old : Known) (command : Command) (receipt : Told) (new : Know
   pub only : SeesOwn new
   pub first : 0 < receipt.publication
   pub bound : receipt.publication ≤ receipt.place
+  pub counted : receipt.publication ≡ length new.published
   pub same : new ≡ record old { published = new.published; receipts = new.receipts; pushes = new.pushes }
 
 -- the entry at the place has this seat and command, and is its session's last

@@ -19,8 +19,8 @@ pub enum Fault {
     /// The history is full. The call left no entry.
     #[error("the history is full")]
     Full,
-    /// A reader, an entry or a share was refused. The call left no entry; a wait or a compaction may
-    /// have looked before.
+    /// A reader, an entry or a share was refused, or a call of this session without a receipt stands in
+    /// the history that was found. The call left no entry; a wait or a compaction may have looked before.
     #[error("the entry was refused")]
     EntryRefused,
     /// Others wrote faster than the compaction could catch up, as often as it is tried. It left no

@@ -8,7 +8,9 @@ use std::marker::Model;
 pub struct Receipt {
     /// The place of its entry, from 1.
     pub place: u64,
+    /// The session, and the number of its call.
     pub seat: Seat,
+    /// What the command was answered.
     pub reply: Reply,
     /// The publication with which the entry came, from 1.
     pub publication: u64,

@@ -6,14 +6,14 @@ ghost use Rattle.streams.specs.Counts.{CountRose};
 use crate::traits::{Failed, Sink, Source};
 use std::io::{self, ErrorKind, Read, Write};
 
-/// How often a call is made that is interrupted each time.
+/// How often a call is made in all that is interrupted each time.
 const MAX_TRIES: u32 = 1000;
 
 /// A reader or a writer of `std` as a source or a sink.
 ///
 /// It gives at most 2^64 - 1 bytes, and fails from then on. A write that takes nothing is a
-/// failure. A call that a signal interrupts, as when a stopped program goes on, is made again, at
-/// most [`MAX_TRIES`] times. It does not flush, so a writer that keeps bytes back delays them.
+/// failure. A call that a signal interrupts, as when a stopped program goes on, is made again, up to
+/// [`MAX_TRIES`] times in all. It does not flush, so a writer that keeps bytes back delays them.
 #[derive(Debug, Drop)]
 pub struct Stream<T> {
     inner: T,
@@ -25,6 +25,7 @@ pub struct Stream<T> {
 impl<T> Stream<T> {
     ghost use Rattle.streams.specs.Stream.{inner_of, failures_of, budget_of};
 
+    /// Over this reader or writer, of whose calls none has failed yet.
     pub fn new(inner: T) -> Stream<T>
         ensures inner { inner_of result ≡ inner }
         ensures failures { failures_of result ≡ 0 }
@@ -37,6 +38,7 @@ impl<T> Stream<T> {
         }
     }
 
+    /// The reader or writer.
     pub fn into_inner(self) -> T
         ensures { result ≡ inner_of self }
     {

@@ -23,6 +23,10 @@ pub trait Source {
 
     /// Puts bytes into the front of `buf`, and answers how many: none only at the end, or where
     /// `buf` has no room.
+    ///
+    /// # Errors
+    ///
+    /// The read failed. No byte came, and the count of failures tells so.
     fn read(&mut self, buf: &mut [u8]) -> Result<usize, Failed>
         ensures within { IfOk result (λ n. n ≤ length buf.new) }
         ensures bytes { ReadConsumes (left self.old) (left self.new) result buf.new }
@@ -47,6 +51,10 @@ pub trait Sink {
     ghost failed_writes: { Self → ℕ };
 
     /// Takes bytes from the front of `buf`, at least one, and answers how many.
+    ///
+    /// # Errors
+    ///
+    /// The write failed. No byte was taken, and the count of failures tells so.
     fn write(&mut self, buf: &[u8]) -> Result<usize, Failed>
         requires { 0 < length buf.now }
         ensures some { IfOk result (λ n. 0 < n) }

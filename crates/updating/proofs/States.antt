@@ -3,7 +3,7 @@ use Rattle.std.proofs.Common.{◌≡◌, ◌<◌, ℕ, List, [], ◌∷◌, leng
 use Rattle.std.specs.Prelude.{IfSome}
 use Rattle.model.specs.Command.{Job}
 use Rattle.updating.specs.Outcomes.{Fate, outcome_of}
-use Rattle.updating.specs.State.{State, Pops, Puts, Goes, Takes, stays, pops, puts, gives_up, takes, after_taking}
+use Rattle.updating.specs.State.{State, Pops, Puts, Goes, Takes, stays, pops, puts, gives_up, after_taking}
 
 pub Goes-same : (max : ℕ) (s t u : State) → Goes max s t → u ≡ t → Goes max s u
 Goes-same max s t u g is = subst (Goes max s) (sym is) g
@@ -14,15 +14,11 @@ Goes-pops max s t u g p = subst (Goes max s) (sym p.popped) (pops s t p.job g p.
 pub Goes-puts : (max : ℕ) (s t u : State) → Goes max s t → Puts max t u → Goes max s u
 Goes-puts max s t u g p = subst (Goes max s) (sym p.put) (puts s t g p.some p.room)
 
-pub Goes-takes : (max : ℕ) (s t u : State) (session : ℕ) → Goes max s t → u ≡ after_taking t session → Goes max s u
-Goes-takes max s t u session g is = subst (Goes max s) (sym is) (takes s t session g)
-
 pub Goes-through : (max : ℕ) (s t u : State) → Goes max s t → Goes max t u → Goes max s u
 Goes-through max s t _ g (stays _) = g
 Goes-through max s t _ g (pops _ v job h few) = pops s v job (Goes-through max s t v g h) few
 Goes-through max s t _ g (puts _ v h some room) = puts s v (Goes-through max s t v g h) some room
 Goes-through max s t _ g (gives_up _ v w h up) = gives_up s v w (Goes-through max s t v g h) up
-Goes-through max s t _ g (takes _ v session h) = takes s v session (Goes-through max s t v g h)
 
 -- the outcome that is taken, where there is one, is the session's
 pub takes_own : (max session : ℕ) (s t u : State) (outcome : Option Fate) → Goes max s t → outcome ≡ outcome_of t.outcomes session → u ≡ after_taking t session → IfSome outcome (Takes max session s u)

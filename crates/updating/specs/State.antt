@@ -79,13 +79,18 @@ pub record GivesUpBatch (max_places : ℕ) (old new : State) : Type 0 where
 abbrev pub after_taking : State → ℕ → State
 after_taking s session = record s { outcomes = slice_set s.outcomes session None }
 
--- pops into a batch that may have one more, publications of a batch that is not empty and leaves no place missing, batches given up, and outcomes taken
+-- pops into a batch that may have one more, publications of a batch that is not empty and leaves no place missing, and batches given up
 pub data Goes (max_places : ℕ) : State → State → Type 0 where
   stays : (s : State) → Goes max_places s s
   pops : (s t : State) (job : Job) → Goes max_places s t → length t.batch < t.gather → Goes max_places s (after_pop t job)
   puts : (s t : State) → Goes max_places s t → 0 < length t.batch → length (newest t.published) + length t.batch ≤ max_places → Goes max_places s (after_put t)
   gives_up : (s t u : State) → Goes max_places s t → GivesUpBatch max_places t u → Goes max_places s u
-  takes : (s t : State) (session : ℕ) → Goes max_places s t → Goes max_places s (after_taking t session)
+
+-- such steps, at the end of which this session's outcome is taken, if there is one, and no other's
+pub record Serves (max_places session : ℕ) (old new : State) : Type 0 where
+  pub before : State
+  pub goes : Goes max_places old before
+  pub taken : new ≡ after_taking before session
 
 -- at the end of such steps this session's outcome is taken, which is this one
 pub record Takes (max_places session : ℕ) (old new : State) (outcome : Fate) : Type 0 where

@@ -17,6 +17,7 @@ pub enum Point {
 
 /// What is called at each point, with the number of the session whose call it is.
 pub trait Gate {
+    /// The call of this session is at the point, and goes on when this returns.
     fn at(&self, point: Point, session: u16);
 }
 

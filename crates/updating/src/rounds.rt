@@ -3,7 +3,7 @@ ghost use Rattle.std.specs.Prelude.{◌≡◌, ◌<◌, IfSome, MatchBool, vec_l
 ghost use Rattle.model.specs.History.{now};
 ghost use Rattle.turns.specs.Turns.{count};
 ghost use Rattle.updater.specs.Batches.{MayFollow};
-ghost use Rattle.updating.specs.State.{batch_after, outcomes_after, Goes, Pops, Takes};
+ghost use Rattle.updating.specs.State.{batch_after, outcomes_after, Goes, Pops, Serves, Takes};
 
 use crate::gate::{Gate, Point};
 use crate::locked::Core;
@@ -111,7 +111,7 @@ impl<R: Wait + Drop, J: Opening> Core<R, J> {
         session: u16,
         most: u16,
     ) -> Option<Outcome<J>>
-        ensures goes { Goes J.max_places self.old self.new }
+        ensures goes { Serves J.max_places session self.old self.new }
         ensures own { IfSome result (Takes J.max_places session self.old self.new) }
     {
         for _ in 0..most {
@@ -134,7 +134,7 @@ impl<R: Wait + Drop, J: Opening> Core<R, J> {
         ticket: &mut Ticket<J>,
         most: u16,
     ) -> Option<Outcome<J>>
-        ensures goes { Goes J.max_places self.old self.new }
+        ensures goes { Serves J.max_places ticket.old.number self.old self.new }
         ensures own { IfSome result (Takes J.max_places ticket.old.number self.old self.new) }
         ensures ticket { ticket.new ≡ record ticket.old { gone = count ticket.old.number self.new.popped } }
         ensures gone { IfSome result (λ _. ticket.new.gone ≡ ticket.new.pushed) }

@@ -98,6 +98,7 @@ impl<R: Wait + Drop, J: Opening> Core<R, J> {
         ensures behind { (result ≡ Err Behind) ↔ (HasPlace J.max_places self.old × (is_past copy.old self.old ≡ false)
             × (slack < behind_by copy.old self.old)) }
         ensures visits { result ≢ Err Full → copy.new.visited ≤ slack }
+        ensures no_visits { result ≡ Err Full → copy.new ≡ copy.old }
         ensures copy { copy.new ≡ record copy.old { visited = copy.new.visited } }
     {
         if self.room() == 0 {
