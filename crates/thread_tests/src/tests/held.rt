@@ -46,9 +46,10 @@ struct Tally {
     held: AtomicU64,
     pushed: AtomicU64,
     told: AtomicU64,
-    /// Of each place of the first publication, 2 to its power; and of the second one.
+    /// Of each place of the first publication, 2 to its power; of the second one, and of the third.
     first: AtomicU64,
     second: AtomicU64,
+    third: AtomicU64,
     seen: AtomicU64,
     full: AtomicU64,
     busy: AtomicU64,
@@ -57,12 +58,13 @@ struct Tally {
     failed: AtomicU64,
 }
 
-/// What a tally comes to: the sums over the places of two publications, the places seen by looks, and
+/// What a tally comes to: the sums over the places of three publications, the places seen by looks, and
 /// how many faults and late waits there were.
 #[derive(Debug, Clone, Copy, PartialEq, Eq)]
 struct Sums {
     first: u64,
     second: u64,
+    third: u64,
     seen: u64,
     full: u64,
     busy: u64,
@@ -120,6 +122,7 @@ impl Tally {
             told: AtomicU64::new(0),
             first: AtomicU64::new(0),
             second: AtomicU64::new(0),
+            third: AtomicU64::new(0),
             seen: AtomicU64::new(0),
             full: AtomicU64::new(0),
             busy: AtomicU64::new(0),
@@ -132,6 +135,7 @@ impl Tally {
         Sums {
             first: load(&self.first),
             second: load(&self.second),
+            third: load(&self.third),
             seen: load(&self.seen),
             full: load(&self.full),
             busy: load(&self.busy),
@@ -174,6 +178,7 @@ impl Tally {
         match publication {
             1 => add(&self.first, power),
             2 => add(&self.second, power),
+            3 => add(&self.third, power),
             _ => add(&self.failed, 1),
         }
     }
@@ -319,6 +324,7 @@ const GATHERED: Plan = Plan {
 const NOTHING: Sums = Sums {
     first: 0,
     second: 0,
+    third: 0,
     seen: 0,
     full: 0,
     busy: 0,
@@ -334,6 +340,25 @@ fn waiting_writes_are_one_publication(rt: HostRuntime) -> Result<(), Fail> {
         ..NOTHING
     };
     assert_eq!(rt; outcome(&rt, rt.alloc(), GATHERED)?, (sums, 5));
+    Ok(())
+}
+
+#[test]
+fn a_batch_has_no_more_jobs_than_it_may(rt: HostRuntime) -> Result<(), Fail> {
+    let plan = Plan {
+        limits: Limits {
+            gather: 3,
+            ..GATHERED.limits
+        },
+        ..GATHERED
+    };
+    let sums = Sums {
+        first: 2,
+        second: 28,
+        third: 32,
+        ..NOTHING
+    };
+    assert_eq!(rt; outcome(&rt, rt.alloc(), plan)?, (sums, 5));
     Ok(())
 }
 
