@@ -23,11 +23,11 @@ const NOTHING_READ: Ended = Ended {
 
 /// A session that is lent to a connection.
 #[derive(Drop)]
-struct Front<'s, S> {
+struct Lent<'s, S> {
     session: &'s mut S,
 }
 
-impl<'s, 'c, X, S: Calls<X>> Service<Setting<'c, X>> for Front<'s, S> {
+impl<'s, 'c, X, S: Calls<X>> Service<Setting<'c, X>> for Lent<'s, S> {
     // It stays the same session.
     ghost answers = { λ _ old turn new.
         Answers (S.known old.session.now) turn (S.known new.session.now)
@@ -92,7 +92,7 @@ pub fn serve<R: Source, W: Sink, X, S: Calls<X>>(
 }
 
 /// Serves a connection in a window that served others before.
-pub fn serve_in<R: Source, W: Sink, X, S: Calls<X>>(
+pub(crate) fn serve_in<R: Source, W: Sink, X, S: Calls<X>>(
     window: &mut Window,
     reader: &mut R,
     writer: &mut W,
@@ -114,8 +114,8 @@ pub fn serve_in<R: Source, W: Sink, X, S: Calls<X>>(
         })
         (S.known session.old) (S.known session.new) result }
 {
-    let mut front = Front { session };
-    serve_lent(window, reader, writer, &mut front, setting)
+    let mut lent = Lent { session };
+    serve_lent(window, reader, writer, &mut lent, setting)
 }
 
 /// Serves by a session that is lent.
@@ -123,10 +123,10 @@ fn serve_lent<R: Source, W: Sink, X, S: Calls<X>>(
     window: &mut Window,
     reader: &mut R,
     writer: &mut W,
-    front: &mut Front<'_, S>,
+    lent: &mut Lent<'_, S>,
     setting: &Setting<'_, X>,
 ) -> Ended
-    ensures same { front.new.session.ghost_name ≡ front.old.session.ghost_name }
+    ensures same { lent.new.session.ghost_name ≡ lent.old.session.ghost_name }
     ensures connection { IsConnection
         (record {
           left = R.left reader.old;
@@ -140,9 +140,9 @@ fn serve_lent<R: Source, W: Sink, X, S: Calls<X>>(
           taken = W.taken writer.new;
           failed_writes = W.failed_writes writer.new;
         })
-        (S.known front.old.session.now) (S.known front.new.session.now) result }
+        (S.known lent.old.session.now) (S.known lent.new.session.now) result }
 {
-    let ended = serving::serve(window, reader, writer, front, setting);
-    let _place = front.session.place();
+    let ended = serving::serve(window, reader, writer, lent, setting);
+    let _place = lent.session.place();
     ended
 }

@@ -24,7 +24,7 @@ mod turn;
 mod writing;
 
 pub use calls::{CallFault, Calls, Viewer};
-pub use connection::{serve, serve_in};
+pub use connection::serve;
 pub use dumping::run_dump;
 pub use listening::listen;
 pub use once::run_once;
