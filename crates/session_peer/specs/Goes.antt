@@ -12,6 +12,8 @@ use Rattle.replicator.specs.Call as call
 use Rattle.replicator.specs.declared.checkpoint.Checkpoint.{Checkpoint}
 use Rattle.replicator.specs.declared.fault.PeerFault.{PeerFault}
 use Rattle.replicator.specs.declared.fault.PeerFault.TheVariants as fault
+use Rattle.http_front.specs.declared.calls.CallFault.{CallFault}
+use Rattle.http_front.specs.declared.calls.CallFault.TheVariants as refused
 use Rattle.http_front.specs.Known.{Known, history_of}
 use Rattle.http_front.specs.Calls.{Looks, WritesCall}
 use Rattle.session_peer.specs.Checkpoints.{checkpoint_in, past_numbers}
@@ -35,6 +37,11 @@ IsFailure fault.Failed = ⊤
 IsFailure fault.Memory = ⊤
 IsFailure fault.Unreadable = ⊥
 IsFailure fault.Refused = ⊥
+
+-- why a call of an end has no answer, where that of its session has none
+abbrev pub fault_of : CallFault → PeerFault
+fault_of refused.Memory = fault.Memory
+fault_of (refused.Unavailable reason) = fault.Failed
 
 -- it left no entry of the session
 abbrev pub Fails : Known → PeerFault → Known → Type 0

@@ -4,7 +4,7 @@ ghost use Rattle.model.specs.Command as model;
 ghost use Rattle.http_front.specs.Calls.{Looks, WritesCall};
 ghost use Rattle.http_front.specs.Known.{HasEntryAt};
 ghost use Rattle.replicator.specs.Call.{CountsFailed};
-ghost use Rattle.session_peer.specs.Goes.{Fails, Goes, IsFailure};
+ghost use Rattle.session_peer.specs.Goes.{Fails, Goes, IsFailure, fault_of};
 
 use crate::checkpoints::checkpoint_of;
 use crate::shown::revisions;
@@ -76,7 +76,8 @@ impl<'c, X, S: Viewer> SessionPeer<'c, X, S> {
     fn fail(&mut self, fault: CallFault) -> PeerFault
         ensures known { self.new.known ≡ self.old.known }
         ensures failures { CountsFailed {A = ⊤} self.old.failures self.new.failures (Err result) }
-        ensures fault { IsFailure result }
+        ensures fault { result ≡ fault_of fault }
+        ensures failure { IsFailure result }
     {
         match fault {
             CallFault::Memory => PeerFault::Memory,
