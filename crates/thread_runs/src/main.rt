@@ -7,7 +7,7 @@
 //! `thread_runs refreshes THREADS TIMES` without. `thread_runs writes SESSIONS GATHER TIMES` has as many
 //! threads write so many documents each, of which so many may be one publication. The last line is how
 //! many entries the history has in the end. The status is 1 where memory was refused before a session
-//! wrote or compacted, and 2 for other words.
+//! wrote or compacted, or one of many calls was refused, and 2 for other words.
 #![tactic(auto)]
 
 mod plan;
@@ -19,7 +19,7 @@ use crate::work::Told;
 use std::process::ExitCode;
 use std::{env, io};
 
-/// The status of a run that was refused memory.
+/// The status of a run that was refused memory, or one of many calls.
 const REFUSED: u8 = 1;
 
 const UNREADABLE_WORDS: u8 = 2;

@@ -8,6 +8,7 @@ use sessions::Session;
 use std::alloc::Global;
 use std::marker::Brand;
 use std::sync::Wait;
+use std::sync::atomic::{AtomicU64, Ordering};
 use std::thread;
 use std::thread::Threads;
 use updating::{Core, NoGate, Opening};
@@ -21,7 +22,7 @@ pub(crate) struct Outcome {
     pub(crate) entries: u64,
 }
 
-/// Does what the plan says, if memory is not refused before.
+/// Does what the plan says, if memory is not refused before, nor a call of many.
 pub(crate) fn run<R: Threads + Wait + Sync>(rt: &R, alloc: Global, plan: Plan) -> Option<Outcome> {
     let Ok(opened) = Opened::new(alloc, plan.config) else {
         return None;
@@ -66,34 +67,42 @@ fn all_work<J: Opening + Send + Sync, R: Threads + Wait + Sync>(
         Work::Looks(_) | Work::Refreshes(_) => {
             write(rt, alloc, first, "a")?;
         }
-        Work::Writes(_) => {}
+        Work::Writes(_) => {
+            // From the first thread on the C library's heap takes locks, as in a server. So it does where
+            // one session writes, too.
+            let ((), ()) = thread::join(rt, || (), || ());
+        }
     }
     let threads = sessions.len().max(1);
+    let refused = AtomicU64::new(0);
     thread::for_each_mut(
         rt,
         sessions,
         threads,
         &|index, session| {
-            part_of(rt, alloc, session, index, work);
+            if part_of(rt, alloc, session, index, work).is_none() {
+                refused.fetch_add(1, Ordering::Relaxed);
+            }
         },
     );
+    if refused.load(Ordering::Relaxed) > 0 {
+        return None;
+    }
     Some([None, None])
 }
 
-/// Does the part of one session.
+/// Does the part of one session, unless a call of it is refused.
 fn part_of<R: Wait, C: Wait + Drop, J: Opening>(
     rt: &R,
     alloc: Global,
     session: &mut Session<Core<C, J>, J, NoGate>,
     index: usize,
     work: Work,
-) {
+) -> Option<()> {
     match work {
-        Work::Write | Work::Compact => {}
+        Work::Write | Work::Compact => Some(()),
         Work::Looks(times) => look_often(session, times),
         Work::Refreshes(times) => refresh_often(session, times),
-        Work::Writes(times) => {
-            let _all = write_all(rt, alloc, session, index, times);
-        }
+        Work::Writes(times) => write_all(rt, alloc, session, index, times),
     }
 }

@@ -103,7 +103,7 @@ fn scattered(index: usize, number: u32) -> u32 {
     first.wrapping_add(own).wrapping_mul(SCATTER)
 }
 
-/// Writes so many documents of its own.
+/// Writes so many documents of its own, unless one is refused.
 pub(crate) fn write_all<R: Wait, C: Wait + Drop, J: Opening>(
     rt: &R,
     alloc: Global,
@@ -113,21 +113,31 @@ pub(crate) fn write_all<R: Wait, C: Wait + Drop, J: Opening>(
 ) -> Option<()> {
     for number in 0..times {
         let id = format!(in alloc; "{}", scattered(index, number)).ok()?;
-        let _told = write(rt, alloc, session, id.as_str())?;
+        let Told::Receipt { .. } = write(rt, alloc, session, id.as_str())? else {
+            return None;
+        };
     }
     Some(())
 }
 
-/// Sees so often what is published.
-pub(crate) fn refresh_often<C: Drop, J: Opening>(session: &mut Session<C, J, NoGate>, times: u32) {
+/// Sees so often what is published, unless that is refused.
+pub(crate) fn refresh_often<C: Drop, J: Opening>(
+    session: &mut Session<C, J, NoGate>,
+    times: u32,
+) -> Option<()> {
     for _ in 0..times {
-        let _seen = session.refresh();
+        session.refresh().ok()?;
     }
+    Some(())
 }
 
-/// Looks so often.
-pub(crate) fn look_often<C: Drop, J: Opening>(session: &mut Session<C, J, NoGate>, times: u32) {
+/// Looks so often, unless that is refused.
+pub(crate) fn look_often<C: Drop, J: Opening>(
+    session: &mut Session<C, J, NoGate>,
+    times: u32,
+) -> Option<()> {
     for _ in 0..times {
-        let _seen = session.look();
+        let _snapshot = session.look().ok()?;
     }
+    Some(())
 }
