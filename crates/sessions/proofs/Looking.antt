@@ -45,6 +45,7 @@ writes_then a b c command receipt p w = record {
   only = w.only;
   first = w.first;
   bound = w.bound;
+  counted = w.counted;
   same = w.same ∙ ap (λ (k : Known). record k { published = c.published; receipts = c.receipts; pushes = c.pushes }) p.same;
 }
 
