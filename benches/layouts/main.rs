@@ -6,30 +6,16 @@
 //! copied and whose other parts are shared by counts of owners. Nothing is inserted or removed, so each
 //! does less than a real map would. The last is Rust's `BTreeMap`, which keeps no older version.
 
+#[path = "../clock.rs"]
+mod clock;
+
+use clock::used;
+use std::borrow::Borrow;
 use std::cmp::Ordering;
 use std::collections::BTreeMap;
 use std::hint::black_box;
 use std::sync::Arc;
 use std::time::Duration;
-
-unsafe extern "C" {
-    fn clock_gettime(clock: i32, time: &mut Timespec) -> i32;
-}
-
-#[repr(C)]
-#[derive(Default)]
-struct Timespec {
-    seconds: i64,
-    nanoseconds: i64,
-}
-
-/// The processor time that this thread has used, so that other work on the machine counts little.
-fn used() -> Duration {
-    const THREAD_CPUTIME: i32 = 3;
-    let mut time = Timespec::default();
-    assert_eq!(unsafe { clock_gettime(THREAD_CPUTIME, &mut time) }, 0);
-    Duration::new(time.seconds as u64, time.nanoseconds as u32)
-}
 
 /// Numbers that look random, the same in each run.
 struct Random(u64);
@@ -72,20 +58,20 @@ trait Layout: Sized {
     fn with(self, id: &Id, document: Arc<Document>) -> Self;
 }
 
-/// A binary tree whose nodes share their entries.
+/// A binary tree whose nodes hold their entries, or share them where `E` is an `Arc`.
 #[derive(Clone)]
-struct Shared(Option<Arc<SharedNode>>);
+struct Binary<E>(Option<Arc<Node<E>>>);
 
-struct SharedNode {
-    entry: Arc<Pair>,
-    left: Shared,
-    right: Shared,
+struct Node<E> {
+    entry: E,
+    left: Binary<E>,
+    right: Binary<E>,
     _size_and_height: [u64; 2],
 }
 
-impl Shared {
-    fn node(entry: Arc<Pair>, left: Shared, right: Shared) -> Shared {
-        Shared(Some(Arc::new(SharedNode {
+impl<E: Clone + Borrow<Pair>> Binary<E> {
+    fn node(entry: E, left: Binary<E>, right: Binary<E>) -> Binary<E> {
+        Binary(Some(Arc::new(Node {
             entry,
             left,
             right,
@@ -93,96 +79,44 @@ impl Shared {
         })))
     }
 
-    fn copied(&self, id: &Id, entry: Arc<Pair>) -> Shared {
-        let node = self.0.as_ref().unwrap();
+    fn root(&self) -> &Node<E> {
+        self.0.as_ref().unwrap()
+    }
+
+    fn copied(&self, id: &Id, entry: E) -> Binary<E> {
+        let node = self.root();
         let own = || node.entry.clone();
-        match id.cmp(&node.entry.0) {
-            Ordering::Less => Shared::node(own(), node.left.copied(id, entry), node.right.clone()),
-            Ordering::Greater => Shared::node(own(), node.left.clone(), node.right.copied(id, entry)),
-            Ordering::Equal => Shared::node(entry, node.left.clone(), node.right.clone()),
+        match id.cmp(&node.entry.borrow().0) {
+            Ordering::Less => Binary::node(own(), node.left.copied(id, entry), node.right.clone()),
+            Ordering::Greater => Binary::node(own(), node.left.clone(), node.right.copied(id, entry)),
+            Ordering::Equal => Binary::node(entry, node.left.clone(), node.right.clone()),
         }
     }
 }
 
-impl Layout for Shared {
-    fn of(pairs: &[Pair]) -> Shared {
+impl<E: Clone + Borrow<Pair> + From<Pair>> Layout for Binary<E> {
+    fn of(pairs: &[Pair]) -> Binary<E> {
         let Some(middle) = pairs.get(pairs.len() / 2) else {
-            return Shared(None);
+            return Binary(None);
         };
         let (left, right) = pairs.split_at(pairs.len() / 2);
-        Shared::node(Arc::new(middle.clone()), Shared::of(left), Shared::of(&right[1..]))
+        Binary::node(E::from(middle.clone()), Binary::of(left), Binary::of(&right[1..]))
     }
 
     fn get(&self, id: &Id) -> &Arc<Document> {
-        let mut node = self.0.as_ref().unwrap();
+        let mut node = self.root();
         loop {
-            node = match id.cmp(&node.entry.0) {
-                Ordering::Less => node.left.0.as_ref().unwrap(),
-                Ordering::Greater => node.right.0.as_ref().unwrap(),
-                Ordering::Equal => return &node.entry.1,
+            let pair: &Pair = node.entry.borrow();
+            node = match id.cmp(&pair.0) {
+                Ordering::Less => node.left.root(),
+                Ordering::Greater => node.right.root(),
+                Ordering::Equal => return &pair.1,
             }
         }
     }
 
-    fn with(self, id: &Id, document: Arc<Document>) -> Shared {
-        self.copied(id, Arc::new((*id, document)))
-    }
-}
-
-/// A binary tree whose nodes hold their entries.
-#[derive(Clone)]
-struct Inline(Option<Arc<InlineNode>>);
-
-struct InlineNode {
-    entry: Pair,
-    left: Inline,
-    right: Inline,
-    _size_and_height: [u64; 2],
-}
-
-impl Inline {
-    fn node(entry: Pair, left: Inline, right: Inline) -> Inline {
-        Inline(Some(Arc::new(InlineNode {
-            entry,
-            left,
-            right,
-            _size_and_height: [0; 2],
-        })))
-    }
-
-    fn copied(&self, id: &Id, entry: Pair) -> Inline {
-        let node = self.0.as_ref().unwrap();
-        let own = || node.entry.clone();
-        match id.cmp(&node.entry.0) {
-            Ordering::Less => Inline::node(own(), node.left.copied(id, entry), node.right.clone()),
-            Ordering::Greater => Inline::node(own(), node.left.clone(), node.right.copied(id, entry)),
-            Ordering::Equal => Inline::node(entry, node.left.clone(), node.right.clone()),
-        }
-    }
-}
-
-impl Layout for Inline {
-    fn of(pairs: &[Pair]) -> Inline {
-        let Some(middle) = pairs.get(pairs.len() / 2) else {
-            return Inline(None);
-        };
-        let (left, right) = pairs.split_at(pairs.len() / 2);
-        Inline::node(middle.clone(), Inline::of(left), Inline::of(&right[1..]))
-    }
-
-    fn get(&self, id: &Id) -> &Arc<Document> {
-        let mut node = self.0.as_ref().unwrap();
-        loop {
-            node = match id.cmp(&node.entry.0) {
-                Ordering::Less => node.left.0.as_ref().unwrap(),
-                Ordering::Greater => node.right.0.as_ref().unwrap(),
-                Ordering::Equal => return &node.entry.1,
-            }
-        }
-    }
-
-    fn with(self, id: &Id, document: Arc<Document>) -> Inline {
-        self.copied(id, (*id, document))
+    fn with(self, id: &Id, document: Arc<Document>) -> Binary<E> {
+        self.copied(id, E::from((*id, document)))
     }
 }
 
@@ -338,8 +272,8 @@ fn print<M: Layout>(name: &str) {
 
 fn main() {
     println!("microseconds, by documents      1,000  10,000 100,000   growth");
-    print::<Shared>("binary, entries shared");
-    print::<Inline>("binary, entries in nodes");
+    print::<Binary<Arc<Pair>>>("binary, entries shared");
+    print::<Binary<Pair>>("binary, entries in nodes");
     print::<Wide>("nodes of 12");
     print::<BTreeMap<Id, Arc<Document>>>("BTreeMap, no older versions");
 }

@@ -3,12 +3,15 @@
 //! The library takes its memory by `rattle_alloc` and `rattle_dealloc` below, so this program
 //! counts its growths.
 
+#[path = "../clock.rs"]
+mod clock;
+
+use clock::used;
 use std::collections::BTreeMap;
 use std::ffi::c_void;
 use std::hint::black_box;
 use std::ptr::NonNull;
 use std::sync::atomic::{AtomicU64, Ordering::Relaxed};
-use std::time::Duration;
 
 unsafe extern "C" {
     fn shared_map_insert(keys: *const u64, len: usize) -> u64;
@@ -24,22 +27,6 @@ unsafe extern "C" {
 
     fn malloc(size: usize) -> *mut c_void;
     fn free(block: *mut c_void);
-    fn clock_gettime(clock: i32, time: &mut Timespec) -> i32;
-}
-
-#[repr(C)]
-#[derive(Default)]
-struct Timespec {
-    seconds: i64,
-    nanoseconds: i64,
-}
-
-/// The processor time that this thread has used, so that other work on the machine counts little.
-fn used() -> Duration {
-    const THREAD_CPUTIME: i32 = 3;
-    let mut time = Timespec::default();
-    assert_eq!(unsafe { clock_gettime(THREAD_CPUTIME, &mut time) }, 0);
-    Duration::new(time.seconds as u64, time.nanoseconds as u32)
 }
 
 static GROWTHS: AtomicU64 = AtomicU64::new(0);
