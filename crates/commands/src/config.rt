@@ -76,6 +76,7 @@ impl Config {
         Some(Config { limits })
     }
 
+    /// The numbers, each in its range.
     pub fn limits(self) -> Limits
         ensures limits { config_of result ≡ self }
         ensures in_range { IsConfig self }

@@ -60,6 +60,7 @@ impl Merge {
         })
     }
 
+    /// The document's id.
     pub fn id(&self) -> &DocId
         ensures id { result.now ≡ self.now.id }
     {
@@ -82,6 +83,7 @@ impl Merge {
         self.deleted
     }
 
+    /// The members of the revision.
     pub fn body(&self) -> &Arc<Body>
         ensures body { arc_value result.now ≡ self.now.body }
     {

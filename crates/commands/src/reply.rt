@@ -42,12 +42,14 @@ impl Model for Reply {
 }
 
 impl Reply {
+    /// The reply of a kind.
     pub fn new(kind: ReplyKind) -> Reply
         ensures reply { result ≡ reply_of kind }
     {
         Reply { kind }
     }
 
+    /// What is replied.
     pub fn kind(&self) -> &ReplyKind
         ensures kind { reply_of result.now ≡ self.now }
     {

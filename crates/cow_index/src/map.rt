@@ -67,6 +67,7 @@ impl<K: IndexKey, V: Drop> CowMap<K, V> {
         self.root.len()
     }
 
+    /// Whether the map holds no key.
     pub fn is_empty(&self) -> bool
         ensures { IsTrue result ↔ (self.now.entries ≡ []) }
     {

@@ -20,6 +20,7 @@ impl<T> Model for Shared<T> {
 }
 
 impl<T: Drop> Shared<T> {
+    /// The value, in a block of its own, with one owner.
     pub fn new(alloc: Global, value: T) -> Result<Self, AllocError>
         ensures { IfOk result (λ s. s ≡ value) }
     {
@@ -38,6 +39,7 @@ impl<T: Drop> Shared<T> {
         })
     }
 
+    /// The value that the owners share.
     pub fn get(&self) -> &T
         ensures { result.now ≡ self.now }
     {

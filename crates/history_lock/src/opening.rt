@@ -81,13 +81,16 @@ fn show_twice<R: Wait + Drop, J: Opening>(core: &mut Core<R, J>) -> bool {
 fn share<R: Wait + Drop, J: Opening, G: Gate + Drop>(
     alloc: Global,
     config: Config,
-    shared: Shared<Core<R, J>, J, G>,
+    line: Line<J>,
+    gate: G,
+    core: Core<R, J>,
     first: Published<J>,
     ends: Vec<Ends<J>>,
 ) -> Result<(Master<Core<R, J>, J, G>, Vec<Session<Core<R, J>, J, G>>), AllocError>
     requires sessions { config.sessions ≡ J.sessions }
     ensures sessions { IfOk result (λ r. r.1.items ≡ map fresh ends.items) }
 {
+    let shared = Shared::new(alloc, line, gate, config, core)?;
     let shared = Arc::new(alloc, shared)?;
     let sessions = all_sessions(alloc, ends, &shared)?;
     let master = Master::new(alloc, shared, first, config.limits().sessions)?;
@@ -122,8 +125,7 @@ pub fn open<R: Wait + Drop, J: Opening, G: Gate + Drop>(
     let (book, front) = book.named::<J>();
     let (line, clerk) = queue.named::<J>();
     let (core, first, ends) = begin(alloc, config, rt, book, front, &line, clerk)?;
-    let shared = Shared::new(line, gate, config, core);
-    match share(alloc, config, shared, first, ends) {
+    match share(alloc, config, line, gate, core, first, ends) {
         Ok(made) => Ok(made),
         Err(_) => Err(Fault::Memory),
     }

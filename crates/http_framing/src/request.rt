@@ -57,6 +57,7 @@ impl<'a> Request<'a> {
         self.target
     }
 
+    /// The body, which is empty where the request has none.
     pub fn body(&self) -> &'a [u8]
         ensures { result.now ≡ self.now.body }
     {

@@ -50,12 +50,14 @@ impl Model for Answer {
 }
 
 impl Answer {
+    /// The answer of a kind.
     pub fn new(kind: AnswerKind) -> Answer
         ensures answer { result ≡ answer_of kind }
     {
         Answer { kind }
     }
 
+    /// What is answered.
     pub fn kind(&self) -> &AnswerKind
         ensures kind { answer_of result.now ≡ self.now }
     {

@@ -55,12 +55,14 @@ impl Model for Query {
 }
 
 impl Query {
+    /// The query of a kind.
     pub fn new(kind: QueryKind) -> Query
         ensures query { result ≡ query_of kind }
     {
         Query { kind }
     }
 
+    /// What is asked.
     pub fn kind(&self) -> &QueryKind
         ensures kind { query_of result.now ≡ self.now }
     {

@@ -22,6 +22,7 @@ pub struct Node {
 }
 
 impl Node {
+    /// A revision, which is nobody's parent yet.
     pub fn new(rev: RevId, parent: Option<RevId>, deleted: bool, body: Option<Arc<Body>>) -> Node
         ensures { entry_of result ≡ (rev, record { parent = parent; deleted = deleted; body = option_map arc_value body }) }
     {

@@ -7,8 +7,8 @@ use crate::node::Node;
 use std::alloc::{AllocError, Global};
 use std::sync::Arc;
 
-/// The most nodes that are kept together: a write copies the nodes that stand beside what it changes, and the counts of
-/// owners of all others at once.
+/// The most nodes that are kept together, in a piece: a write copies the nodes of the piece that it changes, and raises one
+/// count of owners for each other piece.
 pub(crate) const MOST: usize = 64;
 
 /// Nodes in ascending order.

@@ -58,6 +58,7 @@ impl Window {
         self.end = 0;
     }
 
+    /// The bytes that were read and not yet taken, in their order.
     pub fn bytes(&self) -> &[u8]
         ensures { result.now ≡ self.now.bytes }
     {

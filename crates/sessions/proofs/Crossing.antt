@@ -4,24 +4,31 @@ use denote.Param.Send.{IsSend, IsSync}
 use Rattle.crossbeam_utils.proofs.cache_padded.CachePadded.TheSendSync as CachePadded
 use Rattle.publications.proofs.Crossing as publications
 use Rattle.publications.specs.declared.front.Naming as Naming
+use Rattle.sessions.specs.contracts.mailboxes.Mailboxes as Mailboxes
 use Rattle.sessions.specs.contracts.session.Session as Session
 use Rattle.sessions.specs.contracts.shared.Shared as Shared
 use Rattle.snapshots.proofs.Crossing as versions
 use Rattle.turns.proofs.Crossing as turns
 use Rattle.turns.specs.declared.line.Queued as Queued
-use Rattle.updating.proofs.Crossing.{core-send}
+use Rattle.updating.proofs.Crossing.{core-send, told-send}
 use Rattle.updating.specs.contracts.locked.Core as Core
 use Rattle.updating.specs.declared.naming.Opening as Opening
 
 ruleset parts = (CachePadded.the_field_send, publications.crosses, turns.crosses, versions.crosses)
 
 module _ (J : RattleType) (q : Queued.Ghosts J.Denot) (o : Opening.Ghosts J.Denot) (n : Naming.Ghosts J.Denot) where
-  module _ (C G : RattleType) where
-    shared-send : IsSend C → IsSend G → IsSend (Shared.the_row C J G q)
-    shared-send c g = search parts depth 60
+  boxes-send : IsSend (Mailboxes.the_field J o n q).row
+  boxes-send = search (told-send, parts) depth 60
 
-    shared-sync : IsSend C → IsSync G → IsSync (Shared.the_row C J G q)
-    shared-sync c g = search parts depth 60
+  boxes-sync : IsSync (Mailboxes.the_field J o n q).row
+  boxes-sync = search (told-send, parts) depth 60
+
+  module _ (C G : RattleType) where
+    shared-send : IsSend C → IsSend G → IsSend (Shared.the_row C J G q o n)
+    shared-send c g = search (boxes-send, parts) depth 60
+
+    shared-sync : IsSend C → IsSync G → IsSync (Shared.the_row C J G q o n)
+    shared-sync c g = search (boxes-sync, parts) depth 60
 
     over-send : IsSend C → IsSend G → IsSync G → IsSend (Session.the_row C J G q o n)
     over-send c g h = search (shared-send, shared-sync, parts) depth 60

@@ -8,11 +8,10 @@ use crate::fault::Fault;
 use crate::shared::Shared;
 use compactor::Compaction;
 use snapshots::Version;
-use turns::Queued;
-use updating::{Gate, Point};
+use updating::{Gate, Opening, Point};
 
 /// Makes the whole copy, slice by slice.
-pub(crate) fn slice_all<C: Drop, J: Queued, G: Gate + Drop>(
+pub(crate) fn slice_all<C: Drop, J: Opening, G: Gate + Drop>(
     shared: &Shared<C, J, G>,
     session: u16,
     copy: &mut Compaction,

@@ -5,6 +5,7 @@ mod compacting;
 mod copying;
 mod ended;
 mod fault;
+mod mailboxes;
 mod receipt;
 mod session;
 mod shared;

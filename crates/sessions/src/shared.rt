@@ -1,27 +1,40 @@
 //! What all sessions of a database share.
 
+use crate::mailboxes::Mailboxes;
 use commands::Config;
+use std::alloc::{AllocError, Global};
 use std::sync::Mutex;
-use turns::{Line, Queued};
+use turns::Line;
+use updating::Opening;
 
-/// The queue of jobs, the gate, the configuration, and behind its lock what the updater holds, `C`.
+/// The queue of jobs, the gate, the configuration, behind its lock what the updater holds, `C`, and where the
+/// sessions are told what became of their jobs.
 #[derive(Drop)]
-pub struct Shared<C: Drop, J: Queued, G: Drop> {
+pub struct Shared<C: Drop, J: Opening, G: Drop> {
     pub(crate) line: Line<J>,
     pub(crate) gate: G,
     pub(crate) config: Config,
     pub(crate) core: Mutex<C>,
+    pub(crate) mailboxes: Mailboxes<J>,
 }
 
-impl<C: Drop, J: Queued, G: Drop> Shared<C, J, G> {
-    /// What sessions share, with the updater's state behind its lock.
-    pub fn new(line: Line<J>, gate: G, config: Config, core: C) -> Shared<C, J, G> {
-        Shared {
+impl<C: Drop, J: Opening, G: Drop> Shared<C, J, G> {
+    /// What the sessions of a configuration share, with the updater's state behind its lock.
+    pub fn new(
+        alloc: Global,
+        line: Line<J>,
+        gate: G,
+        config: Config,
+        core: C,
+    ) -> Result<Shared<C, J, G>, AllocError> {
+        let mailboxes = Mailboxes::new(alloc, config.limits().sessions)?;
+        Ok(Shared {
             line,
             gate,
             config,
             core: Mutex::new(core),
-        }
+            mailboxes,
+        })
     }
 
     /// What the updater holds, behind its lock.

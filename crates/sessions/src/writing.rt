@@ -15,8 +15,11 @@ use commands::{Command, Copied, Job, Seat};
 use publications::Published;
 use snapshots::Version;
 use std::sync::Wait;
-use turns::Ticket;
-use updating::{Answer, Core, Filled, Gate, Opening, Outcome, OutcomeKind, Point};
+use std::thread;
+use updating::{Answer, Core, Filled, Gate, Opening, Outcome, OutcomeKind, Point, Told};
+
+/// How often a session that waits for its outcome looks for it and yields, before it sleeps.
+const YIELDS: u32 = 1_000;
 
 impl<R: Wait + Drop, J: Opening, G: Gate + Drop> Session<Core<R, J>, J, G> {
     /// Writes a command, which is no compaction. It waits for the updater's lock, and under it publishes
@@ -69,31 +72,58 @@ impl<R: Wait + Drop, J: Opening, G: Gate + Drop> Session<Core<R, J>, J, G> {
         true
     }
 
-    /// Takes the lock, and publishes batches until there is an outcome.
+    /// Waits until the session is told what became of its job.
     fn wait_for_outcome<W: Wait>(&mut self, rt: &W) -> Option<Outcome<J>>
         ensures some { IfSome result (λ _. self.new ≡ record self.old { lost = false }) }
         ensures none { IfNone result (self.new ≡ record self.old { lost = true }) }
     {
         self.lost = true;
         self.shared.gate.at(Point::Pushed, self.number);
-        let outcome = serve(rt, &self.shared, &mut self.ticket)?;
+        let Told { outcome, word } = await_told(rt, &self.shared, self.number)?;
+        if !self.ticket.hear(&self.shared.line, word) {
+            return None;
+        }
         self.lost = false;
         Some(outcome)
     }
 }
 
-/// Rounds under the lock.
+/// Waits until the session is told what became of its job: by who holds the lock, in its mailbox, or by itself,
+/// where it gets the lock. It yields for a while, and then it sleeps until it gets the lock.
+fn await_told<R: Wait + Drop, J: Opening, G: Gate + Drop, W: Wait>(
+    rt: &W,
+    shared: &Shared<Core<R, J>, J, G>,
+    session: u16,
+) -> Option<Told<J>> {
+    for _ in 0..YIELDS {
+        if let Some(told) = shared.mailboxes.take(session) {
+            return Some(told);
+        }
+        if let Some(mut core) = shared.core.try_lock() {
+            return serve(rt, shared, &mut core, session);
+        }
+        thread::yield_now();
+    }
+    let mut core = shared.core.lock(rt);
+    serve(rt, shared, &mut core, session)
+}
+
+/// Does the updater's work until the session is told, unless it was before, and tells the others.
 fn serve<R: Wait + Drop, J: Opening, G: Gate + Drop, W: Wait>(
     rt: &W,
     shared: &Shared<Core<R, J>, J, G>,
-    ticket: &mut Ticket<J>,
-) -> Option<Outcome<J>>
-    ensures ticket { ticket.new ≡ record ticket.old { gone = ticket.new.gone } }
-    ensures gone { IfSome result (λ _. ticket.new.gone ≡ ticket.new.pushed) }
-{
-    let rounds = shared.config.limits().queue;
-    let mut core = shared.core.lock(rt);
-    core.serve(rt, &shared.line, &shared.gate, ticket, rounds)
+    core: &mut Core<R, J>,
+    session: u16,
+) -> Option<Told<J>> {
+    if let Some(told) = shared.mailboxes.take(session) {
+        return Some(told);
+    }
+    let limits = shared.config.limits();
+    let told = core.serve(rt, &shared.line, &shared.gate, session, limits.queue);
+    shared
+        .mailboxes
+        .leave_all(rt, &shared.line, core, limits.sessions);
+    told
 }
 
 impl<C: Drop, J: Opening, G: Drop> Session<C, J, G> {

@@ -53,6 +53,7 @@ impl<T: Drop> SharedList<T> {
         self.len
     }
 
+    /// Whether the list holds no value.
     pub fn is_empty(&self) -> bool
         ensures { IsTrue result ↔ (self.now.values ≡ []) }
     {

@@ -102,6 +102,7 @@ fn assert_ends_at_20(rt: &impl Abort, map: &CowMap<u16, Shared<u64>>) {
 fn calls_answer(rt: HostRuntime) -> Result<(), AllocError> {
     assert!(&rt; CowMap::<u16, Shared<u64>>::new(rt.alloc()).is_empty());
     let map = of_two(rt.alloc())?;
+    assert!(&rt; !map.is_empty());
     assert!(&rt; map.nodes_made() == 2);
     assert!(&rt; map.get(&10).is_some());
     assert!(&rt; map.get(&15).is_none());

@@ -9,6 +9,7 @@ use Rattle.std.proofs.marker.PhantomData.TheSendSync as PhantomData
 use Rattle.turns.specs.contracts.clerk.Clerk as Clerk
 use Rattle.turns.specs.contracts.line.Line as Line
 use Rattle.turns.specs.contracts.ticket.Ticket as Ticket
+use Rattle.turns.specs.contracts.word.Word as Word
 use Rattle.turns.specs.declared.line.Queued as Queued
 
 ruleset parts = (commands.crosses, Pass.the_send, Queue.the_field_send, Queue.the_field_sync, PhantomData.the_field_send, PhantomData.the_field_sync, std.crosses, sendable)
@@ -16,6 +17,9 @@ ruleset parts = (commands.crosses, Pass.the_send, Queue.the_field_send, Queue.th
 module _ (J : RattleType) (q : Queued.Ghosts J.Denot) where
   pub ticket-send : IsSend (Ticket.the_row J q)
   ticket-send = search parts depth 60
+
+  pub word-send : IsSend (Word.the_row J q)
+  word-send = search parts depth 60
 
   pub clerk-send : IsSend (Clerk.the_row J q)
   clerk-send = search parts depth 60
@@ -27,4 +31,4 @@ module _ (J : RattleType) (q : Queued.Ghosts J.Denot) where
   pub line-sync : IsSync (Line.the_field J q).row
   line-sync = search parts depth 60
 
-pub ruleset crosses = (ticket-send, clerk-send, line-send, line-sync)
+pub ruleset crosses = (ticket-send, word-send, clerk-send, line-send, line-sync)

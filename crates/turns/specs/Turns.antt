@@ -64,6 +64,11 @@ pub record Turn : Type 0 where
   pub pushed : ℕ
   pub gone : ℕ
 
+-- how many jobs of a session were taken
+pub record Gone : Type 0 where
+  pub number : ℕ
+  pub gone : ℕ
+
 -- what the updater took, and for how many sessions it made tickets
 pub record Counter : Type 0 where
   pub taken : List Job

@@ -1,11 +1,12 @@
 //! The updater's end of the queue.
-ghost use Rattle.std.specs.Prelude.{◌≡◌, ◌↔◌, ◌+◌, ◌<◌, ◌≤◌, [], ◌∷◌, ◌++◌, length, IfOk, OnErr, IsTrue, MatchOption};
+ghost use Rattle.std.specs.Prelude.{◌≡◌, ◌↔◌, ◌+◌, ◌<◌, ◌≤◌, [], ◌∷◌, ◌++◌, length, IfOk, OnErr, IfSome, IsSome, MatchOption};
 ghost use Rattle.crossbeam_queue.specs.Passes.{view as known};
 ghost use Rattle.turns.specs.Turns.{count, updater};
 
 use crate::line::{Line, Queued};
-use crate::rule::{Hand, inform, pop, seat};
+use crate::rule::{Hand, pop, seat, word};
 use crate::ticket::Ticket;
+use crate::word::Word;
 use commands::Job;
 use crossbeam_queue::Pass;
 use std::alloc::{AllocError, Global};
@@ -83,21 +84,19 @@ impl<J: Queued> Clerk<J> {
         Some(job)
     }
 
-    /// Tells a session how many of its jobs were taken, and answers whether these are all that it pushed. Of a
-    /// session with no ticket the answer is no.
-    pub fn tell(&mut self, line: &Line<J>, ticket: &mut Ticket<J>) -> bool
+    /// Word for a session of how many of its jobs were taken; none for a session with no ticket.
+    pub fn word(&mut self, line: &Line<J>, session: u16) -> Option<Word<J>>
         ensures same { self.new ≡ self.old }
-        ensures told { ticket.new ≡ record ticket.old { gone = count ticket.old.number self.old.taken } }
-        ensures all { IsTrue result ↔ (ticket.old.number < self.old.made) × (ticket.new.gone ≡ ticket.new.pushed) }
+        ensures word { IfSome result (λ w. w ≡ record { number = session; gone = count session self.old.taken }) }
+        ensures made { IsSome result ↔ (session < self.old.made) }
     {
-        let number = ticket.number as usize;
-        inform(
-            &line.jobs,
-            &mut self.pass,
-            &mut ticket.pass,
-            ticket.pushed,
-            ticket.number as u64,
-        );
-        number < self.popped.len() && self.popped[number] == ticket.pushed
+        let gone = *self.popped.get(session as usize)?;
+        let pass = word(&line.jobs, &mut self.pass);
+        Some(Word {
+            pass,
+            number: session,
+            gone,
+            of: PhantomData,
+        })
     }
 }

@@ -6,7 +6,9 @@ mod clerk;
 mod line;
 mod rule;
 mod ticket;
+mod word;
 
 pub use clerk::Clerk;
 pub use line::{Line, Opened, Queued};
 pub use ticket::Ticket;
+pub use word::Word;

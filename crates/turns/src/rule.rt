@@ -167,19 +167,28 @@ pub fn pop<R: Wait>(rt: &R, jobs: &Jobs, pass: &mut Pass<Job, Hand>) -> Option<J
     jobs.pop_as::<Popped, R>(rt, pass)
 }
 
-/// Tells a session what was taken. The session then knows how many of its jobs are gone.
-pub fn inform(
+/// Word of what was taken.
+pub fn word(jobs: &Jobs, from: &mut Pass<Job, Hand>) -> Pass<Job, Hand>
+    requires queue { IsPassOf jobs.now from.old }
+    requires takes { view from.old ≡ updater (view from.old).taken (view from.old).made (view from.old).bound }
+    ensures queue { IsPassOf jobs.now from.new × IsPassOf jobs.now result }
+    ensures views { (view from.new ≡ view from.old) × (view result ≡ note (view from.old).taken) }
+{
+    jobs.another::<Notes>(from)
+}
+
+/// A session hears what was taken. It then knows how many of its jobs are gone.
+pub fn hear(
     jobs: &Jobs,
-    from: &mut Pass<Job, Hand>,
     pass: &mut Pass<Job, Hand>,
     pushed: u64,
     number: u64,
+    word: Pass<Job, Hand>,
 )
-    requires queue { IsPassOf jobs.now from.old × IsPassOf jobs.now pass.old }
-    requires views { (view from.old ≡ updater (view from.old).taken (view from.old).made (view from.old).bound) × (view pass.old ≡ pusher number pushed (view pass.old).gone (view pass.old).bound) }
-    ensures queue { IsPassOf jobs.now from.new × IsPassOf jobs.now pass.new }
-    ensures views { (view from.new ≡ view from.old) × (view pass.new ≡ pusher number pushed (count number (view from.old).taken) (view pass.old).bound) }
+    requires queue { IsPassOf jobs.now pass.old × IsPassOf jobs.now word }
+    requires views { (view word ≡ note (view word).taken) × (view pass.old ≡ pusher number pushed (view pass.old).gone (view pass.old).bound) }
+    ensures queue { IsPassOf jobs.now pass.new }
+    ensures view { view pass.new ≡ pusher number pushed (count number (view word).taken) (view pass.old).bound }
 {
-    let told = jobs.another::<Notes>(from);
-    jobs.absorb::<Notes>(pass, told);
+    jobs.absorb::<Notes>(pass, word);
 }

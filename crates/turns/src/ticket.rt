@@ -1,8 +1,9 @@
 //! A session's end of the queue.
-ghost use Rattle.std.specs.Prelude.{◌≡◌, ◌⊎◌, ◌+◌, ◌<◌, ◌≤◌, ◌^◌, [], MatchResult};
+ghost use Rattle.std.specs.Prelude.{◌≡◌, ◌≢◌, ◌↔◌, ◌⊎◌, ◌+◌, ◌<◌, ◌≤◌, ◌^◌, [], IsTrue, MatchResult};
 
 use crate::line::{Line, Queued};
-use crate::rule::{Hand, push};
+use crate::rule::{Hand, hear, push};
+use crate::word::Word;
 use commands::Job;
 use crossbeam_queue::Pass;
 use std::marker::{Model, PhantomData};
@@ -61,5 +62,33 @@ impl<J: Queued> Ticket<J> {
         push(rt, &line.jobs, &mut self.pass, self.pushed, job)?;
         self.pushed += 1;
         Ok(())
+    }
+
+    /// Hears how many of the session's jobs were taken, and answers whether these are all that it pushed.
+    /// Word for another session changes nothing, and the answer is no.
+    pub fn hear(&mut self, line: &Line<J>, word: Word<J>) -> bool
+        ensures heard { self.new ≡ record self.old { gone = self.new.gone } }
+        ensures own { word.number ≡ self.old.number → self.new.gone ≡ word.gone }
+        ensures other { word.number ≢ self.old.number → self.new ≡ self.old }
+        ensures all { IsTrue result ↔ (word.number ≡ self.old.number) × (word.gone ≡ self.old.pushed) }
+        ensures gone { IsTrue result → self.new.gone ≡ self.new.pushed }
+    {
+        let Word {
+            pass,
+            number,
+            gone,
+            of: _,
+        } = word;
+        if number != self.number {
+            return false;
+        }
+        hear(
+            &line.jobs,
+            &mut self.pass,
+            self.pushed,
+            self.number as u64,
+            pass,
+        );
+        gone == self.pushed
     }
 }

@@ -12,6 +12,7 @@ use Rattle.updating.specs.contracts.answer.Filled as Filled
 use Rattle.updating.specs.contracts.locked.Core as Core
 use Rattle.updating.specs.contracts.outcome.Outcome as Outcome
 use Rattle.updating.specs.declared.naming.Opening as Opening
+use Rattle.updating.specs.contracts.told.Told as Told
 
 ruleset parts = (commands.crosses, publications.crosses, turns.crosses, std.crosses, sendable)
 
@@ -24,6 +25,9 @@ module _ (J : RattleType) (q : Queued.Ghosts J.Denot) (o : Opening.Ghosts J.Deno
 
   outcome-send : IsSend (Outcome.the_row J o n q)
   outcome-send = search (answer-send, filled-send, parts) depth 60
+
+  pub told-send : IsSend (Told.the_row J o n q)
+  told-send = search (outcome-send, parts) depth 60
 
   pub core-send : (R : RattleType) → IsSend R → IsSend (Core.the_row R J n o q)
   core-send R r = search (outcome-send, parts) depth 60

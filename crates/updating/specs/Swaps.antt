@@ -1,6 +1,6 @@
 -- The copy of a compaction is swapped in.
-use Rattle.std.specs.Prelude.{◌≡◌, ℕ, ◌<◌, ◌≤◌, Bool, false, List, [], ◌∷◌, length, Some}
-use Rattle.model.specs.Command.{Compact, Entry, Job, Seat}
+use Rattle.std.specs.Prelude.{◌≡◌, ℕ, ◌<◌, ◌≤◌, Bool, false, [], ◌∷◌, length, Some}
+use Rattle.model.specs.Command.{Compact, Job, Seat}
 use Rattle.model.specs.PurgeLog.{is_overrun}
 use Rattle.model.specs.History.{Chronicle}
 use Rattle.model.specs.Compaction.{touched}

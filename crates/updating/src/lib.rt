@@ -13,6 +13,7 @@ mod outcomes;
 mod publication;
 mod rounds;
 mod swapping;
+mod told;
 
 pub use answer::{Answer, Filled};
 pub use fault::{PutFault, SwapFault};
@@ -20,3 +21,4 @@ pub use gate::{Gate, NoGate, Point};
 pub use locked::Core;
 pub use naming::Opening;
 pub use outcome::{Outcome, OutcomeKind};
+pub use told::Told;

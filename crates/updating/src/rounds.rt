@@ -1,19 +1,21 @@
 //! Rounds of the updater: a batch is popped, and published or given up.
-ghost use Rattle.std.specs.Prelude.{◌≡◌, ◌<◌, IfSome, MatchBool, vec_len, vec_capacity};
+ghost use Rattle.std.specs.Prelude.{◌≡◌, ◌<◌, false, None, Some, IfSome, MatchBool, vec_len, vec_capacity};
 ghost use Rattle.model.specs.History.{now};
 ghost use Rattle.turns.specs.Turns.{count};
 ghost use Rattle.updater.specs.Batches.{MayFollow};
-ghost use Rattle.updating.specs.State.{batch_after, outcomes_after, Goes, Pops, Serves, Takes};
+ghost use Rattle.updating.specs.Outcomes.{outcome_of};
+ghost use Rattle.updating.specs.State.{after_taking, batch_after, outcomes_after, Goes, Pops, Serves, Takes};
 
 use crate::gate::{Gate, Point};
 use crate::locked::Core;
 use crate::naming::Opening;
 use crate::outcome::{Outcome, OutcomeKind};
 use crate::outcomes::{Outcomes, tell};
+use crate::told::Told;
 use commands::Job;
 use snapshots::Version;
 use std::sync::Wait;
-use turns::{Line, Ticket};
+use turns::Line;
 use updater::may_join;
 
 /// A popped job goes last in the batch, or is dropped.
@@ -95,54 +97,53 @@ impl<R: Wait + Drop, J: Opening> Core<R, J> {
         let _shown = self.show();
     }
 
-    fn has_outcome(&self, session: u16) -> bool {
+    fn has_outcome(&self, session: u16) -> bool
+        ensures { result ≡ false → outcome_of self.now.outcomes session ≡ None }
+    {
         match self.outcomes.get(session as usize) {
             Some(outcome) => outcome.is_some(),
             None => false,
         }
     }
 
-    /// Rounds, at most so many, until the session's outcome is known, which is taken.
-    fn rounds<W: Wait, G: Gate>(
+    /// Tells a session what became of its last popped job, where that is known and it was not yet told.
+    /// A session with no ticket is told nothing.
+    pub fn tell(&mut self, line: &Line<J>, session: u16) -> Option<Told<J>>
+        ensures taken { self.new ≡ after_taking self.old session }
+        ensures outcome { IfSome result (λ told. outcome_of self.old.outcomes session ≡ Some told.outcome) }
+        ensures word { IfSome result (λ told. told.word ≡ record { number = session; gone = count session self.new.popped }) }
+    {
+        if !self.has_outcome(session) {
+            return None;
+        }
+        let outcome = self.take_outcome(session);
+        let word = self.clerk.word(line, session)?;
+        Some(Told {
+            outcome: outcome?,
+            word,
+        })
+    }
+
+    /// Serves a session: rounds, at most so many, until the outcome of its last job is known, which it is
+    /// then told, with the number of its jobs that were taken. There is no answer where the rounds ended.
+    pub fn serve<W: Wait, G: Gate>(
         &mut self,
         rt: &W,
         line: &Line<J>,
         gate: &G,
         session: u16,
         most: u16,
-    ) -> Option<Outcome<J>>
+    ) -> Option<Told<J>>
         ensures goes { Serves J.max_places session self.old self.new }
-        ensures own { IfSome result (Takes J.max_places session self.old self.new) }
+        ensures own { IfSome result (λ told. Takes J.max_places session self.old self.new told.outcome) }
+        ensures word { IfSome result (λ told. told.word ≡ record { number = session; gone = count session self.new.popped }) }
     {
         for _ in 0..most {
             if self.has_outcome(session) {
-                return self.take_outcome(session);
+                break;
             }
             self.round(rt, line, gate, session);
         }
-        self.take_outcome(session)
-    }
-
-    /// Serves the session of a ticket: rounds, at most so many, until the outcome of its last job is
-    /// known, which is taken. The session then learns that all its jobs are gone from the queue; there is
-    /// no answer where the rounds ended, or where a job of the session still waits.
-    pub fn serve<W: Wait, G: Gate>(
-        &mut self,
-        rt: &W,
-        line: &Line<J>,
-        gate: &G,
-        ticket: &mut Ticket<J>,
-        most: u16,
-    ) -> Option<Outcome<J>>
-        ensures goes { Serves J.max_places ticket.old.number self.old self.new }
-        ensures own { IfSome result (Takes J.max_places ticket.old.number self.old self.new) }
-        ensures ticket { ticket.new ≡ record ticket.old { gone = count ticket.old.number self.new.popped } }
-        ensures gone { IfSome result (λ _. ticket.new.gone ≡ ticket.new.pushed) }
-    {
-        let outcome = self.rounds(rt, line, gate, ticket.number(), most);
-        if !self.clerk.tell(line, ticket) {
-            return None;
-        }
-        outcome
+        self.tell(line, session)
     }
 }

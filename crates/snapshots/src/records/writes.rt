@@ -1,4 +1,5 @@
-//! What puts documents into records and takes them out, each into a new value.
+//! What puts documents into records and takes them out. Each takes the records and gives them back, changed in their place
+//! where nobody else has a share of them.
 ghost use Rattle.std.specs.Prelude.{◌≡◌, ◌<◌, ◌≤◌, ◌+◌, Some, IfOk, option_copied};
 ghost use Rattle.std.specs.Ordering.{nat_cmp};
 ghost use Rattle.std.specs.Cmp.Lexicographic.{slice_cmp};

@@ -1,5 +1,5 @@
 use Rattle.updating.specs.State.{Goes}
-use Rattle.updating.proofs.locked.Core.rounds.Given as goal
+use Rattle.updating.proofs.locked.Core.serve.Given as goal
 
 abbrev pub invariant-loop : goal.invariant-loop
 invariant-loop g l = Goes g.J.Opening.max_places l.fn.self l.self

@@ -1,0 +1,53 @@
+//! Where sessions are told what became of their jobs, apart from the updater's lock.
+
+use std::alloc::{AllocError, Global};
+use std::mem::replace;
+use std::sync::{Mutex, Wait};
+use turns::Line;
+use updating::{Core, Opening, Told};
+
+/// Of each session a mailbox. Who holds the updater's lock leaves there what the session is told, and the
+/// session takes it without that lock.
+#[derive(Drop)]
+pub(crate) struct Mailboxes<J: Opening> {
+    boxes: Vec<Mutex<Option<Told<J>>>>,
+}
+
+impl<J: Opening> Mailboxes<J> {
+    /// Those of so many sessions, with nothing in them.
+    pub(crate) fn new(alloc: Global, sessions: u16) -> Result<Mailboxes<J>, AllocError> {
+        let mut boxes = Vec::with_capacity(alloc, sessions as usize)?;
+        for _made in 0..sessions {
+            boxes.push(Mutex::new(None))?;
+        }
+        Ok(Mailboxes { boxes })
+    }
+
+    /// What was left for the session. Nothing, too, while something is being left.
+    pub(crate) fn take(&self, session: u16) -> Option<Told<J>> {
+        let mailbox = self.boxes.get(session as usize)?;
+        mailbox.try_lock()?.take()
+    }
+
+    /// Leaves for each of so many sessions what the updater knows of its job.
+    pub(crate) fn leave_all<R: Wait + Drop, W: Wait>(
+        &self,
+        rt: &W,
+        line: &Line<J>,
+        core: &mut Core<R, J>,
+        sessions: u16,
+    ) {
+        for session in 0..sessions {
+            if let Some(told) = core.tell(line, session) {
+                self.leave(rt, session, told);
+            }
+        }
+    }
+
+    fn leave<W: Wait>(&self, rt: &W, session: u16, told: Told<J>) {
+        let Some(mailbox) = self.boxes.get(session as usize) else {
+            return;
+        };
+        let _older = replace(&mut *mailbox.lock(rt), Some(told));
+    }
+}
