@@ -13,8 +13,9 @@ pub(crate) enum Work {
     Looks(u32),
     /// Each sees so often what is published.
     Refreshes(u32),
-    /// Each writes so many documents.
-    Writes(u32),
+    /// So many sessions write so many documents each. One more, which is given the program's first thread, does
+    /// nothing: the heap of that thread grows in larger steps than those of others.
+    Writes { writers: u16, times: u32 },
 }
 
 /// A database, and what its sessions do.
@@ -36,10 +37,12 @@ pub(crate) fn read(words: &[String]) -> Option<Plan> {
             of_numbers(number(threads)?, 1, Work::Refreshes(times.parse().ok()?))
         }
         [_, name, sessions, gather, times] if name.as_str() == "writes" => {
+            let writers = number(sessions)?;
+            let times = times.parse().ok()?;
             of_numbers(
-                number(sessions)?,
+                writers.checked_add(1)?,
                 number(gather)?,
-                Work::Writes(times.parse().ok()?),
+                Work::Writes { writers, times },
             )
         }
         _ => None,

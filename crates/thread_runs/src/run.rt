@@ -67,11 +67,7 @@ fn all_work<J: Opening + Send + Sync, R: Threads + Wait + Sync>(
         Work::Looks(_) | Work::Refreshes(_) => {
             write(rt, alloc, first, "a")?;
         }
-        Work::Writes(_) => {
-            // From the first thread on the C library's heap takes locks, as in a server. So it does where
-            // one session writes, too.
-            let ((), ()) = thread::join(rt, || (), || ());
-        }
+        Work::Writes { .. } => {}
     }
     let threads = sessions.len().max(1);
     let refused = AtomicU64::new(0);
@@ -103,6 +99,9 @@ fn part_of<R: Wait, C: Wait + Drop, J: Opening>(
         Work::Write | Work::Compact => Some(()),
         Work::Looks(times) => look_often(session, times),
         Work::Refreshes(times) => refresh_often(session, times),
-        Work::Writes(times) => write_all(rt, alloc, session, index, times),
+        Work::Writes { writers, times } if index < writers as usize => {
+            write_all(rt, alloc, session, index, times)
+        }
+        Work::Writes { .. } => Some(()),
     }
 }
