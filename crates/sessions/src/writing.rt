@@ -22,8 +22,8 @@ use updating::{Answer, Core, Filled, Gate, Opening, Outcome, OutcomeKind, Point,
 const YIELDS: u32 = 1_000;
 
 impl<R: Wait + Drop, J: Opening, G: Gate + Drop> Session<Core<R, J>, J, G> {
-    /// Writes a command, which is no compaction. It waits for the updater's lock, and under it publishes
-    /// batches of jobs until its own is answered.
+    /// Writes a command, which is no compaction. It waits until another session has published it, or
+    /// until it has the updater's lock, under which it publishes batches of jobs until its own is answered.
     ///
     /// After a fault but `Lost` it left no entry: the next receipt has exactly the calls with a receipt.
     pub fn write<W: Wait>(&mut self, rt: &W, command: Command) -> Result<Receipt, Fault>
