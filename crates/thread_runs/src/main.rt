@@ -6,8 +6,8 @@
 //! has as many threads look so often each at a document, each time with a snapshot of its own, and
 //! `thread_runs refreshes THREADS TIMES` without. `thread_runs writes SESSIONS GATHER TIMES` has as many
 //! threads, none of which is the program's first, write so many documents each, of which so many may be one
-//! publication. The last line is how many entries the history has in the end. The status is 1 where memory was refused before a session
-//! wrote or compacted, or one of many calls was refused, and 2 for other words.
+//! publication. The last line is how many entries the history has in the end. The status is 1 where memory
+//! was refused before a session wrote or compacted, or one of many calls was refused, and 2 for other words.
 #![tactic(auto)]
 
 mod plan;
