@@ -1,9 +1,7 @@
 -- Going from state to state.
-use Rattle.std.proofs.Common.{◌≡◌, ◌<◌, ℕ, List, [], ◌∷◌, length, Option, Some, None, refl, subst, sym, arith}
-use Rattle.std.specs.Prelude.{IfSome}
+use Rattle.std.proofs.Common.{◌≡◌, ◌<◌, ℕ, List, [], ◌∷◌, length, refl, subst, sym, arith}
 use Rattle.model.specs.Command.{Job}
-use Rattle.updating.specs.Outcomes.{Fate, outcome_of}
-use Rattle.updating.specs.State.{State, Pops, Puts, Goes, Takes, stays, pops, puts, gives_up, after_taking}
+use Rattle.updating.specs.State.{State, Pops, Puts, Goes, stays, pops, puts, gives_up}
 
 pub Goes-same : (max : ℕ) (s t u : State) → Goes max s t → u ≡ t → Goes max s u
 Goes-same max s t u g is = subst (Goes max s) (sym is) g
@@ -19,11 +17,6 @@ Goes-through max s t _ g (stays _) = g
 Goes-through max s t _ g (pops _ v job h few) = pops s v job (Goes-through max s t v g h) few
 Goes-through max s t _ g (puts _ v h some room) = puts s v (Goes-through max s t v g h) some room
 Goes-through max s t _ g (gives_up _ v w h up) = gives_up s v w (Goes-through max s t v g h) up
-
--- the outcome that is taken, where there is one, is the session's
-pub takes_own : (max session : ℕ) (s t u : State) (outcome : Option Fate) → Goes max s t → outcome ≡ outcome_of t.outcomes session → u ≡ after_taking t session → IfSome outcome (Takes max session s u)
-takes_own max session s t u None g is taken = tt
-takes_own max session s t u (Some o) g is taken = record { before = t; goes = g; found = sym is; taken = taken }
 
 -- a put that was not refused
 pub Goes-put : {X : Type 0} (max : ℕ) (s t u : State) → Goes max s t → (t.batch ≡ [] → X × (u ≡ t)) → (0 < length t.batch → Puts max t u) → Goes max s u
