@@ -35,6 +35,7 @@ impl<R: Wait + Drop, J: Opening, G: Gate + Drop> Session<Core<R, J>, J, G> {
         ensures for_ever { self.old.lost ≡ true → result ≡ Err fault.Lost }
         ensures for_ever_same { self.old.lost ≡ true → self.new ≡ self.old }
         ensures not_busy { result ≢ Err fault.Busy }
+        ensures pushes { self.new.pushes ≡ self.old.pushes }
     {
         let _place = self.place();
         self.refresh()?;
@@ -46,6 +47,7 @@ impl<R: Wait + Drop, J: Opening, G: Gate + Drop> Session<Core<R, J>, J, G> {
         requires known { self.old.lost ≡ false }
         ensures receipt { IfOk result (λ receipt. Writes self.old Compact receipt self.new) }
         ensures fault { IfErr result (λ e. Leaves J.max_places e self.old self.new) }
+        ensures pushes { self.new.pushes ≡ self.old.pushes }
     {
         let _place = self.place();
         let mut copy = Compaction::start(self.alloc, self.version())?;
@@ -58,6 +60,7 @@ impl<R: Wait + Drop, J: Opening, G: Gate + Drop> Session<Core<R, J>, J, G> {
         requires follows { Extends (chronicle_of self.old) copy.old.seen }
         ensures receipt { IfOk result (λ receipt. Writes self.old Compact receipt self.new) }
         ensures fault { IfErr result (λ e. Leaves J.max_places e self.old self.new) }
+        ensures pushes { self.new.pushes ≡ self.old.pushes }
     {
         let _place = self.place();
         slice_all(&self.shared, self.number, copy)?;
@@ -80,6 +83,7 @@ impl<R: Wait + Drop, J: Opening, G: Gate + Drop> Session<Core<R, J>, J, G> {
         ensures sliced { IfOk result (λ found. IfNone found (copy.new.left ≡ 0)) }
         ensures follows { IfOk result (λ found. IfNone found (Extends (chronicle_of self.new) copy.new.seen)) }
         ensures fault { IfErr result (λ e. Leaves J.max_places e self.old self.new) }
+        ensures pushes { self.new.pushes ≡ self.old.pushes }
     {
         let _place = self.place();
         self.refresh()?;
@@ -99,6 +103,7 @@ impl<R: Wait + Drop, J: Opening, G: Gate + Drop> Session<Core<R, J>, J, G> {
         ensures sliced { IfOk result (λ found. IfNone found (copy.new.left ≡ 0)) }
         ensures follows { IfOk result (λ found. IfNone found (copy.new.seen ≡ chronicle_of self.new)) }
         ensures fault { IfErr result (λ e. Leaves J.max_places e self.old self.new) }
+        ensures pushes { self.new.pushes ≡ self.old.pushes }
     {
         let _place = self.place();
         let n = self.shared.config.limits().slice as u64;
@@ -117,6 +122,7 @@ impl<C: Drop, J: Opening, G: Drop> Session<C, J, G> {
         ensures receipt { IfOk result (λ found. IfSome found (λ receipt. Writes self.old Compact receipt self.new)) }
         ensures behind { IfOk result (λ found. IfNone found (self.new ≡ self.old)) }
         ensures fault { IfErr result (λ e. Leaves J.max_places e self.old self.new) }
+        ensures pushes { self.new.pushes ≡ self.old.pushes }
     {
         let _place = self.place();
         match swapped {
@@ -135,6 +141,7 @@ impl<C: Drop, J: Opening, G: Drop> Session<C, J, G> {
         ensures receipt { IfOk result (λ found. IfSome found (λ receipt. Writes self.old Compact receipt self.new)) }
         ensures some { IfOk result IsSome }
         ensures fault { IfErr result (λ e. Leaves J.max_places e self.old self.new) }
+        ensures pushes { self.new.pushes ≡ self.old.pushes }
     {
         let _place = self.place();
         let receipt = self.receive(answer, &Command::compact(), seat)?;

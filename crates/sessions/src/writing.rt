@@ -14,12 +14,16 @@ use crate::shared::Shared;
 use commands::{Command, Copied, Job, Seat};
 use publications::Published;
 use snapshots::Version;
+use std::alloc::Global;
 use std::sync::Wait;
 use std::thread;
 use updating::{Answer, Core, Filled, Gate, Opening, Outcome, OutcomeKind, Point, Told};
 
 /// How often a session that waits for its outcome looks for it and yields, before it sleeps.
 const YIELDS: u32 = 1_000;
+
+/// So many words of memory are about what two batches of eight small jobs keep.
+const WORDS: usize = 2_048;
 
 impl<R: Wait + Drop, J: Opening, G: Gate + Drop> Session<Core<R, J>, J, G> {
     /// Writes a command, which is no compaction. It waits until another session has published it, or
@@ -79,7 +83,7 @@ impl<R: Wait + Drop, J: Opening, G: Gate + Drop> Session<Core<R, J>, J, G> {
     {
         self.lost = true;
         self.shared.gate.at(Point::Pushed, self.number);
-        let Told { outcome, word } = await_told(rt, &self.shared, self.number)?;
+        let Told { outcome, word } = await_told(rt, self.alloc, &self.shared, self.number)?;
         if !self.ticket.hear(&self.shared.line, word) {
             return None;
         }
@@ -88,13 +92,24 @@ impl<R: Wait + Drop, J: Opening, G: Gate + Drop> Session<Core<R, J>, J, G> {
     }
 }
 
+/// Has the heap of this thread grow where it is short of room: words are written, and given back. Else it would grow
+/// page by page while this thread does the updater's work and the others wait. Nothing is lost where it is refused.
+fn grow_heap(alloc: Global) {
+    let _given_back = vec![in alloc; 0u64; WORDS];
+}
+
 /// Waits until the session is told what became of its job: by who holds the lock, in its mailbox, or by itself,
 /// where it gets the lock. It yields for a while, and then it sleeps until it gets the lock.
 fn await_told<R: Wait + Drop, J: Opening, G: Gate + Drop, W: Wait>(
     rt: &W,
+    alloc: Global,
     shared: &Shared<Core<R, J>, J, G>,
     session: u16,
 ) -> Option<Told<J>> {
+    if let Some(mut core) = shared.core.try_lock() {
+        return serve(rt, shared, &mut core, session);
+    }
+    grow_heap(alloc);
     for _ in 0..YIELDS {
         if let Some(told) = shared.mailboxes.take(session) {
             return Some(told);

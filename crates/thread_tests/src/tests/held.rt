@@ -1,188 +1,30 @@
 //! Writes that come while session 0 is held.
 ghost use Rattle.std.specs.Prelude.{◌≡◌};
 
-use crate::tests::{DOCUMENTS, LIMITS, answer, put};
+mod plan;
+mod tally;
+
+use crate::tests::{DOCUMENTS, LIMITS, put};
 use commands::{Command, Config, Limits};
 use history_lock::{Opened, open};
-use sessions::{Fault, Receipt, Session};
+use plan::{Plan, pushed_before};
+use sessions::Session;
 use std::alloc::Global;
 use std::marker::Brand;
 use std::process::Abort;
 use std::sync::Wait;
-use std::sync::atomic::{AtomicU64, Ordering};
 use std::test::*;
 use std::thread;
 use std::thread::Threads;
-use std::time::{Clock, Duration};
+use std::time::Clock;
+use tally::{NOTHING, Sums, Tally, add};
 use updating::{Core, Gate, Opening, Point};
-
-/// How often a wait looks, once a millisecond.
-const TURNS: u32 = 10_000;
 
 /// How many sessions write; those behind them look.
 const WRITERS: usize = 5;
 
 /// At most as many sessions are opened, so that each has a thread of its own.
 const THREADS: usize = 6;
-
-/// Where session 0 is held, and until when.
-#[derive(Debug, Clone, Copy)]
-struct Plan {
-    limits: Limits,
-    held: Point,
-    /// How many others have passed their push.
-    pushed: u64,
-    /// How many others were told that the queue is full, or looked.
-    told: u64,
-    /// Whether each of the others pushes after the one before it has pushed.
-    in_order: bool,
-    /// Where that is not 0, session 0 compacts once so many were told that the history is full.
-    full: u64,
-}
-
-/// What was counted by all threads.
-#[derive(Drop)]
-struct Tally {
-    held: AtomicU64,
-    pushed: AtomicU64,
-    told: AtomicU64,
-    /// Of each place of the first publication, 2 to its power; of the second one, and of the third.
-    first: AtomicU64,
-    second: AtomicU64,
-    third: AtomicU64,
-    seen: AtomicU64,
-    full: AtomicU64,
-    busy: AtomicU64,
-    /// How many waits ended without what they waited for.
-    late: AtomicU64,
-    failed: AtomicU64,
-}
-
-/// What a tally comes to: the sums over the places of three publications, the places seen by looks, and
-/// how many faults and late waits there were.
-#[derive(Debug, Clone, Copy, PartialEq, Eq)]
-struct Sums {
-    first: u64,
-    second: u64,
-    third: u64,
-    seen: u64,
-    full: u64,
-    busy: u64,
-    late: u64,
-    failed: u64,
-}
-
-fn add(count: &AtomicU64, number: u64) {
-    count.fetch_add(number, Ordering::SeqCst);
-}
-
-fn load(count: &AtomicU64) -> u64 {
-    count.load(Ordering::SeqCst)
-}
-
-/// 2 to the power of a place.
-fn power_of_two(place: u64) -> Option<u64> {
-    1u64.checked_shl(u32::try_from(place).ok()?)
-}
-
-/// Waits for so many turns until the count is there, and says whether it is.
-fn comes(clock: &impl Clock, count: &AtomicU64, wanted: u64) -> bool {
-    for _ in 0..TURNS {
-        if load(count) >= wanted {
-            return true;
-        }
-        thread::sleep(clock, Duration::from_millis(1));
-    }
-    false
-}
-
-/// How many others push before this one, in order.
-fn pushed_before(index: usize) -> u64 {
-    u64::try_from(index.saturating_sub(1)).unwrap_or(0)
-}
-
-/// The place of a session's write, in order.
-fn place_in_order(index: usize) -> Option<u64> {
-    u64::try_from(index).ok()?.checked_add(1)
-}
-
-/// Whether the document was new, and, in order, the place is next to that of the session before.
-fn is_right(plan: &Plan, index: usize, receipt: &Receipt) -> bool {
-    let Some(Ok(_revision)) = answer(receipt.reply.kind()) else {
-        return false;
-    };
-    !plan.in_order || place_in_order(index) == Some(receipt.place)
-}
-
-impl Tally {
-    fn new() -> Tally {
-        Tally {
-            held: AtomicU64::new(0),
-            pushed: AtomicU64::new(0),
-            told: AtomicU64::new(0),
-            first: AtomicU64::new(0),
-            second: AtomicU64::new(0),
-            third: AtomicU64::new(0),
-            seen: AtomicU64::new(0),
-            full: AtomicU64::new(0),
-            busy: AtomicU64::new(0),
-            late: AtomicU64::new(0),
-            failed: AtomicU64::new(0),
-        }
-    }
-
-    fn sums(&self) -> Sums {
-        Sums {
-            first: load(&self.first),
-            second: load(&self.second),
-            third: load(&self.third),
-            seen: load(&self.seen),
-            full: load(&self.full),
-            busy: load(&self.busy),
-            late: load(&self.late),
-            failed: load(&self.failed),
-        }
-    }
-
-    /// Waits until the count is there. A wait that ends without it is late.
-    fn wait_for(&self, clock: &impl Clock, count: &AtomicU64, wanted: u64) {
-        if !comes(clock, count, wanted) {
-            add(&self.late, 1);
-        }
-    }
-
-    /// Counts a receipt or a fault of a session.
-    fn count(&self, plan: &Plan, index: usize, told: Result<Receipt, Fault>) {
-        match told {
-            Ok(receipt) => self.count_receipt(plan, index, &receipt),
-            Err(Fault::Full) => add(&self.full, 1),
-            Err(Fault::Busy) => {
-                add(&self.busy, 1);
-                add(&self.told, 1);
-            }
-            Err(_fault) => add(&self.failed, 1),
-        }
-    }
-
-    fn count_receipt(&self, plan: &Plan, index: usize, receipt: &Receipt) {
-        if !is_right(plan, index, receipt) {
-            return add(&self.failed, 1);
-        }
-        self.count_place(receipt.place, receipt.publication);
-    }
-
-    fn count_place(&self, place: u64, publication: u64) {
-        let Some(power) = power_of_two(place) else {
-            return add(&self.failed, 1);
-        };
-        match publication {
-            1 => add(&self.first, power),
-            2 => add(&self.second, power),
-            3 => add(&self.third, power),
-            _ => add(&self.failed, 1),
-        }
-    }
-}
 
 /// Holds session 0 at its point.
 #[derive(Drop)]
@@ -319,17 +161,6 @@ const GATHERED: Plan = Plan {
     told: 1,
     in_order: false,
     full: 0,
-};
-
-const NOTHING: Sums = Sums {
-    first: 0,
-    second: 0,
-    third: 0,
-    seen: 0,
-    full: 0,
-    busy: 0,
-    late: 0,
-    failed: 0,
 };
 
 #[test]

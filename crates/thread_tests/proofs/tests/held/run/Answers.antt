@@ -4,7 +4,7 @@ use denote.RattleType.{RattleType}
 use denote.Ref.{NamedLft}
 use Rattle.std.proofs.Crossing as std
 use Rattle.thread_tests.specs.contracts.tests.held.Holds as Holds
-use Rattle.thread_tests.specs.contracts.tests.held.Tally as Tally
+use Rattle.thread_tests.specs.contracts.tests.held.tally.Tally as Tally
 use Rattle.sessions.proofs.Crossing.{session-send}
 use Rattle.history_lock.proofs.Lending.{no_more}
 use Rattle.thread_tests.proofs.tests.held.run.Goals as goal
