@@ -2,3 +2,4 @@ pub mod Known
 pub mod Calls
 pub mod Ends
 pub mod Compactions
+pub mod Held

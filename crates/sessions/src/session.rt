@@ -1,15 +1,16 @@
 //! A session: what it has seen, and its calls with a receipt.
+ghost use Rattle.std.specs.Arc.{arc_value};
 ghost use Rattle.std.specs.Prelude.{◌≡◌, ◌↔◌, ◌⊎◌, ◌+◌, ◌<◌, ◌≤◌, [], length, true, Err, IfOk, IfErr, IfSome, IsTrue, OnErr};
 ghost use mathlib.Core.List.{IsPrefix};
 ghost use Rattle.model.specs.History.{IsLegal, of_session};
-ghost use Rattle.publications.specs.Histories.{newest, opening_base, Grows};
+ghost use Rattle.publications.specs.Histories.{newest, opening_base, Grows, IsNewest};
 ghost use Rattle.sessions.specs.Known.{Known, seen, fresh, SeesOwn};
 ghost use Rattle.sessions.specs.Calls.{Looks};
 ghost use Rattle.sessions.specs.declared.fault.Fault.TheVariants as fault;
 
 use crate::fault::Fault;
 use crate::shared::Shared;
-use crate::snapshot::Snapshot;
+use crate::snapshot::{Held, Snapshot};
 use crossbeam_utils::CachePadded;
 use publications::{Lens, Published};
 use snapshots::Version;
@@ -28,6 +29,8 @@ pub struct Session<C: Drop, J: Opening, G: Drop> {
     pub(crate) calls: u64,
     pub(crate) lost: bool,
     pub(crate) latest: Published<J>,
+    /// A share of that version, where a look took one: the looks that see the same one are owners of it.
+    pub(crate) looked: Option<Arc<Version, Global>>,
     /// Each look writes to it, and other sessions may lie beside this one.
     pub(crate) reader: CachePadded<Lens<J>>,
     pub(crate) ticket: Ticket<J>,
@@ -35,7 +38,9 @@ pub struct Session<C: Drop, J: Opening, G: Drop> {
 }
 
 impl<C: Drop, J: Opening, G: Drop> Model for Session<C, J, G> {
+    ghost use Rattle.std.specs.Arc.{arc_value};
     ghost use Rattle.std.specs.Coded.{codes};
+    ghost use Rattle.std.specs.Prelude.{option_map};
     ghost use Rattle.model.specs.JsonCode.{coded_members};
     ghost use Rattle.model.specs.History.{of_session};
     ghost use Rattle.publications.specs.Histories.{newest};
@@ -47,7 +52,7 @@ impl<C: Drop, J: Opening, G: Drop> Model for Session<C, J, G> {
 
     ghost view = { λ s. record { number = s.number; published = s.latest; receipts = of_session s.number (newest s.latest); pushes = s.ticket.pushed; lost = s.lost } };
 
-    ghost invariant = { λ s. Holds s.number s.calls s.lost s.latest s.ticket };
+    ghost invariant = { λ s. Holds s.number s.calls s.lost s.latest (option_map arc_value s.looked) s.ticket };
 }
 
 impl<C: Drop, J: Opening, G: Drop> Session<C, J, G> {
@@ -70,6 +75,7 @@ impl<C: Drop, J: Opening, G: Drop> Session<C, J, G> {
             calls: 0,
             lost: false,
             latest,
+            looked: None,
             reader: CachePadded::new(reader),
             ticket,
             shared,
@@ -115,7 +121,7 @@ impl<C: Drop, J: Opening, G: Drop> Session<C, J, G> {
     }
 
     /// Sees what is published now, and keeps a share of it apart from the session. It waits for nobody
-    /// and takes no memory.
+    /// and needs no memory; where there is some, the next looks that see the same version take less time.
     pub fn look(&mut self) -> Result<Snapshot<J>, Fault>
         ensures snapshot { IfOk result (λ snapshot. snapshot ≡ seen self.new) }
         ensures looks { IfOk result (λ _. Looks self.old self.new) }
@@ -130,26 +136,56 @@ impl<C: Drop, J: Opening, G: Drop> Session<C, J, G> {
             return Err(Fault::EntryRefused);
         };
         let Some(found) = later else {
-            return self.seen_again();
+            return self.look_again();
         };
-        let Ok(shared) = found.share() else {
+        let Ok(shared) = found.version().share() else {
             return Err(Fault::EntryRefused);
         };
         self.see(found);
-        Ok(Snapshot::new(shared))
+        Ok(self.snapshot_of(shared))
     }
 
-    /// What was seen already.
-    fn seen_again(&self) -> Result<Snapshot<J>, Fault>
-        ensures snapshot { IfOk result (λ snapshot. snapshot ≡ seen self.now) }
-        ensures looks { Looks self.now self.now }
+    /// A look that sees what was seen already.
+    fn look_again(&mut self) -> Result<Snapshot<J>, Fault>
+        ensures snapshot { IfOk result (λ snapshot. snapshot ≡ seen self.new) }
+        ensures looks { IfOk result (λ _. Looks self.old self.new) }
+        ensures same { self.new ≡ self.old }
         ensures refused { IfErr result (λ e. e ≡ fault.EntryRefused) }
     {
         let _place = self.place();
-        let Ok(shared) = self.latest.share() else {
+        if let Some(again) = self.looked_again() {
+            return Ok(Snapshot::new(Held::Shared(again), self.latest.front().again()));
+        }
+        let Ok(shared) = self.version().share() else {
             return Err(Fault::EntryRefused);
         };
-        Ok(Snapshot::new(shared))
+        Ok(self.snapshot_of(shared))
+    }
+
+    /// One more owner of what a look took.
+    fn looked_again(&self) -> Option<Arc<Version, Global>>
+        ensures { IfSome result (λ again. IsNewest (arc_value again) self.now.published) }
+    {
+        Arc::try_clone(self.looked.as_ref()?).ok()
+    }
+
+    /// A snapshot of a share of what was seen. The next looks are owners of the same share, if memory is not
+    /// refused.
+    fn snapshot_of(&mut self, shared: Version) -> Snapshot<J>
+        requires seen { IsNewest shared self.old.published }
+        ensures snapshot { result ≡ seen self.new }
+        ensures same { self.new ≡ self.old }
+    {
+        let front = self.latest.front().again();
+        match Arc::new(self.alloc, shared) {
+            Ok(shared) => {
+                if let Ok(again) = Arc::try_clone(&shared) {
+                    self.looked = Some(again);
+                }
+                Snapshot::new(Held::Shared(shared), front)
+            }
+            Err(refused) => Snapshot::new(Held::Own(refused.value), front),
+        }
     }
 
     /// Afterwards both sessions, which are of one opened database, have seen one history. The answer
@@ -269,6 +305,7 @@ impl<C: Drop, J: Opening, G: Drop> Session<C, J, G> {
         ensures seen { self.new.published ≡ found }
         ensures looks { Looks self.old self.new }
     {
+        self.looked = None;
         self.latest = found;
     }
 }

@@ -230,6 +230,7 @@ impl<C: Drop, J: Opening, G: Drop> Session<C, J, G> {
         ensures { self.new ≡ record self.old { published = found; receipts = of_session self.old.number (newest found) } }
     {
         self.calls = calls;
+        self.looked = None;
         self.latest = found;
     }
 

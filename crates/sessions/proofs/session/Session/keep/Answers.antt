@@ -14,4 +14,5 @@ invariant_of-self g c =
       session = holds.session;
       ticket_is = holds.ticket_is;
       gone = holds.gone;
+      looked_is = tt;
     }

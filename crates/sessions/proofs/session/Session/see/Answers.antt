@@ -17,6 +17,7 @@ invariant_of-self g c =
       session = holds.session;
       ticket_is = holds.ticket_is;
       gone = holds.gone;
+      looked_is = tt;
     }
 
 pub returns-clause-looks : goal.returns-clause-looks
