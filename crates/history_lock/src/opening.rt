@@ -35,7 +35,10 @@ fn begin<R: Wait + Drop, J: Opening>(
     ensures refused { IfErr result IsRefusal }
 {
     let sessions = config.limits().sessions;
-    let first = Published::new(Version::empty(alloc), front);
+    let Ok(version) = Arc::new(alloc, Version::empty(alloc)) else {
+        return Err(Fault::Memory);
+    };
+    let first = Published::new(version, front);
     let (press, ends) = connect(alloc, sessions, rt, &first, line, &mut clerk)?;
     let Ok(current) = first.share() else {
         return Err(Fault::Memory);

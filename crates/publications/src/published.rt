@@ -1,4 +1,5 @@
 //! What readers take: a version, with the publications up to it.
+ghost use Rattle.std.specs.Arc.{arc_value};
 ghost use Rattle.std.specs.Prelude.{◌≡◌, ◌≤◌, length, IfOk, IfSome, MatchBool};
 ghost use mathlib.Core.List.{IsPrefix};
 ghost use Rattle.publications.specs.Histories.{newest, opening_base, Grows, IsNewest};
@@ -7,19 +8,22 @@ use crate::front::{Front, History, Law, Naming};
 use left_right::Absorb;
 use logbook::Seen;
 use snapshots::Version;
-use std::alloc::AllocError;
+use std::alloc::{AllocError, Global};
 use std::marker::Model;
+use std::sync::Arc;
 
 /// A published version that doesn't know its store, so that it has no type parameter. Contracts see
 /// its book, and the published histories.
 #[derive(Drop)]
 pub struct Shown {
-    version: Version,
+    /// All that was taken from one publication owns the same one.
+    version: Arc<Version, Global>,
     count: u64,
     seen: Seen<History, u64, Law>,
 }
 
 impl Model for Shown {
+    ghost use Rattle.std.specs.Arc.{arc_value};
     ghost use Rattle.std.specs.Prelude.{◌≡◌, List, length};
     ghost use Rattle.logbook.specs.Pages.{Book};
     ghost use Rattle.std.specs.Coded.{codes};
@@ -33,7 +37,7 @@ impl Model for Shown {
 
     ghost view = { λ s. (s.seen.book, s.seen.log) };
 
-    ghost invariant = { λ s. IsNewest s.version s.seen.log × (s.count ≡ length s.seen.log) × Grows s.seen.log };
+    ghost invariant = { λ s. IsNewest (arc_value s.version) s.seen.log × (s.count ≡ length s.seen.log) × Grows s.seen.log };
 }
 
 impl Shown {
@@ -42,7 +46,7 @@ impl Shown {
         ensures same { IfOk result (λ s. s ≡ self.now) }
     {
         Ok(Shown {
-            version: self.version.share()?,
+            version: Arc::try_clone(&self.version)?,
             count: self.count,
             seen: self.seen.again(),
         })
@@ -82,11 +86,13 @@ impl Absorb<Shown> for Shown {
 /// the newest.
 #[derive(Drop)]
 pub struct Published<J: Naming> {
-    version: Version,
+    /// All that was taken from one publication owns the same one.
+    version: Arc<Version, Global>,
     front: Front<J>,
 }
 
 impl<J: Naming> Model for Published<J> {
+    ghost use Rattle.std.specs.Arc.{arc_value};
     ghost use Rattle.std.specs.Prelude.{List};
     ghost use Rattle.std.specs.Coded.{codes};
     ghost use Rattle.model.specs.JsonCode.{coded_members};
@@ -99,13 +105,13 @@ impl<J: Naming> Model for Published<J> {
 
     ghost view = { λ p. p.front };
 
-    ghost invariant = { λ p. IsNewest p.version p.front };
+    ghost invariant = { λ p. IsNewest (arc_value p.version) p.front };
 }
 
 impl<J: Naming> Published<J> {
     /// The version that the publications up to `front` end with.
-    pub fn new(version: Version, front: Front<J>) -> Published<J>
-        requires newest { IsNewest version front }
+    pub fn new(version: Arc<Version, Global>, front: Front<J>) -> Published<J>
+        requires newest { IsNewest (arc_value version) front }
         ensures front { result ≡ front }
     {
         Published { version, front }
@@ -132,7 +138,7 @@ impl<J: Naming> Published<J> {
         ensures name { IfOk result (λ s. s.0 ≡ J.book) }
         ensures same { IfOk result (λ s. s.1 ≡ self.now) }
     {
-        let version = self.version.share()?;
+        let version = Arc::try_clone(&self.version)?;
         let count = self.front.count();
         let seen = self.front.seen();
         Ok(Shown {
@@ -147,6 +153,13 @@ impl<J: Naming> Published<J> {
         ensures newest { result.now ≡ record { base = opening_base; entries = newest self.now } }
     {
         &self.version
+    }
+
+    /// The version once more, owned. It takes no memory.
+    pub fn owned_version(&self) -> Result<Arc<Version, Global>, AllocError>
+        ensures newest { IfOk result (λ version. IsNewest (arc_value version) self.now) }
+    {
+        Arc::try_clone(&self.version)
     }
 
     /// The beginning of the log of publications that the version stands at the end of.
@@ -170,7 +183,7 @@ impl<J: Naming> Published<J> {
         ensures same { IfOk result (λ p. p ≡ self.now) }
     {
         Ok(Published {
-            version: self.version.share()?,
+            version: Arc::try_clone(&self.version)?,
             front: self.front.again(),
         })
     }

@@ -2,4 +2,3 @@ pub mod Known
 pub mod Calls
 pub mod Ends
 pub mod Compactions
-pub mod Held

@@ -1,6 +1,7 @@
 //! A session of a database that many threads share: its calls, and what it has seen.
 #![tactic(auto)]
 
+mod ahead;
 mod compacting;
 mod copying;
 mod ended;

@@ -10,7 +10,7 @@ ghost use Rattle.sessions.specs.declared.fault.Fault.TheVariants as fault;
 
 use crate::fault::Fault;
 use crate::shared::Shared;
-use crate::snapshot::{Held, Snapshot};
+use crate::snapshot::Snapshot;
 use crossbeam_utils::CachePadded;
 use publications::{Lens, Published};
 use snapshots::Version;
@@ -138,11 +138,11 @@ impl<C: Drop, J: Opening, G: Drop> Session<C, J, G> {
         let Some(found) = later else {
             return self.look_again();
         };
-        let Ok(shared) = found.version().share() else {
+        let Ok(version) = found.owned_version() else {
             return Err(Fault::EntryRefused);
         };
         self.see(found);
-        Ok(self.snapshot_of(shared))
+        Ok(self.snapshot_of(version))
     }
 
     /// A look that sees what was seen already.
@@ -154,12 +154,12 @@ impl<C: Drop, J: Opening, G: Drop> Session<C, J, G> {
     {
         let _place = self.place();
         if let Some(again) = self.looked_again() {
-            return Ok(Snapshot::new(Held::Shared(again), self.latest.front().again()));
+            return Ok(Snapshot::new(again, self.latest.front().again()));
         }
-        let Ok(shared) = self.version().share() else {
+        let Ok(version) = self.latest.owned_version() else {
             return Err(Fault::EntryRefused);
         };
-        Ok(self.snapshot_of(shared))
+        Ok(self.snapshot_of(version))
     }
 
     /// One more owner of what a look took.
@@ -169,23 +169,21 @@ impl<C: Drop, J: Opening, G: Drop> Session<C, J, G> {
         Arc::try_clone(self.looked.as_ref()?).ok()
     }
 
-    /// A snapshot of a share of what was seen. The next looks are owners of the same share, if memory is not
-    /// refused.
-    fn snapshot_of(&mut self, shared: Version) -> Snapshot<J>
-        requires seen { IsNewest shared self.old.published }
+    /// A snapshot of the version that was seen. Where memory is not refused it owns a share in a block of its own, and
+    /// the next looks are owners of the same one.
+    fn snapshot_of(&mut self, version: Arc<Version, Global>) -> Snapshot<J>
+        requires seen { IsNewest (arc_value version) self.old.published }
         ensures snapshot { result ≡ seen self.new }
         ensures same { self.new ≡ self.old }
     {
         let front = self.latest.front().again();
-        match Arc::new(self.alloc, shared) {
-            Ok(shared) => {
-                if let Ok(again) = Arc::try_clone(&shared) {
-                    self.looked = Some(again);
-                }
-                Snapshot::new(Held::Shared(shared), front)
-            }
-            Err(refused) => Snapshot::new(Held::Own(refused.value), front),
+        let Some(own) = shared_apart(self.alloc, &version) else {
+            return Snapshot::new(version, front);
+        };
+        if let Ok(again) = Arc::try_clone(&own) {
+            self.looked = Some(again);
         }
+        Snapshot::new(own, front)
     }
 
     /// Afterwards both sessions, which are of one opened database, have seen one history. The answer
@@ -320,6 +318,13 @@ pub fn later_of<J: Opening>(mine: Published<J>, theirs: Published<J>) -> Publish
         return theirs;
     }
     mine
+}
+
+/// A share of the version in a block of its own, so that its owners are counted apart from those of others.
+fn shared_apart(alloc: Global, version: &Version) -> Option<Arc<Version, Global>>
+    ensures { IfSome result (λ own. arc_value own ≡ version.now) }
+{
+    Arc::new(alloc, version.share().ok()?).ok()
 }
 
 /// How many calls of a session the version has.

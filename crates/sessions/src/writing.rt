@@ -7,6 +7,7 @@ ghost use Rattle.sessions.specs.Known.{Known, seen};
 ghost use Rattle.sessions.specs.Calls.{Looks, Writes, IsTold, next_seat};
 ghost use Rattle.sessions.specs.declared.fault.Fault.TheVariants as fault;
 
+use crate::ahead::prepare;
 use crate::fault::Fault;
 use crate::receipt::Receipt;
 use crate::session::{Session, calls_of};
@@ -21,9 +22,6 @@ use updating::{Answer, Core, Filled, Gate, Opening, Outcome, OutcomeKind, Point,
 
 /// How often a session that waits for its outcome looks for it and yields, before it sleeps.
 const YIELDS: u32 = 1_000;
-
-/// So many words of memory are about what two batches of eight small jobs keep.
-const WORDS: usize = 2_048;
 
 impl<R: Wait + Drop, J: Opening, G: Gate + Drop> Session<Core<R, J>, J, G> {
     /// Writes a command, which is no compaction. It waits until another session has published it, or
@@ -55,7 +53,7 @@ impl<R: Wait + Drop, J: Opening, G: Gate + Drop> Session<Core<R, J>, J, G> {
         if !self.ask(rt, Job { seat, command }) {
             return Err(Fault::Busy);
         }
-        let Some(outcome) = self.wait_for_outcome(rt) else {
+        let Some(outcome) = self.wait_for_outcome(rt, &asked) else {
             return Err(Fault::Lost);
         };
         self.settle(outcome, &asked, seat)
@@ -77,13 +75,20 @@ impl<R: Wait + Drop, J: Opening, G: Gate + Drop> Session<Core<R, J>, J, G> {
     }
 
     /// Waits until the session is told what became of its job.
-    fn wait_for_outcome<W: Wait>(&mut self, rt: &W) -> Option<Outcome<J>>
+    fn wait_for_outcome<W: Wait>(&mut self, rt: &W, asked: &Command) -> Option<Outcome<J>>
         ensures some { IfSome result (λ _. self.new ≡ record self.old { lost = false }) }
         ensures none { IfNone result (self.new ≡ record self.old { lost = true }) }
     {
         self.lost = true;
         self.shared.gate.at(Point::Pushed, self.number);
-        let Told { outcome, word } = await_told(rt, self.alloc, &self.shared, self.number)?;
+        let Told { outcome, word } = await_told(
+            rt,
+            self.alloc,
+            &self.shared,
+            self.number,
+            self.latest.version(),
+            asked,
+        )?;
         if !self.ticket.hear(&self.shared.line, word) {
             return None;
         }
@@ -92,32 +97,28 @@ impl<R: Wait + Drop, J: Opening, G: Gate + Drop> Session<Core<R, J>, J, G> {
     }
 }
 
-/// Has the heap of this thread grow where it is short of room: words are written, and given back. Else it would grow
-/// page by page while this thread does the updater's work and the others wait. Nothing is lost where it is refused.
-fn grow_heap(alloc: Global) {
-    let _given_back = vec![in alloc; 0u64; WORDS];
-}
-
 /// Waits until the session is told what became of its job: by who holds the lock, in its mailbox, or by itself,
-/// where it gets the lock. It yields for a while, and then it sleeps until it gets the lock.
+/// where it gets the lock. Where it doesn't at once, it prepares for the updater's work; then it yields for a while,
+/// and then it sleeps until it gets the lock.
 fn await_told<R: Wait + Drop, J: Opening, G: Gate + Drop, W: Wait>(
     rt: &W,
     alloc: Global,
     shared: &Shared<Core<R, J>, J, G>,
     session: u16,
+    seen: &Version,
+    asked: &Command,
 ) -> Option<Told<J>> {
-    if let Some(mut core) = shared.core.try_lock() {
-        return serve(rt, shared, &mut core, session);
-    }
-    grow_heap(alloc);
-    for _ in 0..YIELDS {
+    for turn in 0..=YIELDS {
         if let Some(told) = shared.mailboxes.take(session) {
             return Some(told);
         }
         if let Some(mut core) = shared.core.try_lock() {
             return serve(rt, shared, &mut core, session);
         }
-        thread::yield_now();
+        match turn {
+            0 => prepare(alloc, seen, asked),
+            _ => thread::yield_now(),
+        }
     }
     let mut core = shared.core.lock(rt);
     serve(rt, shared, &mut core, session)

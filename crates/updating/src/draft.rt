@@ -1,4 +1,5 @@
 //! Entries of a version that is not yet published.
+ghost use Rattle.std.specs.Arc.{arc_value};
 ghost use Rattle.std.specs.Prelude.{◌≡◌, ◌≤◌, All, length, drop, IfOk, option_map};
 ghost use Rattle.snapshots.specs.Version.{entry_at};
 ghost use Rattle.updating.specs.Outcomes.{StoodAt, told};
@@ -13,18 +14,20 @@ use publications::{Front, Published};
 use snapshots::Version;
 use std::alloc::{AllocError, Global};
 use std::marker::Model;
+use std::sync::Arc;
 
-/// An entry of a version that is not yet published, with its own share of the version and its own copy
-/// of the reply: with it the answer takes no memory once the entry stands.
+/// An entry of a version that is not yet published. It owns the version with the others, and a copy of the
+/// reply: with it the answer takes no memory once the entry stands.
 #[derive(Drop)]
 pub(crate) struct Draft {
-    version: Version,
+    version: Arc<Version, Global>,
     session: u16,
     place: u64,
     reply: Reply,
 }
 
 impl Model for Draft {
+    ghost use Rattle.std.specs.Arc.{arc_value};
     ghost use Rattle.std.specs.Coded.{codes};
     ghost use Rattle.model.specs.JsonCode.{coded_members};
     ghost use Rattle.updating.specs.Drafts.{Drafted, IsDraft};
@@ -33,9 +36,9 @@ impl Model for Draft {
 
     ghost coded = { Prim.hlevel (codes, coded_members) };
 
-    ghost view = { λ d. record { version = d.version; session = d.session; place = d.place; reply = d.reply } };
+    ghost view = { λ d. record { version = arc_value d.version; session = d.session; place = d.place; reply = d.reply } };
 
-    ghost invariant = { λ d. IsDraft (record { version = d.version; session = d.session; place = d.place; reply = d.reply }) };
+    ghost invariant = { λ d. IsDraft (record { version = arc_value d.version; session = d.session; place = d.place; reply = d.reply }) };
 }
 
 impl Draft {
@@ -63,14 +66,18 @@ impl Draft {
 }
 
 /// The draft of the entry at a place.
-fn draft_at(alloc: Global, version: &Version, place: u64) -> Result<Option<Draft>, AllocError>
-    ensures { IfOk result (λ found. found ≡ option_map (draft_of version.now place) (entry_at version.now.entries place)) }
+fn draft_at(
+    alloc: Global,
+    version: &Arc<Version, Global>,
+    place: u64,
+) -> Result<Option<Draft>, AllocError>
+    ensures { IfOk result (λ found. found ≡ option_map (draft_of (arc_value version.now) place) (entry_at (arc_value version.now).entries place)) }
 {
     let Some(entry) = version.entry(place) else {
         return Ok(None);
     };
     Ok(Some(Draft {
-        version: version.share()?,
+        version: Arc::try_clone(version)?,
         session: entry.seat.session(),
         place,
         reply: entry.reply.copy(alloc)?,
@@ -80,11 +87,11 @@ fn draft_at(alloc: Global, version: &Version, place: u64) -> Result<Option<Draft
 /// The drafts of the entries behind a place.
 pub(crate) fn drafts_after(
     alloc: Global,
-    version: &Version,
+    version: &Arc<Version, Global>,
     after: u64,
 ) -> Result<Vec<Draft>, AllocError>
-    requires { after ≤ length version.now.entries }
-    ensures { IfOk result (λ drafts. drafts.items ≡ drafts_from version.now after (drop after version.now.entries)) }
+    requires { after ≤ length (arc_value version.now).entries }
+    ensures { IfOk result (λ drafts. drafts.items ≡ drafts_from (arc_value version.now) after (drop after (arc_value version.now).entries)) }
 {
     let end = version.place();
     let mut drafts = Vec::with_capacity(alloc, (end - after) as usize)?;

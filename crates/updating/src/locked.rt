@@ -24,7 +24,7 @@ use turns::Clerk;
 /// session what became of its last job.
 #[derive(Drop)]
 pub struct Core<R: Wait + Drop, J: Opening> {
-    alloc: Global,
+    pub(crate) alloc: Global,
     pub(crate) gather: u16,
     max_places: u32,
     pub(crate) book: Book<J>,

@@ -12,6 +12,7 @@ use commands::Job;
 use core::mem::replace;
 use publications::{Book, Naming, Published};
 use std::alloc::{AllocError, Global};
+use std::sync::Arc;
 use updater::apply_batch;
 
 /// What was published, with the drafts of its new entries.
@@ -38,12 +39,13 @@ pub(crate) fn publish<J: Naming>(
     let _count = current.publication();
     let latest = current.version();
     let version = apply_batch(latest, jobs)?;
-    let drafts = drafts_after(alloc, &version, latest.place())?;
+    let shared = Arc::new(alloc, version)?;
+    let drafts = drafts_after(alloc, &shared, latest.place())?;
     let mut front = current.front().again();
-    if !front.publish(book, &version) {
+    if !front.publish(book, &shared) {
         return Err(AllocError);
     }
-    let found = Published::new(version, front);
+    let found = Published::new(shared, front);
     Ok(Publication { found, drafts })
 }
 

@@ -19,13 +19,14 @@ use crate::publication::put_in_place;
 use commands::{Command, Job, Reply, ReplyKind, Seat};
 use compactor::Compaction;
 use publications::{Book, Naming, Published};
-use std::alloc::AllocError;
-use std::sync::Wait;
+use std::alloc::{AllocError, Global};
+use std::sync::{Arc, Wait};
 use updater::may_join;
 
 /// Publishes the version with the copy, or nothing. The log's step is the last: what grows, grew before
 /// it. The answer is what was published, and once more with the compaction's entry.
 fn publish_copy<J: Naming>(
+    alloc: Global,
     book: &Book<J>,
     current: &Published<J>,
     copy: &mut Compaction,
@@ -47,14 +48,17 @@ fn publish_copy<J: Naming>(
 {
     let latest = current.version();
     let version = copy.finish(latest, seat, slack)?;
-    let shared = version.share()?;
-    let place = version.place();
+    let Ok(shared) = Arc::new(alloc, version) else {
+        return Err(SwapFault::Memory);
+    };
+    let again = Arc::try_clone(&shared)?;
+    let place = shared.place();
     let mut front = current.front().again();
-    if !front.publish(book, &version) {
+    if !front.publish(book, &shared) {
         return Err(SwapFault::Memory);
     }
-    let found = Published::new(version, front.again());
-    let answered = Published::new(shared, front);
+    let found = Published::new(shared, front.again());
+    let answered = Published::new(again, front);
     let _count = answered.publication();
     Ok((
         found,
@@ -104,7 +108,14 @@ impl<R: Wait + Drop, J: Opening> Core<R, J> {
         if self.room() == 0 {
             return Err(SwapFault::Full);
         }
-        let (found, answer) = publish_copy(&self.book, &self.current, copy, seat, slack)?;
+        let (found, answer) = publish_copy(
+            self.alloc,
+            &self.book,
+            &self.current,
+            copy,
+            seat,
+            slack,
+        )?;
         put_in_place(&mut self.current, found);
         Ok(answer)
     }

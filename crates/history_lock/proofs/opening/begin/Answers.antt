@@ -8,8 +8,8 @@ pub new-first-requires : goal.new-first-requires
 unfolding opening_base
 new-first-requires g c = record {
   newest = record {
-    base = ap (λ (k : Chronicle). k.base) c.empty.ensures;
-    entries = ap (λ (k : Chronicle). k.entries) c.empty.ensures ∙ sym (ap newest c.requires.front);
+    base = ap (λ (k : Chronicle). k.base) (c.in-Ok.ensures.ok ∙ c.empty.ensures);
+    entries = ap (λ (k : Chronicle). k.entries) (c.in-Ok.ensures.ok ∙ c.empty.ensures) ∙ sym (ap newest c.requires.front);
   };
 }
 

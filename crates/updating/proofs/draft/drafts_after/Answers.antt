@@ -1,3 +1,4 @@
+use Rattle.std.specs.Arc.{arc_value}
 use Rattle.std.proofs.Common.{◌+◌, ◌∷◌, ◌++◌, ◌∙◌, List, [], ap, drop}
 use Rattle.updating.specs.Drafts.{Drafted, drafts_from}
 use Rattle.updating.proofs.DraftLists.{drafted, drafts_more}
@@ -5,7 +6,7 @@ use Rattle.updating.proofs.draft.drafts_after.Goals as goal
 
 pub loop-place-preserved : goal.loop-place-preserved
 loop-place-preserved c =
-    let v = c.args.version.now in
+    let v = arc_value c.args.version.now in
     let place = c.loop-place.place in
     let old = c.loop-place.drafts.items in
     let found = drafted v place c.in_ok-draft.field-0 c.in-Some.draft c.in_ok-draft.ensures c.in-Some.is in

@@ -1,3 +1,4 @@
+use Rattle.std.specs.Arc.{arc_value}
 use Rattle.std.proofs.Common.{◌<◌, ◌∙◌, ◌∷◌, ◌++◌, List, [], ap, sym, subst, length, arith}
 use Rattle.model.specs.Command.{Entry}
 use Rattle.model.specs.History.{Chronicle, replay}
@@ -8,34 +9,36 @@ use Rattle.updating.proofs.publication.publish.Goals as goal
 
 pub publish-requires-clause-longer : goal.publish-requires-clause-longer
 publish-requires-clause-longer g c =
-    let v = c.in_ok-version.version in
+    let v = c.deref.result.now in
     let current = c.args.current.now in
     let jobs = c.args.jobs.now in
-    let made = applied v c.version-latest.result.now current jobs c.in_ok-version.ensures.all c.version-latest.ensures.newest in
+    let made = applied v c.version-latest.result.now current jobs (c.deref.ensures ∙ c.in_ok-shared.ensures.ok ∙ c.in_ok-version.ensures.all) c.version-latest.ensures.newest in
     subst (λ (l : List (List Entry)). length (newest l) < length v.entries) (sym (c.again-front.ensures.same ∙ c.front.ensures.front))
     (longer v current (replay opening_base (newest current)) jobs (ap (λ (k : Chronicle). k.entries) made) c.requires.some)
 
 pub new-found-requires : goal.new-found-requires
 new-found-requires g c =
-    let v = c.in_ok-version.version in
-    let made = applied v c.version-latest.result.now c.args.current.now c.args.jobs.now c.in_ok-version.ensures.all c.version-latest.ensures.newest in
-    record { newest = is_newest v c.again-front.result c.publish.new.self (ap (λ (k : Chronicle). k.base) made) c.if-not-publish.ensures.published }
+    let v = arc_value c.in_ok-shared.shared in
+    let made = applied v c.version-latest.result.now c.args.current.now c.args.jobs.now (c.in_ok-shared.ensures.ok ∙ c.in_ok-version.ensures.all) c.version-latest.ensures.newest in
+    let published = c.if-not-publish.ensures.published ∙ ap (λ (k : Chronicle). c.again-front.result ++ k.entries ∷ []) c.deref.ensures in
+    record { newest = is_newest v c.again-front.result c.publish.new.self (ap (λ (k : Chronicle). k.base) made) published }
 
 pub returns-clause-drafts : goal.returns-clause-drafts
 returns-clause-drafts g c =
-    let v = c.in_ok-version.version in
+    let v = arc_value c.in_ok-shared.shared in
     let current = c.args.current.now in
-    let made = applied v c.version-latest.result.now current c.args.jobs.now c.in_ok-version.ensures.all c.version-latest.ensures.newest in
+    let made = applied v c.version-latest.result.now current c.args.jobs.now (c.in_ok-shared.ensures.ok ∙ c.in_ok-version.ensures.all) c.version-latest.ensures.newest in
     drafts_told c.new-found.result v c.place.result (newest current) (entries_after current c.args.jobs.now) c.in_ok-drafts.drafts.items
     c.in_ok-drafts.ensures (ap (λ (k : Chronicle). k.entries) made) (c.place.ensures.place ∙ ap (λ (k : Chronicle). length k.entries) c.version-latest.ensures.newest)
 
 pub returns-clause-published : goal.returns-clause-published
 returns-clause-published g c =
-    let v = c.in_ok-version.version in
+    let v = arc_value c.in_ok-shared.shared in
     let current = c.args.current.now in
-    let made = applied v c.version-latest.result.now current c.args.jobs.now c.in_ok-version.ensures.all c.version-latest.ensures.newest in
+    let made = applied v c.version-latest.result.now current c.args.jobs.now (c.in_ok-shared.ensures.ok ∙ c.in_ok-version.ensures.all) c.version-latest.ensures.newest in
+    let published = c.if-not-publish.ensures.published ∙ ap (λ (k : Chronicle). c.again-front.result ++ k.entries ∷ []) c.deref.ensures in
     drafts_published c.new-found.result v c.place.result c.in_ok-drafts.drafts.items c.in_ok-drafts.ensures
-    (subst (IsNewest v) (sym c.new-found.ensures.front) (is_newest v c.again-front.result c.publish.new.self (ap (λ (k : Chronicle). k.base) made) c.if-not-publish.ensures.published))
+    (subst (IsNewest v) (sym c.new-found.ensures.front) (is_newest v c.again-front.result c.publish.new.self (ap (λ (k : Chronicle). k.base) made) published))
     (one_more c.new-found.result current v.entries c.place.result
-    (c.new-found.ensures.front ∙ c.if-not-publish.ensures.published ∙ ap (λ (l : List (List Entry)). l ++ v.entries ∷ []) (c.again-front.ensures.same ∙ c.front.ensures.front))
+    (c.new-found.ensures.front ∙ published ∙ ap (λ (l : List (List Entry)). l ++ v.entries ∷ []) (c.again-front.ensures.same ∙ c.front.ensures.front))
     (omega (arith, c.publication-count.ensures.few, c.place.ensures.place, ap (λ (k : Chronicle). length k.entries) c.version-latest.ensures.newest)))

@@ -1,3 +1,4 @@
+use Rattle.std.specs.Arc.{arc_value}
 use Rattle.std.proofs.Common.{◌≡◌, ◌+◌, ◌∙◌, ◌∷◌, [], ◌++◌, List, Some, ap, sym, subst, length, arith}
 use Rattle.model.specs.Command.{Entry}
 use Rattle.model.specs.History.{Chronicle}
@@ -10,37 +11,41 @@ use Rattle.updating.proofs.swapping.publish_copy.Goals as goal
 
 pub new-found-requires : goal.new-found-requires
 new-found-requires g c =
-    let v = c.in_ok-version.version in
+    let v = arc_value c.in-Ok.shared in
     let current = c.args.current.now in
-    let made = applied v c.version-latest.result.now current (compaction_of c.args.seat ∷ []) c.in_ok-version.ensures.compacted c.version-latest.ensures.newest in
-    record { newest = subst (IsNewest v) (sym c.again.ensures.same) (is_newest v c.again-front.result c.publish.new.self (ap (λ (k : Chronicle). k.base) made) c.if-not-publish.ensures.published) }
+    let made = applied v c.version-latest.result.now current (compaction_of c.args.seat ∷ []) (c.in-Ok.ensures.ok ∙ c.in_ok-version.ensures.compacted) c.version-latest.ensures.newest in
+    let published = c.if-not-publish.ensures.published ∙ ap (λ (k : Chronicle). c.again-front.result ++ k.entries ∷ []) c.deref-2.ensures in
+    record { newest = subst (IsNewest v) (sym c.again.ensures.same) (is_newest v c.again-front.result c.publish.new.self (ap (λ (k : Chronicle). k.base) made) published) }
 
 pub new-answered-requires : goal.new-answered-requires
 new-answered-requires g c =
-    let v = c.in_ok-version.version in
+    let v = arc_value c.in-Ok.shared in
     let current = c.args.current.now in
-    let made = applied v c.version-latest.result.now current (compaction_of c.args.seat ∷ []) c.in_ok-version.ensures.compacted c.version-latest.ensures.newest in
-    record { newest = subst (λ (k : Chronicle). IsNewest k c.publish.new.self) (sym c.in_ok-shared.ensures.same) (is_newest v c.again-front.result c.publish.new.self (ap (λ (k : Chronicle). k.base) made) c.if-not-publish.ensures.published) }
+    let made = applied v c.version-latest.result.now current (compaction_of c.args.seat ∷ []) (c.in-Ok.ensures.ok ∙ c.in_ok-version.ensures.compacted) c.version-latest.ensures.newest in
+    let published = c.if-not-publish.ensures.published ∙ ap (λ (k : Chronicle). c.again-front.result ++ k.entries ∷ []) c.deref-2.ensures in
+    record { newest = subst (λ (k : Chronicle). IsNewest k c.publish.new.self) (sym c.in_ok-again.ensures) (is_newest v c.again-front.result c.publish.new.self (ap (λ (k : Chronicle). k.base) made) published) }
 
-pub new-requires-2-clause-counted : goal.new-requires-2-clause-counted
-new-requires-2-clause-counted g c =
-    let v = c.in_ok-version.version in
+pub new-requires-3-clause-counted : goal.new-requires-3-clause-counted
+new-requires-3-clause-counted g c =
+    let v = arc_value c.in-Ok.shared in
     let current = c.args.current.now in
-    let made = applied v c.version-latest.result.now current (compaction_of c.args.seat ∷ []) c.in_ok-version.ensures.compacted c.version-latest.ensures.newest in
-    let newest_is = is_newest v c.again-front.result c.publish.new.self (ap (λ (k : Chronicle). k.base) made) c.if-not-publish.ensures.published in
-    omega (arith, c.publication-count.ensures.few, c.place-place.ensures.place, ap length newest_is.entries, ap (λ (l : List (List Entry)). length (newest l)) c.new-answered.ensures.front)
+    let made = applied v c.version-latest.result.now current (compaction_of c.args.seat ∷ []) (c.in-Ok.ensures.ok ∙ c.in_ok-version.ensures.compacted) c.version-latest.ensures.newest in
+    let published = c.if-not-publish.ensures.published ∙ ap (λ (k : Chronicle). c.again-front.result ++ k.entries ∷ []) c.deref-2.ensures in
+    let newest_is = is_newest v c.again-front.result c.publish.new.self (ap (λ (k : Chronicle). k.base) made) published in
+    omega (arith, c.publication-count.ensures.few, c.place-place.ensures.place, ap (λ (k : Chronicle). length k.entries) c.deref.ensures, ap length newest_is.entries, ap (λ (l : List (List Entry)). length (newest l)) c.new-answered.ensures.front)
 
-pub new-requires-2-clause-stands : goal.new-requires-2-clause-stands
-new-requires-2-clause-stands g c =
-    let v = c.in_ok-version.version in
+pub new-requires-3-clause-stands : goal.new-requires-3-clause-stands
+new-requires-3-clause-stands g c =
+    let v = arc_value c.in-Ok.shared in
     let current = c.args.current.now in
     let jobs = compaction_of c.args.seat ∷ [] in
-    let made = applied v c.version-latest.result.now current jobs c.in_ok-version.ensures.compacted c.version-latest.ensures.newest in
+    let made = applied v c.version-latest.result.now current jobs (c.in-Ok.ensures.ok ∙ c.in_ok-version.ensures.compacted) c.version-latest.ensures.newest in
     let entries = ap (λ (k : Chronicle). k.entries) made in
     let before = c.again-front.ensures.same ∙ c.front.ensures.front in
+    let published = c.if-not-publish.ensures.published ∙ ap (λ (k : Chronicle). c.again-front.result ++ k.entries ∷ []) c.deref-2.ensures in
     let found : c.new-answered.result ≡ published_with current jobs =
-    c.new-answered.ensures.front ∙ c.if-not-publish.ensures.published
+    c.new-answered.ensures.front ∙ published
     ∙ (λ i. before i ++ entries i ∷ [])
     in
-    let place : c.place-place.result ≡ length (newest current) + 1 = omega (arith, c.place-place.ensures.place, ap length entries, length-newest_with current c.args.seat, ap length (newest_with current jobs)) in
-    entry_stands c.new-answered.result current c.args.seat c.place-place.result found place ∙ ap Some (sym c.new.ensures.reply)
+    let place : c.place-place.result ≡ length (newest current) + 1 = omega (arith, c.place-place.ensures.place, ap (λ (k : Chronicle). length k.entries) c.deref.ensures, ap length entries, length-newest_with current c.args.seat, ap length (newest_with current jobs)) in
+    entry_stands c.new-answered.result current c.args.seat c.place-place.result found place ∙ ap Some (sym c.new-2.ensures.reply)
