@@ -7,6 +7,10 @@ use std::alloc::Global;
 /// So many words of memory are about what two batches of eight small jobs keep.
 const WORDS: usize = 2_048;
 
+/// So many documents of a command are looked up ahead: of a large bulk, what was read first would have left the caches
+/// again before it is written.
+const DOCUMENTS: usize = 64;
+
 /// Does what can be done ahead of the updater's work on a command, whichever thread is to do it: it changes nothing
 /// that anyone sees, and takes the time of a thread that would wait.
 pub(crate) fn prepare(alloc: Global, seen: &Version, command: &Command) {
@@ -20,18 +24,18 @@ fn grow_heap(alloc: Global) {
     let _given_back = vec![in alloc; 0u64; WORDS];
 }
 
-/// Looks up the documents that the command writes, so that who does the updater's work finds the way to them in a
-/// cache. A version that was seen lately leads there as the next one will.
+/// Looks up the first documents that the command writes, so that who does the updater's work finds the way to them in
+/// a cache. A version that was seen lately leads there as the next one will.
 fn read_ahead(seen: &Version, command: &Command) {
     let documents = seen.database().documents();
     match command.kind() {
         CommandKind::Edits(edits) => {
-            for edit in edits {
+            for edit in edits.iter().take(DOCUMENTS) {
                 let _record = documents.get(&edit.id);
             }
         }
         CommandKind::Merges(merges) => {
-            for merge in merges {
+            for merge in merges.iter().take(DOCUMENTS) {
                 let _record = documents.get(merge.id());
             }
         }
