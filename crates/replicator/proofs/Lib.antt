@@ -4,4 +4,5 @@ pub mod Lengths
 pub mod Passes
 pub mod Turns
 pub mod Runs
+pub mod Searched
 pub mod Logs

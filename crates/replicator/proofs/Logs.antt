@@ -224,7 +224,7 @@ due-goes id batch (Ready ends) log side (Bulk documents answer) tells due = absu
 due-goes id batch (Ready ends) log side (LocalPut written named last_seq answer) tells due = absurd due
 due-goes id batch (Paged ends page) log side (Diff asked (Ok differences)) tells due = (
   due.0,
-  readable id batch (log ++ called side (Diff asked (Ok differences)) ∷ []) (goes_on (Passing (first_pass ends page differences))) (is_readable_difference (entries asked) (entries differences))
+  readable id batch (log ++ called side (Diff asked (Ok differences)) ∷ []) (goes_on (Passing (first_pass ends page differences))) (is_readable_difference asked differences)
       (passing id batch log side asked ends page differences tells due.0 due.1),
 )
 due-goes id batch (Paged ends page) log side (Diff asked (Err f)) tells due = (due.0, tt)
@@ -302,7 +302,7 @@ due-ends id batch (Ready ends) log side (OpenRevs of revs answer) tells due told
 due-ends id batch (Ready ends) log side (Bulk documents answer) tells due told = absurd due
 due-ends id batch (Ready ends) log side (LocalPut written named last_seq answer) tells due told = absurd due
 due-ends id batch (Paged ends page) log side (Diff asked (Ok differences)) tells due told =
-    absurd (goes-on (is_readable_difference (entries asked) (entries differences)) (Passing (first_pass ends page differences)) told)
+    absurd (goes-on (is_readable_difference asked differences) (Passing (first_pass ends page differences)) told)
 due-ends id batch (Paged ends page) log side (Diff asked (Err f)) tells due told = absurd (cc)
 due-ends id batch (Paged ends page) log side (LocalGet read answer) tells due told = absurd due
 due-ends id batch (Paged ends page) log side (Changes since limit answer) tells due told = absurd due

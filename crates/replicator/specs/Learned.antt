@@ -1,6 +1,5 @@
 -- What a worker learns from the answer to a call.
 use Rattle.std.specs.Prelude.{ℕ, ◌+◌, true, List, [], ◌∷◌, ◌++◌, length, Some, Result, Ok, Err, if◌then◌else◌}
-use Rattle.model.specs.Map.{entries}
 use Rattle.model.specs.Command.{Id, Merge}
 use Rattle.model.specs.Query.{ChangesPage}
 use Rattle.model.specs.Revision.{Rev}
@@ -67,7 +66,7 @@ learnt Unread (LocalGet id (Ok source)) = goes_on (SourceRead source)
 learnt (SourceRead source) (LocalGet id (Ok target)) = goes_on (Ready (ends_of source target))
 learnt (Ready ends) (Changes since limit (Ok page)) = if is_readable_page since limit page then learnt_of_page ends page else Err fault.Unreadable
 learnt (Paged ends page) (Diff asked (Ok differences)) =
-    if is_readable_difference (entries asked) (entries differences) then goes_on (Passing (first_pass ends page differences)) else Err fault.Unreadable
+    if is_readable_difference asked differences then goes_on (Passing (first_pass ends page differences)) else Err fault.Unreadable
 learnt (Passing p) (OpenRevs id revs (Ok opened)) =
     if is_readable_opened id revs opened then goes_on (Passing (with_opened p id revs opened)) else Err fault.Unreadable
 learnt (Passing p) (Bulk documents (Ok taken)) = goes_on (Passing (with_taken p documents))

@@ -1,7 +1,7 @@
 -- Which answers can be read.
-use Rattle.std.specs.Prelude.{ℕ, Bool, true, ◌&&◌, List, [], ◌∷◌, length, Result, Ok, Err, nat_lt, nat_le}
+use Rattle.std.specs.Prelude.{ℕ, Bool, true, ◌&&◌, List, [], ◌∷◌, length, unwrap_or, Result, Ok, Err, nat_lt, nat_le}
 use Rattle.std.specs.List.{list_all, list_any}
-use Rattle.model.specs.Map.{same_key}
+use Rattle.model.specs.Map.{Map, entries, get, same_key}
 use Rattle.model.specs.Command.{Id, Merge, names}
 use Rattle.model.specs.Query.{ChangesPage, Difference, Row}
 use Rattle.model.specs.Revision.{Rev, same_rev}
@@ -21,13 +21,17 @@ abbrev pub is_readable_page : ℕ → ℕ → ChangesPage → Bool
 is_readable_page since limit page =
     rises_above since page.rows && nat_le (length page.rows) limit && nat_le (last_number since page.rows) page.last_seq
 
--- whether a revision was asked about under this id
-abbrev pub was_asked : List (Id × List Rev) → Id → Rev → Bool
-was_asked asked id rev = list_any (λ a. same_key names a.0 id && list_any (λ r. same_rev r rev) a.1) asked
+-- the revisions that were asked about under an id, and none where it was not named
+abbrev pub asked_about : Map names (List Rev) → Id → List Rev
+asked_about asked id = unwrap_or (get asked id) []
+
+-- whether a revision is one of these
+abbrev pub is_among : List Rev → Rev → Bool
+is_among revs rev = list_any (λ r. same_rev r rev) revs
 
 -- whether each revision that is missing was asked about under its id
-abbrev pub is_readable_difference : List (Id × List Rev) → List (Id × Difference) → Bool
-is_readable_difference asked differences = list_all (λ d. list_all (was_asked asked d.0) d.1.missing) differences
+abbrev pub is_readable_difference : Map names (List Rev) → Map names Difference → Bool
+is_readable_difference asked differences = list_all (λ d. list_all (is_among (asked_about asked d.0)) d.1.missing) (entries differences)
 
 -- the revisions that a document brings, newest first
 abbrev pub path_of : Merge → List Rev
@@ -35,7 +39,7 @@ path_of document = document.newest ∷ document.older
 
 -- whether an answer tells of a revision: it stands in the path of a document, or is missing
 abbrev pub tells_of : Rev → Result Merge Rev → Bool
-tells_of rev (Ok document) = list_any (λ r. same_rev r rev) (path_of document)
+tells_of rev (Ok document) = is_among (path_of document) rev
 tells_of rev (Err missing) = same_rev missing rev
 
 -- whether what is given is the document of this id

@@ -1,15 +1,12 @@
 //! Which answers can be read.
-ghost use Rattle.std.specs.Prelude.{◌≡◌, ◌&&◌};
+ghost use Rattle.std.specs.Prelude.{◌≡◌};
 ghost use Rattle.std.specs.List.{list_all, list_any};
-ghost use Rattle.model.specs.Command.{names};
-ghost use Rattle.model.specs.Map.{entries, same_key};
-ghost use Rattle.model.specs.Revision.{same_rev};
-ghost use Rattle.replicator.specs.Readable.{is_of, is_readable_difference, is_readable_opened, is_readable_page, last_number, path_of, rises_above, tells_of, was_asked};
+ghost use Rattle.replicator.specs.Readable.{asked_about, is_among, is_of, is_readable_difference, is_readable_opened, is_readable_page, last_number, path_of, rises_above, tells_of};
 
 use crate::peer::Opened;
-use commands::{AskedRevisions, Merge, NamedRevisions};
+use commands::{Merge, NamedRevisions};
 use document_id::DocId;
-use queries::{ChangesPage, Difference, Differences, Row};
+use queries::{ChangesPage, Differences, Row};
 use revision_id::RevId;
 
 /// Whether a page of at most `limit` rows can follow this number.
@@ -48,35 +45,33 @@ fn last_number(since: u64, rows: &[Row]) -> u64
 
 /// Whether each revision that is missing was asked about under its id.
 pub(crate) fn is_readable_difference(asked: &NamedRevisions, differences: &Differences) -> bool
-    ensures { result ≡ is_readable_difference (entries asked.now) (entries differences.now) }
+    ensures { result ≡ is_readable_difference asked.now differences.now }
 {
-    differences.documents().iter().all(|(id, difference)| were_asked(
-        asked.documents(),
-        id,
-        difference,
+    differences.documents().iter().all(|(id, difference)| are_among(
+        asked_about(asked, id),
+        &difference.missing,
     ))
 }
 
-fn were_asked(asked: &[AskedRevisions], id: &DocId, difference: &Difference) -> bool
-    ensures { result ≡ list_all (was_asked asked.now id.now) difference.now.missing }
+/// The revisions that were asked about under an id, and none where it was not named.
+fn asked_about<'a>(asked: &'a NamedRevisions, id: &DocId) -> &'a [RevId]
+    ensures { result.now ≡ asked_about asked.now id.now }
 {
-    difference
-        .missing
-        .iter()
-        .all(|rev| was_asked(asked, id, rev))
+    let documents = asked.documents();
+    match documents.binary_search_by(|asked| asked.id.cmp(id)) {
+        Ok(place) => {
+            let found = &documents[place];
+            &found.revisions
+        }
+        Err(_) => &[],
+    }
 }
 
-/// Whether a revision was asked about under this id.
-fn was_asked(asked: &[AskedRevisions], id: &DocId, rev: &RevId) -> bool
-    ensures { result ≡ was_asked asked.now id.now rev.now }
+/// Whether each revision that is missing is one of these.
+fn are_among(revs: &[RevId], missing: &[RevId]) -> bool
+    ensures { result ≡ list_all (is_among revs.now) missing.now }
 {
-    asked.iter().any(|asked| names_rev(asked, id, rev))
-}
-
-fn names_rev(asked: &AskedRevisions, id: &DocId, rev: &RevId) -> bool
-    ensures { result ≡ (same_key names asked.now.0 id.now && list_any (λ r. same_rev r rev.now) asked.now.1) }
-{
-    asked.id == *id && asked.revisions.contains(rev)
+    missing.iter().all(|rev| revs.contains(rev))
 }
 
 /// Whether each revision that was asked for is told of, and no other document is given.
