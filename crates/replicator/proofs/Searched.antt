@@ -1,5 +1,5 @@
 -- What a binary search finds among the entries of a map, which ascend.
-use Rattle.std.proofs.Common.{◌≡◌, ℕ, ◌<◌, ◌≤◌, zero, suc, List, [], ◌∷◌, length, get_or, Option, Some, None, Ok, Err, Less, Equal, Greater, Ordering, refl, sym, ap, ◌∙◌, subst, ⊎_elim, arith}
+use Rattle.std.proofs.Common.{◌≡◌, ℕ, ◌<◌, ◌≤◌, length, get_or, Option, Some, None, Ok, Err, Less, Equal, Greater, Ordering, refl, sym, ap, ◌∙◌, subst, ⊎_elim, arith}
 use Rattle.std.proofs.lemmas.Bool.{cases_lt}
 use Rattle.std.specs.Prelude.{AllPairs, Contains, slice_index_or}
 use Rattle.std.specs.Cmp.{tied_itself}
@@ -8,11 +8,6 @@ use Rattle.std.specs.List.Sorted.{IsSearchInRange, IsBinarySearchResult, IsNonDe
 use Rattle.model.specs.Map.{Map, Order, entries, get}
 use Rattle.model.proofs.MapLaws.{Contains-entries, IsRising-keys}
 use Rattle.model.proofs.RisingLaws.{AllPairs-map}
-
-same_at : {E : Type 0} (es : List E) (i : ℕ) (d e : E) → i < length es → get_or es i d ≡ get_or es i e
-same_at [] i d e lt = absurd (omega arith)
-same_at (x ∷ es) zero d e lt = refl
-same_at (x ∷ es) (suc i) d e lt = same_at es i d e (omega arith)
 
 module _ (O : Order) {X : Type 0} (m : Map O X) (k : O.key) where
   abbrev Entry : Type 0
