@@ -43,9 +43,14 @@ pub enum CommandKind {
 }
 
 /// What a session asks to be done, within the limits.
-#[derive(Drop)]
 pub struct Command {
     kind: CommandKind,
+}
+
+impl Drop for Command {
+    fn drop(self) {
+        let Command { kind: _ } = self;
+    }
 }
 
 impl Model for Command {

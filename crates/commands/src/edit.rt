@@ -11,12 +11,22 @@ use std::marker::Model;
 use std::sync::Arc;
 
 /// An edit of a document, over the revision that it names.
-#[derive(Drop)]
 pub struct Edit {
     pub id: DocId,
     pub named: Option<RevId>,
     pub deleted: bool,
     pub body: Arc<Body>,
+}
+
+impl Drop for Edit {
+    fn drop(self) {
+        let Edit {
+            id: _,
+            named: _,
+            deleted: _,
+            body: _,
+        } = self;
+    }
 }
 
 impl Model for Edit {

@@ -9,10 +9,18 @@ use std::alloc::{AllocError, Global};
 use std::marker::Model;
 
 /// A command that waits for its turn.
-#[derive(Drop)]
 pub struct Job {
     pub seat: Seat,
     pub command: Command,
+}
+
+impl Drop for Job {
+    fn drop(self) {
+        let Job {
+            seat: _,
+            command: _,
+        } = self;
+    }
 }
 
 impl Model for Job {
@@ -28,11 +36,20 @@ impl Model for Job {
 }
 
 /// A command that was answered.
-#[derive(Drop)]
 pub struct Entry {
     pub seat: Seat,
     pub command: Command,
     pub reply: Reply,
+}
+
+impl Drop for Entry {
+    fn drop(self) {
+        let Entry {
+            seat: _,
+            command: _,
+            reply: _,
+        } = self;
+    }
 }
 
 impl Model for Entry {

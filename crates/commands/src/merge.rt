@@ -15,12 +15,22 @@ use std::marker::Model;
 use std::sync::Arc;
 
 /// A revision from another replica, with what is known of its ancestors.
-#[derive(Drop)]
 pub struct Merge {
     id: DocId,
     path: Vec<RevId>,
     deleted: bool,
     body: Arc<Body>,
+}
+
+impl Drop for Merge {
+    fn drop(self) {
+        let Merge {
+            id: _,
+            path: _,
+            deleted: _,
+            body: _,
+        } = self;
+    }
 }
 
 impl Model for Merge {

@@ -12,10 +12,18 @@ use std::alloc::{AllocError, Global};
 use std::marker::Model;
 
 /// A document, and revisions of it.
-#[derive(Drop)]
 pub struct AskedRevisions {
     pub id: DocId,
     pub revisions: Vec<RevId>,
+}
+
+impl Drop for AskedRevisions {
+    fn drop(self) {
+        let AskedRevisions {
+            id: _,
+            revisions: _,
+        } = self;
+    }
 }
 
 impl Model for AskedRevisions {
@@ -39,10 +47,15 @@ impl AskedRevisions {
 }
 
 /// Revisions of each document, in the byte order of the ids, each of which stands there once.
-#[derive(Drop)]
 pub struct NamedRevisions {
     documents: Vec<AskedRevisions>,
     ghost rising: { T (is_sorted names.cmp documents.items) },
+}
+
+impl Drop for NamedRevisions {
+    fn drop(self) {
+        let NamedRevisions { documents: _ } = self;
+    }
 }
 
 impl Model for NamedRevisions {

@@ -26,9 +26,14 @@ pub enum ReplyKind {
 }
 
 /// What a command is answered.
-#[derive(Drop)]
 pub struct Reply {
     kind: ReplyKind,
+}
+
+impl Drop for Reply {
+    fn drop(self) {
+        let Reply { kind: _ } = self;
+    }
 }
 
 impl Model for Reply {

@@ -23,7 +23,6 @@ use std::marker::Model;
 ///
 /// It pins the version that it was started with, and from the first `catch_up` on the last version
 /// that it was given.
-#[derive(Drop)]
 pub struct Compaction {
     alloc: Global,
     seen: Version,
@@ -33,6 +32,21 @@ pub struct Compaction {
     update_mark: u64,
     purge_mark: u64,
     visited: u64,
+}
+
+impl Drop for Compaction {
+    fn drop(self) {
+        let Compaction {
+            alloc: _,
+            seen: _,
+            last: _,
+            left: _,
+            records: _,
+            update_mark: _,
+            purge_mark: _,
+            visited: _,
+        } = self;
+    }
 }
 
 impl Model for Compaction {

@@ -19,11 +19,20 @@ use std::sync::Arc;
 /// No call changes a map: a call that puts or takes a key gives a new one, and every older map
 /// holds what it held. A look-up, an insertion and a removal take a number of steps that grows
 /// with [`height`](CowMap::height), and so does the memory that the last two take.
-#[derive(Drop)]
 pub struct CowMap<K: IndexKey, V> {
     alloc: Global,
     root: Root<K, V>,
     nodes_made: u64,
+}
+
+impl<K: IndexKey, V: Drop> Drop for CowMap<K, V> {
+    fn drop(self) {
+        let CowMap {
+            alloc: _,
+            root: _,
+            nodes_made: _,
+        } = self;
+    }
 }
 
 impl<K: IndexKey, V> Model for CowMap<K, V> {
@@ -164,11 +173,16 @@ impl<K: IndexKey, V: Drop> CowMap<K, V> {
         if self.len() == u64::MAX {
             return Err(AllocError);
         }
-        prove!(self.root.height() <= MAX_HEIGHT as u64);
-        let entry = Arc::new(self.alloc, Entry { key, value })?;
-        let mut nodes = NodeMaker::new(self.alloc);
-        let root = self.root.into_with(entry, &mut nodes)?;
-        Ok(CowMap::of_root(self.alloc, root, nodes.made))
+        let CowMap {
+            alloc,
+            root,
+            nodes_made: _,
+        } = self;
+        prove!(root.height() <= MAX_HEIGHT as u64);
+        let entry = Arc::new(alloc, Entry { key, value })?;
+        let mut nodes = NodeMaker::new(alloc);
+        let root = root.into_with(entry, &mut nodes)?;
+        Ok(CowMap::of_root(alloc, root, nodes.made))
     }
 
     /// As [`remove`](CowMap::remove), of a map that is given up.
@@ -177,12 +191,18 @@ impl<K: IndexKey, V: Drop> CowMap<K, V> {
         ensures no_nodes { find K.cmp key.now self.entries ≡ None → IfOk result (λ m. m.nodes_made ≡ 0) }
         ensures few_nodes { IfOk result (λ m. m.nodes_made ≤ 4 * (max self.height m.height + 1)) }
     {
-        if self.get(key).is_none() {
-            return Ok(CowMap::of_root(self.alloc, self.root, 0));
+        let is_none = self.get(key).is_none();
+        let CowMap {
+            alloc,
+            root,
+            nodes_made: _,
+        } = self;
+        if is_none {
+            return Ok(CowMap::of_root(alloc, root, 0));
         }
-        prove!(self.root.height() <= MAX_HEIGHT as u64);
-        let mut nodes = NodeMaker::new(self.alloc);
-        let root = self.root.into_without(key, &mut nodes)?;
-        Ok(CowMap::of_root(self.alloc, root, nodes.made))
+        prove!(root.height() <= MAX_HEIGHT as u64);
+        let mut nodes = NodeMaker::new(alloc);
+        let root = root.into_without(key, &mut nodes)?;
+        Ok(CowMap::of_root(alloc, root, nodes.made))
     }
 }

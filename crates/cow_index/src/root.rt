@@ -32,9 +32,14 @@ pub(crate) enum Top<K, V> {
 }
 
 /// The root of a map, seen as its entries in order and its height.
-#[derive(Drop)]
 pub(crate) struct Root<K, V> {
     pub(crate) top: Top<K, V>,
+}
+
+impl<K: Drop, V: Drop> Drop for Root<K, V> {
+    fn drop(self) {
+        let Root { top: _ } = self;
+    }
 }
 
 impl<K, V> Model for Root<K, V> {

@@ -6,9 +6,14 @@ use std::marker::Model;
 use std::sync::Arc;
 
 /// A value that several maps hold. Two shares of one value are equal.
-#[derive(Drop)]
 pub struct Shared<T> {
     arc: Arc<T>,
+}
+
+impl<T: Drop> Drop for Shared<T> {
+    fn drop(self) {
+        let Shared { arc: _ } = self;
+    }
 }
 
 impl<T> Model for Shared<T> {

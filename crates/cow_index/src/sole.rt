@@ -1,10 +1,10 @@
 //! Insertions into a tree that is given up, removals from it and what is joined to it: a node that no
 //! other tree holds is changed in its place, and any other is shared as ever.
-ghost use Rattle.std.specs.Prelude.{◌≡◌, ◌+◌, ◌-◌, ◌*◌, ◌^◌, ◌<◌, ◌≤◌, max, [], ◌∷◌, ◌++◌, IfOk, IfErr, IfSome, IfNone, OnOk, length, T};
+ghost use Rattle.std.specs.Prelude.{◌≡◌, ◌+◌, ◌-◌, ◌*◌, ◌^◌, ◌<◌, ◌≤◌, max, ◌∷◌, ◌++◌, IfOk, OnOk, length, T};
 ghost use Rattle.std.specs.Arc.{arc_value};
 ghost use Rattle.cow_index.specs.Height.{DifferByAtMost, IsHeightAfterRebalance};
 ghost use Rattle.std.specs.FinMap.Entries.{put, is_sorted};
-ghost use Rattle.cow_index.specs.Tree.{pair_of, IsRoot, IsLevel};
+ghost use Rattle.cow_index.specs.Tree.{pair_of};
 ghost use Rattle.cow_index.specs.NodeMaker.{MakesAtMost};
 ghost use Rattle.cow_index.specs.Entries.{without};
 
@@ -143,32 +143,6 @@ impl NodeMaker {
 }
 
 impl<K: Drop, V: Drop> Tree<K, V> {
-    /// The node at the root, where no other tree holds it, and else the tree again.
-    fn into_sole(self) -> Result<Arc<Node<K, V>>, Tree<K, V>>
-        ensures root { IfOk result (λ a. IsRoot self (arc_value a)) }
-        ensures level { IfOk result (λ a. IsLevel self (arc_value a)) }
-        ensures same { IfErr result (λ t. t ≡ self) }
-    {
-        let Tree { root } = self;
-        let Some(root) = root else {
-            return Err(Tree::new());
-        };
-        if Arc::strong_count(&root) != 1 {
-            return Err(Tree { root: Some(root) });
-        }
-        Ok(root)
-    }
-
-    /// The node at the root, whoever holds it.
-    fn into_root(self) -> Option<Arc<Node<K, V>>>
-        ensures root { IfSome result (λ a. IsRoot self (arc_value a)) }
-        ensures level { IfSome result (λ a. IsLevel self (arc_value a)) }
-        ensures empty { IfNone result (self ≡ ([], 0)) }
-    {
-        let Tree { root } = self;
-        root
-    }
-
     /// The entries of the tree, the entry, and those of a tree that is no higher, balanced: `right` hangs
     /// where the right edge of the tree is as low.
     pub(crate) fn into_joined(

@@ -1,5 +1,6 @@
 //! An AVL tree over shared nodes, seen as its entries in order and its height.
-ghost use Rattle.std.specs.Prelude.{◌≡◌, ◌+◌, ◌*◌, ◌/◌, ◌^◌, ◌<◌, ◌≤◌, [], IfOk, IsTrue, OnOk, IfSome, IfNone, length, T, slice_get, option_map, option_copied};
+ghost use Rattle.std.specs.Prelude.{◌≡◌, ◌+◌, ◌*◌, ◌/◌, ◌^◌, ◌<◌, ◌≤◌, [], IfOk, IfErr, IsTrue, OnOk, IfSome, IfNone, length, T, slice_get, option_map, option_copied};
+ghost use Rattle.std.specs.Arc.{arc_value};
 ghost use Rattle.std.specs.FinMap.Entries.{find, put, is_sorted};
 ghost use Rattle.std.specs.declared.cmp.Ordering.TheVariants.{Greater};
 ghost use Rattle.cow_index.specs.Tree.{pair_of, entries_of, height_of, IsRoot, IsLevel};
@@ -17,29 +18,52 @@ use std::sync::Arc;
 pub(crate) const MAX_HEIGHT: usize = 130;
 
 /// A key with its value. Nodes that were copied from one another share it.
-#[derive(Drop)]
 pub(crate) struct Entry<K, V> {
     pub(crate) key: K,
     pub(crate) value: V,
 }
 
+impl<K: Drop, V: Drop> Drop for Entry<K, V> {
+    fn drop(self) {
+        let Entry { key: _, value: _ } = self;
+    }
+}
+
 /// A tree, by the node at its root.
 #[cycle(tree)]
-#[derive(Drop)]
 pub(crate) struct Tree<K, V> {
     pub(crate) root: Option<Arc<Node<K, V>>>,
+}
+
+impl<K: Drop, V: Drop> Drop for Tree<K, V> {
+    #[cycle(tree)]
+    fn drop(self) {
+        let Tree { root: _ } = self;
+    }
 }
 
 /// An entry between two sides, with the height and the number of entries of it all. In a tree the heights
 /// of the sides differ by at most one; at the root of a map the left side may be the higher one by more.
 #[cycle(tree)]
-#[derive(Drop)]
 pub(crate) struct Node<K, V> {
     pub(crate) left: Tree<K, V>,
     pub(crate) entry: Arc<Entry<K, V>>,
     pub(crate) right: Tree<K, V>,
     pub(crate) height: u64,
     pub(crate) len: u64,
+}
+
+impl<K: Drop, V: Drop> Drop for Node<K, V> {
+    #[cycle(tree)]
+    fn drop(self) {
+        let Node {
+            left: _,
+            entry: _,
+            right: _,
+            height: _,
+            len: _,
+        } = self;
+    }
 }
 
 impl<K, V> Model for Tree<K, V> {
@@ -65,6 +89,32 @@ impl<K: Drop, V: Drop> Tree<K, V> {
         ensures { result ≡ ([], 0) }
     {
         Tree { root: None }
+    }
+
+    /// The node at the root, where no other tree holds it, and else the tree again.
+    pub(crate) fn into_sole(self) -> Result<Arc<Node<K, V>>, Tree<K, V>>
+        ensures root { IfOk result (λ a. IsRoot self (arc_value a)) }
+        ensures level { IfOk result (λ a. IsLevel self (arc_value a)) }
+        ensures same { IfErr result (λ t. t ≡ self) }
+    {
+        let Tree { root } = self;
+        let Some(root) = root else {
+            return Err(Tree::new());
+        };
+        if Arc::strong_count(&root) != 1 {
+            return Err(Tree { root: Some(root) });
+        }
+        Ok(root)
+    }
+
+    /// The node at the root, whoever holds it.
+    pub(crate) fn into_root(self) -> Option<Arc<Node<K, V>>>
+        ensures root { IfSome result (λ a. IsRoot self (arc_value a)) }
+        ensures level { IfSome result (λ a. IsLevel self (arc_value a)) }
+        ensures empty { IfNone result (self ≡ ([], 0)) }
+    {
+        let Tree { root } = self;
+        root
     }
 
     /// The node at the root.

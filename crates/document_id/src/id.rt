@@ -18,9 +18,14 @@ use std::marker::Model;
 const MAX_BYTES: usize = 512;
 
 /// A text of 1 to 512 bytes, shared by all that name the document where it is too long to lie in each.
-#[derive(Drop)]
 pub struct DocId {
     text: Text,
+}
+
+impl Drop for DocId {
+    fn drop(self) {
+        let DocId { text: _ } = self;
+    }
 }
 
 impl Model for DocId {

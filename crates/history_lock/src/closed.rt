@@ -8,10 +8,15 @@ use std::marker::Model;
 use updating::Opening;
 
 /// What is left at the end: the last version, and the numbers of the lost sessions.
-#[derive(Drop)]
 pub struct Closed<J: Opening> {
     last: Published<J>,
     lost: Vec<u16>,
+}
+
+impl<J: Opening> Drop for Closed<J> {
+    fn drop(self) {
+        let Closed { last: _, lost: _ } = self;
+    }
 }
 
 impl<J: Opening> Model for Closed<J> {

@@ -13,11 +13,20 @@ use turns::{Clerk, Line, Ticket};
 use updating::Opening;
 
 /// What a session is made of. Contracts see its number.
-#[derive(Drop)]
 pub(crate) struct Ends<J: Opening> {
     latest: Published<J>,
     lens: Lens<J>,
     ticket: Ticket<J>,
+}
+
+impl<J: Opening> Drop for Ends<J> {
+    fn drop(self) {
+        let Ends {
+            latest: _,
+            lens: _,
+            ticket: _,
+        } = self;
+    }
 }
 
 impl<J: Opening> Model for Ends<J> {

@@ -13,12 +13,22 @@ use std::sync::{Arc, Wait};
 use updating::{Core, Opening};
 
 /// What ends all calls of a database. It keeps the room that the end takes.
-#[derive(Drop)]
 pub struct Master<C: Drop, J: Opening, G: Drop> {
     shared: Arc<Shared<C, J, G>, Global>,
     first: Published<J>,
     ended: Vec<Ended<J>>,
     lost: Vec<u16>,
+}
+
+impl<C: Drop, J: Opening, G: Drop> Drop for Master<C, J, G> {
+    fn drop(self) {
+        let Master {
+            shared: _,
+            first: _,
+            ended: _,
+            lost: _,
+        } = self;
+    }
 }
 
 impl<C: Drop, J: Opening, G: Drop> Model for Master<C, J, G> {

@@ -36,10 +36,15 @@ pub enum ResponseFault {
 ///
 /// Room for them grows with what comes, twofold each time, and not with what a head tells. At most
 /// 16,384 bytes are read past a response.
-#[derive(Drop)]
 pub struct Incoming {
     bytes: Vec<u8>,
     end: usize,
+}
+
+impl Drop for Incoming {
+    fn drop(self) {
+        let Incoming { bytes: _, end: _ } = self;
+    }
 }
 
 impl Model for Incoming {

@@ -32,13 +32,24 @@ use streams::{Sink, Source, write_all};
 /// The connection is given up where a request was not written whole, or no response was read after
 /// it, or bytes came that nothing asked for. From then on each call that has the memory for its request
 /// is [`PeerFault::Failed`], and nothing is written and nothing read.
-#[derive(Drop)]
 pub struct HttpPeer<R: Source, W: Sink> {
     reader: R,
     writer: W,
     incoming: Incoming,
     is_open: bool,
     failures: u64,
+}
+
+impl<R: Source + Drop, W: Sink + Drop> Drop for HttpPeer<R, W> {
+    fn drop(self) {
+        let HttpPeer {
+            reader: _,
+            writer: _,
+            incoming: _,
+            is_open: _,
+            failures: _,
+        } = self;
+    }
 }
 
 impl<R: Source, W: Sink> Model for HttpPeer<R, W> {

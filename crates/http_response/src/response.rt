@@ -10,10 +10,15 @@ use arrayvec::ArrayString;
 use std::marker::Model;
 
 /// A response. Clauses see its bytes.
-#[derive(Drop)]
 pub struct Response {
     head: ArrayString<HEAD_ROOM>,
     body: BodyText,
+}
+
+impl Drop for Response {
+    fn drop(self) {
+        let Response { head: _, body: _ } = self;
+    }
 }
 
 impl Model for Response {

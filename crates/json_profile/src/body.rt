@@ -24,10 +24,15 @@ const MAX_BODY_NESTING: u8 = 64;
 
 /// The members of a document: no name begins with `_`, and the object nests at most
 /// [`MAX_BODY_NESTING`] deep. They are kept as their compact text, and `{}` as no byte.
-#[derive(Drop)]
 pub struct Body {
     text: String,
     split: usize,
+}
+
+impl Drop for Body {
+    fn drop(self) {
+        let Body { text: _, split: _ } = self;
+    }
 }
 
 impl Model for Body {

@@ -23,9 +23,14 @@ pub const MAX_NESTING: u8 = 72;
 
 /// A JSON value whose numbers are whole numbers of `i64`, and which nests at most
 /// [`MAX_NESTING`] deep.
-#[derive(Drop)]
 pub struct Json {
     value: Value,
+}
+
+impl Drop for Json {
+    fn drop(self) {
+        let Json { value: _ } = self;
+    }
 }
 
 impl Model for Json {

@@ -6,11 +6,19 @@ use std::marker::Model;
 use std::sync::Arc;
 
 /// A local document.
-#[derive(Drop)]
 pub struct LocalDoc {
     /// The number of its revision, from 1.
     pub counter: u32,
     pub body: Arc<Body>,
+}
+
+impl Drop for LocalDoc {
+    fn drop(self) {
+        let LocalDoc {
+            counter: _,
+            body: _,
+        } = self;
+    }
 }
 
 impl Model for LocalDoc {

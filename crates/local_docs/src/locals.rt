@@ -23,10 +23,15 @@ use std::sync::Arc;
 ///
 /// No call changes a value: a write gives a new one, which shares with the older one all but the
 /// nodes on the way to its document, and the older one holds what it held.
-#[derive(Drop)]
 pub struct Locals {
     documents: CowMap<DocId, LocalDoc>,
     ghost rising: { T (is_sorted model.names.cmp documents.entries) },
+}
+
+impl Drop for Locals {
+    fn drop(self) {
+        let Locals { documents: _ } = self;
+    }
 }
 
 impl Model for Locals {

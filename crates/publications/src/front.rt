@@ -122,11 +122,20 @@ pub struct Book<J: Naming> {
 }
 
 /// The first publications of the store `J`. Contracts see the published histories.
-#[derive(Drop)]
 pub struct Front<J: Naming> {
     count: u64,
     seen: Seen<History, u64, Law>,
     of: PhantomData<J>,
+}
+
+impl<J: Naming> Drop for Front<J> {
+    fn drop(self) {
+        let Front {
+            count: _,
+            seen: _,
+            of: _,
+        } = self;
+    }
 }
 
 impl<J: Naming> Model for Front<J> {

@@ -69,10 +69,15 @@ type ShownReader = Reader<Shown, Option<Shown>, OneBook>;
 type ShownWriter = Writer<Shown, Shown, Option<Shown>, OneBook>;
 
 /// A reader of the store `J`. It waits for nobody.
-#[derive(Drop)]
 pub struct Lens<J: Naming> {
     reader: ShownReader,
     of: PhantomData<J>,
+}
+
+impl<J: Naming> Drop for Lens<J> {
+    fn drop(self) {
+        let Lens { reader: _, of: _ } = self;
+    }
 }
 
 impl<J: Naming> Model for Lens<J> {

@@ -84,11 +84,19 @@ impl Absorb<Shown> for Shown {
 
 /// A published version of the store `J`. Contracts see the published histories, of which its own is
 /// the newest.
-#[derive(Drop)]
 pub struct Published<J: Naming> {
     /// All that was taken from one publication owns the same one.
     version: Arc<Version, Global>,
     front: Front<J>,
+}
+
+impl<J: Naming> Drop for Published<J> {
+    fn drop(self) {
+        let Published {
+            version: _,
+            front: _,
+        } = self;
+    }
 }
 
 impl<J: Naming> Model for Published<J> {

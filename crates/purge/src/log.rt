@@ -22,12 +22,22 @@ const FIRST_LIMIT: u32 = 1000;
 ///
 /// No call changes a log: a purge gives a new one, which shares with the older one all but the
 /// nodes on the way to what it changes.
-#[derive(Drop)]
 pub struct PurgeLog {
     alloc: Global,
     infos: CowMap<u64, Purged>,
     purge_seq: u64,
     limit: u32,
+}
+
+impl Drop for PurgeLog {
+    fn drop(self) {
+        let PurgeLog {
+            alloc: _,
+            infos: _,
+            purge_seq: _,
+            limit: _,
+        } = self;
+    }
 }
 
 impl Model for PurgeLog {

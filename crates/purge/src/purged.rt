@@ -6,10 +6,15 @@ use revision_id::RevId;
 use std::marker::Model;
 
 /// A document that was purged, and the leaves that it lost.
-#[derive(Drop)]
 pub struct Purged {
     id: DocId,
     leaves: Vec<RevId>,
+}
+
+impl Drop for Purged {
+    fn drop(self) {
+        let Purged { id: _, leaves: _ } = self;
+    }
 }
 
 impl Model for Purged {

@@ -30,9 +30,14 @@ pub enum AnswerKind {
 }
 
 /// The answer to a query.
-#[derive(Drop)]
 pub struct Answer {
     kind: AnswerKind,
+}
+
+impl Drop for Answer {
+    fn drop(self) {
+        let Answer { kind: _ } = self;
+    }
 }
 
 impl Model for Answer {

@@ -9,10 +9,18 @@ use revision_id::RevId;
 use std::marker::Model;
 
 /// Of the revisions asked for those that are not known, and the leaves that may be their ancestors.
-#[derive(Drop)]
 pub struct Difference {
     pub missing: Vec<RevId>,
     pub possible_ancestors: Vec<RevId>,
+}
+
+impl Drop for Difference {
+    fn drop(self) {
+        let Difference {
+            missing: _,
+            possible_ancestors: _,
+        } = self;
+    }
 }
 
 impl Model for Difference {
@@ -24,10 +32,15 @@ impl Model for Difference {
 }
 
 /// The documents that lack revisions, in the byte order of the ids.
-#[derive(Drop)]
 pub struct Differences {
     documents: Vec<(DocId, Difference)>,
     ghost rising: { T (is_sorted names.cmp documents.items) },
+}
+
+impl Drop for Differences {
+    fn drop(self) {
+        let Differences { documents: _ } = self;
+    }
 }
 
 impl Model for Differences {

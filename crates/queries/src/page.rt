@@ -5,7 +5,6 @@ use revision_id::RevId;
 use std::marker::Model;
 
 /// A document at its last update.
-#[derive(Drop)]
 pub struct Row {
     /// The number of the update.
     pub seq: u64,
@@ -14,6 +13,17 @@ pub struct Row {
     pub changes: Vec<RevId>,
     /// Whether the winner is deleted.
     pub deleted: bool,
+}
+
+impl Drop for Row {
+    fn drop(self) {
+        let Row {
+            seq: _,
+            id: _,
+            changes: _,
+            deleted: _,
+        } = self;
+    }
 }
 
 impl Model for Row {
@@ -25,13 +35,22 @@ impl Model for Row {
 }
 
 /// Some of the changes.
-#[derive(Drop)]
 pub struct ChangesPage {
     /// The number to go on from.
     pub last_seq: u64,
     /// How many rows are left.
     pub pending: u64,
     pub rows: Vec<Row>,
+}
+
+impl Drop for ChangesPage {
+    fn drop(self) {
+        let ChangesPage {
+            last_seq: _,
+            pending: _,
+            rows: _,
+        } = self;
+    }
 }
 
 impl Model for ChangesPage {

@@ -39,9 +39,14 @@ pub enum QueryKind {
 }
 
 /// What is asked of the database as it stands.
-#[derive(Drop)]
 pub struct Query {
     kind: QueryKind,
+}
+
+impl Drop for Query {
+    fn drop(self) {
+        let Query { kind: _ } = self;
+    }
 }
 
 impl Model for Query {

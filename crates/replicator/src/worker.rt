@@ -22,11 +22,20 @@ use std::mem::replace;
 pub const MAX_BATCH: u64 = 100;
 
 /// Brings the changes of a source to a target. Clauses see what it knows.
-#[derive(Drop)]
 pub struct Worker {
     id: DocId,
     batch: u64,
     stage: Stage,
+}
+
+impl Drop for Worker {
+    fn drop(self) {
+        let Worker {
+            id: _,
+            batch: _,
+            stage: _,
+        } = self;
+    }
 }
 
 impl Model for Worker {

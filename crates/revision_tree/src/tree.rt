@@ -28,11 +28,19 @@ use std::marker::Model;
 use std::sync::Arc;
 
 /// The revisions of a document: at least one, each with its parent where that is known, and each leaf with its body.
-#[derive(Drop)]
 pub struct RevTree {
     rows: Rows,
     /// Whether it is known to have no leaf but the newest revision.
     one_leaf: bool,
+}
+
+impl Drop for RevTree {
+    fn drop(self) {
+        let RevTree {
+            rows: _,
+            one_leaf: _,
+        } = self;
+    }
 }
 
 impl Model for RevTree {
@@ -111,11 +119,11 @@ impl RevTree {
         requires level { (l r : Rev) → is_known_leaf self l ≡ true → is_known self r ≡ true → r.generation ≤ l.generation }
         ensures { IfOk result (λ t. t ≡ stemming limit self) }
     {
-        let newest = last(&self.rows);
+        let RevTree { rows, one_leaf } = self;
+        let newest = last(&rows);
         let oldest = newest.generation().saturating_sub(limit);
-        let one_leaf = self.one_leaf;
         Ok(RevTree {
-            rows: above(alloc, self.rows, oldest)?,
+            rows: above(alloc, rows, oldest)?,
             one_leaf,
         })
     }

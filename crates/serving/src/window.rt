@@ -15,11 +15,20 @@ use streams::{Failed, Source};
 ///
 /// What is kept moves to the front only where the rest of its first request does not fit behind
 /// it, and then that request fits: so each byte moves once at most.
-#[derive(Drop)]
 pub struct Window {
     bytes: Vec<u8>,
     start: usize,
     end: usize,
+}
+
+impl Drop for Window {
+    fn drop(self) {
+        let Window {
+            bytes: _,
+            start: _,
+            end: _,
+        } = self;
+    }
 }
 
 impl Model for Window {

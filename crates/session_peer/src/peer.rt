@@ -22,11 +22,20 @@ use std::marker::Model;
 
 /// A session as one end of a replication. Its calls that wait do so by the context `X`. Contracts see
 /// what the session knows, and how many calls have failed.
-#[derive(Drop)]
 pub struct SessionPeer<'c, X, S: Viewer> {
     session: S,
     context: &'c X,
     failures: u64,
+}
+
+impl<X, S: Viewer + Drop> Drop for SessionPeer<'_, X, S> {
+    fn drop(self) {
+        let SessionPeer {
+            session: _,
+            context: _,
+            failures: _,
+        } = self;
+    }
 }
 
 impl<'c, X, S: Viewer> Model for SessionPeer<'c, X, S> {

@@ -1,22 +1,33 @@
 //! What is left of a session at the end.
 ghost use Rattle.std.specs.Prelude.{◌≡◌};
 ghost use mathlib.Core.List.{IsPrefix};
-ghost use Rattle.publications.specs.Histories.{newest, Grows};
+ghost use Rattle.publications.specs.Histories.{newest};
 ghost use Rattle.sessions.specs.Ends.{is_lost, IsExact};
 
-use crate::session::{Session, calls_of};
+use crate::session::calls_of;
 use publications::{Front, Published};
 use std::marker::Model;
 use updating::Opening;
 
 /// What is left of a session at the end. Contracts see what was known of the session.
-#[derive(Drop)]
 pub struct Ended<J: Opening> {
-    number: u16,
-    calls: u64,
-    pushes: u64,
-    lost: bool,
-    seen: Front<J>,
+    pub(crate) number: u16,
+    pub(crate) calls: u64,
+    pub(crate) pushes: u64,
+    pub(crate) lost: bool,
+    pub(crate) seen: Front<J>,
+}
+
+impl<J: Opening> Drop for Ended<J> {
+    fn drop(self) {
+        let Ended {
+            number: _,
+            calls: _,
+            pushes: _,
+            lost: _,
+            seen: _,
+        } = self;
+    }
 }
 
 impl<J: Opening> Model for Ended<J> {
@@ -55,33 +66,5 @@ impl<J: Opening> Ended<J> {
         }
         let _count = last.publication();
         calls_of(last.version(), self.number) != self.calls
-    }
-}
-
-impl<C: Drop, J: Opening, G: Drop> Session<C, J, G> {
-    /// What the session has seen last, and what is left of it.
-    pub fn into_end(self) -> (Published<J>, Ended<J>)
-        ensures latest { result.0 ≡ self.published }
-        ensures grows { Grows result.0 }
-        ensures end { result.1 ≡ self }
-    {
-        let Session {
-            number,
-            calls,
-            lost,
-            latest,
-            ticket,
-            ..
-        } = self;
-        let _count = latest.publication();
-        let seen = latest.front().again();
-        let ended = Ended {
-            number,
-            calls,
-            pushes: ticket.pushed(),
-            lost,
-            seen,
-        };
-        (latest, ended)
     }
 }

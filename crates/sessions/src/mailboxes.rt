@@ -8,9 +8,14 @@ use updating::{Core, Opening, Told};
 
 /// Of each session a mailbox. Who holds the updater's lock leaves there what the session is told, and the
 /// session takes it without that lock.
-#[derive(Drop)]
 pub(crate) struct Mailboxes<J: Opening> {
     boxes: Vec<Mutex<Option<Told<J>>>>,
+}
+
+impl<J: Opening> Drop for Mailboxes<J> {
+    fn drop(self) {
+        let Mailboxes { boxes: _ } = self;
+    }
 }
 
 impl<J: Opening> Mailboxes<J> {

@@ -4,7 +4,6 @@ use commands::{Reply, Seat};
 use std::marker::Model;
 
 /// A command that was written.
-#[derive(Drop)]
 pub struct Receipt {
     /// The place of its entry, from 1.
     pub place: u64,
@@ -14,6 +13,17 @@ pub struct Receipt {
     pub reply: Reply,
     /// The publication with which the entry came, from 1.
     pub publication: u64,
+}
+
+impl Drop for Receipt {
+    fn drop(self) {
+        let Receipt {
+            place: _,
+            seat: _,
+            reply: _,
+            publication: _,
+        } = self;
+    }
 }
 
 impl Model for Receipt {

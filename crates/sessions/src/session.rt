@@ -8,6 +8,7 @@ ghost use Rattle.sessions.specs.Known.{Known, seen, fresh, SeesOwn};
 ghost use Rattle.sessions.specs.Calls.{Looks};
 ghost use Rattle.sessions.specs.declared.fault.Fault.TheVariants as fault;
 
+use crate::ended::Ended;
 use crate::fault::Fault;
 use crate::shared::Shared;
 use crate::snapshot::Snapshot;
@@ -21,7 +22,6 @@ use turns::Ticket;
 use updating::Opening;
 
 /// A session over what the updater holds, `C`. Contracts see what it has seen, and its receipts.
-#[derive(Drop)]
 pub struct Session<C: Drop, J: Opening, G: Drop> {
     pub(crate) alloc: Global,
     pub(crate) number: u16,
@@ -35,6 +35,22 @@ pub struct Session<C: Drop, J: Opening, G: Drop> {
     pub(crate) reader: CachePadded<Lens<J>>,
     pub(crate) ticket: Ticket<J>,
     pub(crate) shared: Arc<Shared<C, J, G>, Global>,
+}
+
+impl<C: Drop, J: Opening, G: Drop> Drop for Session<C, J, G> {
+    fn drop(self) {
+        let Session {
+            alloc: _,
+            number: _,
+            calls: _,
+            lost: _,
+            latest: _,
+            looked: _,
+            reader: _,
+            ticket: _,
+            shared: _,
+        } = self;
+    }
 }
 
 impl<C: Drop, J: Opening, G: Drop> Model for Session<C, J, G> {
@@ -96,6 +112,35 @@ impl<C: Drop, J: Opening, G: Drop> Session<C, J, G> {
         ensures { result.now ≡ record { base = opening_base; entries = seen self.now } }
     {
         self.latest.version()
+    }
+
+    /// What the session has seen last, and what is left of it.
+    pub fn into_end(self) -> (Published<J>, Ended<J>)
+        ensures latest { result.0 ≡ self.published }
+        ensures grows { Grows result.0 }
+        ensures end { result.1 ≡ self }
+    {
+        let Session {
+            alloc: _,
+            number,
+            calls,
+            lost,
+            latest,
+            looked: _,
+            reader: _,
+            ticket,
+            shared: _,
+        } = self;
+        let _count = latest.publication();
+        let seen = latest.front().again();
+        let ended = Ended {
+            number,
+            calls,
+            pushes: ticket.pushed(),
+            lost,
+            seen,
+        };
+        (latest, ended)
     }
 
     /// Sees what is published now, and nothing else: where that was seen already, it writes to its own

@@ -9,13 +9,24 @@ use updating::Opening;
 
 /// The queue of jobs, the gate, the configuration, behind its lock what the updater holds, `C`, and where the
 /// sessions are told what became of their jobs.
-#[derive(Drop)]
 pub struct Shared<C: Drop, J: Opening, G: Drop> {
     pub(crate) line: Line<J>,
     pub(crate) gate: G,
     pub(crate) config: Config,
     pub(crate) core: Mutex<C>,
     pub(crate) mailboxes: Mailboxes<J>,
+}
+
+impl<C: Drop, J: Opening, G: Drop> Drop for Shared<C, J, G> {
+    fn drop(self) {
+        let Shared {
+            line: _,
+            gate: _,
+            config: _,
+            core: _,
+            mailboxes: _,
+        } = self;
+    }
 }
 
 impl<C: Drop, J: Opening, G: Drop> Shared<C, J, G> {

@@ -15,12 +15,20 @@ use std::sync::Arc;
 
 /// A version that a session has seen, which never changes. Its queries wait for nobody. Contracts see
 /// its history.
-#[derive(Drop)]
 pub struct Snapshot<J: Naming> {
     /// All snapshots of a session that have it own one block of memory, of which no other session's snapshots count
     /// the owners; or it is the published one, where that block was refused.
     version: Arc<Version, Global>,
     front: Front<J>,
+}
+
+impl<J: Naming> Drop for Snapshot<J> {
+    fn drop(self) {
+        let Snapshot {
+            version: _,
+            front: _,
+        } = self;
+    }
 }
 
 impl<J: Naming> Model for Snapshot<J> {

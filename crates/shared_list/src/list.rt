@@ -13,12 +13,22 @@ use std::marker::Model;
 /// No call changes a list: [`push`](SharedList::push) gives a new one, for which it makes two nodes,
 /// and every older list holds what it held. A look-up takes a number of steps that grows with the
 /// binary digits of [`len`](SharedList::len).
-#[derive(Drop)]
 pub struct SharedList<T> {
     alloc: Global,
     spine: Spine<T>,
     len: u64,
     nodes_made: u64,
+}
+
+impl<T: Drop> Drop for SharedList<T> {
+    fn drop(self) {
+        let SharedList {
+            alloc: _,
+            spine: _,
+            len: _,
+            nodes_made: _,
+        } = self;
+    }
 }
 
 impl<T> Model for SharedList<T> {

@@ -8,10 +8,15 @@ use std::alloc::AllocError;
 use std::marker::Model;
 
 /// A database behind one pointer, so that a version costs little to share and to drop.
-#[derive(Drop)]
 pub(crate) struct Base {
     /// Nothing is kept of the empty database.
     kept: Option<Shared<Database>>,
+}
+
+impl Drop for Base {
+    fn drop(self) {
+        let Base { kept: _ } = self;
+    }
 }
 
 impl Model for Base {

@@ -30,7 +30,6 @@ const DEFAULT_REVS_LIMIT: u32 = 1000;
 ///
 /// Versions lend it to be read. Only their commands change it: in a share of its own, or in its place where the
 /// version is given up.
-#[derive(Drop)]
 pub struct Database {
     alloc: Global,
     documents: Records,
@@ -39,6 +38,19 @@ pub struct Database {
     revs_limit: u32,
     /// Of each session, how many commands it has made.
     calls: CowMap<u16, u64>,
+}
+
+impl Drop for Database {
+    fn drop(self) {
+        let Database {
+            alloc: _,
+            documents: _,
+            locals: _,
+            purges: _,
+            revs_limit: _,
+            calls: _,
+        } = self;
+    }
 }
 
 impl Model for Database {

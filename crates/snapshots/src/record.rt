@@ -9,10 +9,15 @@ use std::marker::Model;
 use tree_merge::strip;
 
 /// The revisions of a document, and the number of its last update.
-#[derive(Drop)]
 pub struct Record {
     tree: RevTree,
     seq: u64,
+}
+
+impl Drop for Record {
+    fn drop(self) {
+        let Record { tree: _, seq: _ } = self;
+    }
 }
 
 impl Model for Record {

@@ -20,12 +20,22 @@ use std::marker::Model;
 ///
 /// No call changes a version: a command gives a new one, which shares with the older one all but
 /// the nodes on the way to what it changes.
-#[derive(Drop)]
 pub struct Version {
     alloc: Global,
     base: Base,
     database: Database,
     history: SharedList<Entry>,
+}
+
+impl Drop for Version {
+    fn drop(self) {
+        let Version {
+            alloc: _,
+            base: _,
+            database: _,
+            history: _,
+        } = self;
+    }
 }
 
 impl Model for Version {
@@ -91,17 +101,22 @@ impl Version {
         requires room { length self.entries < 4294967295 }
         ensures pushed { IfOk result (λ v. v ≡ extended self (entry_of (now self) seat command.now ∷ [])) }
     {
-        let mut database = self.database;
+        let Version {
+            alloc,
+            base,
+            mut database,
+            history,
+        } = self;
         let reply = database.act(seat, command)?;
-        let command = command.copy(self.alloc)?;
-        let history = self.history.push(Entry {
+        let command = command.copy(alloc)?;
+        let history = history.push(Entry {
             seat,
             command,
             reply,
         })?;
         Ok(Version {
-            alloc: self.alloc,
-            base: self.base,
+            alloc,
+            base,
             database,
             history,
         })

@@ -14,7 +14,6 @@ use std::marker::{Model, PhantomData};
 use std::sync::Wait;
 
 /// The updater of the queue `J`. Contracts see what it took, and how many tickets it made.
-#[derive(Drop)]
 pub struct Clerk<J: Queued> {
     pass: Pass<Job, Hand>,
     /// How many jobs were taken.
@@ -22,6 +21,17 @@ pub struct Clerk<J: Queued> {
     /// How many of each session.
     popped: Vec<u64>,
     of: PhantomData<J>,
+}
+
+impl<J: Queued> Drop for Clerk<J> {
+    fn drop(self) {
+        let Clerk {
+            pass: _,
+            total: _,
+            popped: _,
+            of: _,
+        } = self;
+    }
 }
 
 impl<J: Queued> Model for Clerk<J> {

@@ -96,10 +96,15 @@ impl Opened {
 }
 
 /// The queue `J`.
-#[derive(Drop)]
 pub struct Line<J: Queued> {
     pub(crate) jobs: Jobs,
     of: PhantomData<J>,
     pub(crate) ghost table_is: { jobs.table.shared.table_id ≡ J.table },
     pub(crate) ghost capacity_is: { ruled_capacity jobs ≡ J.capacity },
+}
+
+impl<J: Queued> Drop for Line<J> {
+    fn drop(self) {
+        let Line { jobs: _, of: _ } = self;
+    }
 }

@@ -14,12 +14,22 @@ const MAX_PUSHED: u64 = 1 << 62;
 
 /// A session's pass of the queue `J`. Contracts see its number, how many jobs it pushed, and how many of them
 /// it knows to be taken.
-#[derive(Drop)]
 pub struct Ticket<J: Queued> {
     pub(crate) pass: Pass<Job, Hand>,
     pub(crate) number: u16,
     pub(crate) pushed: u64,
     pub(crate) of: PhantomData<J>,
+}
+
+impl<J: Queued> Drop for Ticket<J> {
+    fn drop(self) {
+        let Ticket {
+            pass: _,
+            number: _,
+            pushed: _,
+            of: _,
+        } = self;
+    }
 }
 
 impl<J: Queued> Model for Ticket<J> {

@@ -11,11 +11,20 @@ use publications::{Naming, Published};
 use std::marker::Model;
 
 /// An entry that stands, with the version with which it was published.
-#[derive(Drop)]
 pub struct Answer<J: Naming> {
     found: Published<J>,
     place: u64,
     reply: Reply,
+}
+
+impl<J: Naming> Drop for Answer<J> {
+    fn drop(self) {
+        let Answer {
+            found: _,
+            place: _,
+            reply: _,
+        } = self;
+    }
 }
 
 impl<J: Naming> Model for Answer<J> {
@@ -64,9 +73,14 @@ impl<J: Naming> Answer<J> {
 }
 
 /// A published version whose history has no place left.
-#[derive(Drop)]
 pub struct Filled<J: Opening> {
     found: Published<J>,
+}
+
+impl<J: Opening> Drop for Filled<J> {
+    fn drop(self) {
+        let Filled { found: _ } = self;
+    }
 }
 
 impl<J: Opening> Model for Filled<J> {

@@ -18,12 +18,22 @@ use std::sync::Arc;
 
 /// An entry of a version that is not yet published. It owns the version with the others, and a copy of the
 /// reply: with it the answer takes no memory once the entry stands.
-#[derive(Drop)]
 pub(crate) struct Draft {
     version: Arc<Version, Global>,
     session: u16,
     place: u64,
     reply: Reply,
+}
+
+impl Drop for Draft {
+    fn drop(self) {
+        let Draft {
+            version: _,
+            session: _,
+            place: _,
+            reply: _,
+        } = self;
+    }
 }
 
 impl Model for Draft {

@@ -22,7 +22,6 @@ use turns::Clerk;
 
 /// What the updater holds: the version that was published last, the batch that comes next, and of each
 /// session what became of its last job.
-#[derive(Drop)]
 pub struct Core<R: Wait + Drop, J: Opening> {
     pub(crate) alloc: Global,
     pub(crate) gather: u16,
@@ -33,6 +32,22 @@ pub struct Core<R: Wait + Drop, J: Opening> {
     pub(crate) outcomes: Outcomes<J>,
     pub(crate) clerk: Clerk<J>,
     press: Press<R, J>,
+}
+
+impl<R: Wait + Drop, J: Opening> Drop for Core<R, J> {
+    fn drop(self) {
+        let Core {
+            alloc: _,
+            gather: _,
+            max_places: _,
+            book: _,
+            current: _,
+            batch: _,
+            outcomes: _,
+            clerk: _,
+            press: _,
+        } = self;
+    }
 }
 
 impl<R: Wait + Drop, J: Opening> Model for Core<R, J> {

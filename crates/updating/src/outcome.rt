@@ -20,9 +20,14 @@ pub enum OutcomeKind<J: Opening> {
 }
 
 /// What became of a job.
-#[derive(Drop)]
 pub struct Outcome<J: Opening> {
     kind: OutcomeKind<J>,
+}
+
+impl<J: Opening> Drop for Outcome<J> {
+    fn drop(self) {
+        let Outcome { kind: _ } = self;
+    }
 }
 
 impl<J: Opening> Model for Outcome<J> {

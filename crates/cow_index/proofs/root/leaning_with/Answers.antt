@@ -33,7 +33,7 @@ pub grown-requires-clause-fits : goal.grown-requires-clause-fits
 grown-requires-clause-fits g c =
     let at = turn g.K.Ord.cmp c.requires.root c.requires.sorted (c.in-Greater.ensures ∙ ap (λ n. g.K.Ord.cmp c.deref-new.result.now.key (pair_of n.entry).0) c.deref.ensures) in
     let longer = length_put_le g.met.K.Ord.total (pair_of c.args.entry).0 (pair_of c.args.entry).1 (arc_value c.args.root).right.0 (right_sorted at) in
-    omega (arith, c.requires.root.lengths, c.requires.fits, ap length (c.in_ok-right-in-Greater.ensures.entries ∙ ap (λ (t : List _ × ℕ). put g.K.Ord.cmp (pair_of c.args.entry).0 (pair_of c.args.entry).1 t.0) (c.in_ok-right.ensures.right ∙ c.in_ok-left.ensures.right)), ap (λ (t : List _ × ℕ). length t.0) (c.left.view_is ∙ c.in_ok-left.ensures.left), longer)
+    omega (arith, c.requires.root.lengths, c.requires.fits, ap length (c.in_ok-right-in-Greater.ensures.entries ∙ ap (λ (t : List _ × ℕ). put g.K.Ord.cmp (pair_of c.args.entry).0 (pair_of c.args.entry).1 t.0) (c.in_ok-right.ensures.right ∙ c.in_ok-left.ensures.right)), ap (λ (t : List _ × ℕ). length t.0) c.in_ok-left.ensures.left, longer)
 
 pub returns-in-Greater-clause-entries : goal.returns-in-Greater-clause-entries
 returns-in-Greater-clause-entries g c =

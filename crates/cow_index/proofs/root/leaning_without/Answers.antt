@@ -32,7 +32,7 @@ into_without-requires-in-Greater-clause-sorted g c =
 pub root-requires-in-Greater-clause-fits : goal.root-requires-in-Greater-clause-fits
 root-requires-in-Greater-clause-fits g c =
     let shorter = length_filter_le (λ e. not (eq_by_cmp g.K.Ord.cmp c.args.key.now e.0)) (arc_value c.args.root).right.0 in
-    omega (arith, c.requires.root.lengths, c.requires.root.fits, ap length (c.in_ok-right-in-Greater.ensures.entries ∙ ap (λ (t : List _ × ℕ). without g.K.Ord.cmp c.args.key.now t.0) (c.in_ok-right.ensures.right ∙ c.in_ok-left.ensures.right)), ap (λ (t : List _ × ℕ). length t.0) (c.left.view_is ∙ c.in_ok-left.ensures.left), shorter)
+    omega (arith, c.requires.root.lengths, c.requires.root.fits, ap length (c.in_ok-right-in-Greater.ensures.entries ∙ ap (λ (t : List _ × ℕ). without g.K.Ord.cmp c.args.key.now t.0) (c.in_ok-right.ensures.right ∙ c.in_ok-left.ensures.right)), ap (λ (t : List _ × ℕ). length t.0) c.in_ok-left.ensures.left, shorter)
 
 pub returns-in-Greater-clause-entries : goal.returns-in-Greater-clause-entries
 returns-in-Greater-clause-entries g c =

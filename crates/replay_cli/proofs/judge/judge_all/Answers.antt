@@ -3,24 +3,6 @@ use Rattle.std.specs.Vec.Iter.{into_iter_items, into_iter_len}
 use Rattle.replay_cli.proofs.Verdicts.{goes_over}
 use Rattle.replay_cli.proofs.judge.judge_all.Goals as goal
 
-pub loop-entry-preserved-else-not-branch : goal.loop-entry-preserved-else-not-branch
-loop-entry-preserved-else-not-branch c =
-    let steps = c.in-Some.ensures.steps in
-    let judged = c.loop-entry.invariant.3 in
-    let counted = ap length steps.0 in
-    let len : into_iter_len c.next.new.self ≡ length (into_iter_items c.next.new.self) = (let lens = c.loop-entry.invariant.2 in let one = steps.1 in omega (arith, counted, lens, one)) in
-    let is = judged.1 ∙ ap (λ xs. judged.0 ++ xs) steps.0 in
-    (tt, tt, len, goes_over _ judged.0 _ _ _ _ is judged.2 judged.3 (c.in_ok-judge_one.ensures.next (search rules)))
-
-pub loop-entry-preserved-else-not-branch-2 : goal.loop-entry-preserved-else-not-branch-2
-loop-entry-preserved-else-not-branch-2 c =
-    let steps = c.in-Some.ensures.steps in
-    let judged = c.loop-entry.invariant.3 in
-    let counted = ap length steps.0 in
-    let len : into_iter_len c.next.new.self ≡ length (into_iter_items c.next.new.self) = (let lens = c.loop-entry.invariant.2 in let one = steps.1 in omega (arith, counted, lens, one)) in
-    let is = judged.1 ∙ ap (λ xs. judged.0 ++ xs) steps.0 in
-    (tt, tt, len, goes_over _ judged.0 _ _ _ _ is judged.2 judged.3 (c.in_ok-judge_one.ensures.next (search rules)))
-
 pub loop-entry-preserved : goal.loop-entry-preserved
 loop-entry-preserved c =
     let steps = c.in-Some.ensures.steps in
