@@ -2,7 +2,6 @@
 //! older one all that it did not change, and the older map stays as it was.
 #![tactic(auto)]
 
-mod key;
 mod map;
 mod nodes;
 mod root;
@@ -11,7 +10,7 @@ mod sole;
 mod tree;
 mod walk;
 
-pub use key::IndexKey;
+pub use index_key::IndexKey;
 pub use map::CowMap;
 pub use shared::Shared;
 pub use walk::Range;

@@ -5,11 +5,11 @@ ghost use Rattle.std.specs.Map.Iter.{ShowsInOrder, deref_pair};
 ghost use Rattle.cow_index.specs.Entries.{without, entries_from};
 ghost use Rattle.cow_index.specs.Height.{bits};
 
-use crate::key::IndexKey;
 use crate::nodes::NodeMaker;
 use crate::root::Root;
 use crate::tree::{Entry, MAX_HEIGHT};
 use crate::walk::Range;
+use index_key::IndexKey;
 use std::alloc::{AllocError, Global};
 use std::marker::Model;
 use std::sync::Arc;

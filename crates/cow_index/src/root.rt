@@ -11,10 +11,10 @@ ghost use Rattle.cow_index.specs.Root.{Leans};
 ghost use Rattle.cow_index.specs.NodeMaker.{MakesAtMost};
 ghost use Rattle.cow_index.specs.Entries.{without, entries_from};
 
-use crate::key::IndexKey;
 use crate::nodes::NodeMaker;
 use crate::sole::{take_left, take_right};
 use crate::tree::{Entry, MAX_HEIGHT, Node, Tree};
+use index_key::IndexKey;
 use std::alloc::AllocError;
 use std::cmp::Ordering;
 use std::marker::Model;

@@ -8,9 +8,9 @@ ghost use Rattle.cow_index.specs.Tree.{pair_of};
 ghost use Rattle.cow_index.specs.NodeMaker.{MakesAtMost};
 ghost use Rattle.cow_index.specs.Entries.{without};
 
-use crate::key::IndexKey;
 use crate::nodes::NodeMaker;
 use crate::tree::{Entry, Node, Tree};
+use index_key::IndexKey;
 use std::alloc::AllocError;
 use std::cmp::Ordering;
 use std::mem::replace;

@@ -7,8 +7,8 @@ ghost use Rattle.cow_index.specs.Tree.{pair_of, entries_of, height_of, IsRoot, I
 ghost use Rattle.cow_index.specs.NodeMaker.{MakesAtMost};
 ghost use Rattle.cow_index.specs.Entries.{without, entries_from, EachCompares};
 
-use crate::key::IndexKey;
 use crate::nodes::NodeMaker;
+use index_key::IndexKey;
 use std::alloc::AllocError;
 use std::cmp::Ordering;
 use std::marker::Model;

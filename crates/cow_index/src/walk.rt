@@ -7,9 +7,9 @@ ghost use Rattle.cow_index.specs.Entries.{entries_from};
 ghost use Rattle.cow_index.specs.Path.{held, waiting, FitFrom};
 ghost use Rattle.cow_index.specs.Tree.{pair_of, entries_of, height_of, IsRoot};
 
-use crate::key::IndexKey;
 use crate::root::{Root, Top};
 use crate::tree::{Entry, MAX_HEIGHT, Node, Tree};
+use index_key::IndexKey;
 use std::cmp::Ordering;
 use std::marker::Model;
 

@@ -9,7 +9,7 @@ ghost use Rattle.document_id.specs.declared.fault.IdFault.TheVariants.{Length};
 
 use crate::fault::IdFault;
 use crate::text::Text;
-use cow_index::IndexKey;
+use index_key::IndexKey;
 use std::alloc::{AllocError, Global};
 use std::cmp::Ordering;
 use std::marker::Model;

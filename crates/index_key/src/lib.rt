@@ -1,7 +1,9 @@
 //! Keys of an ordered map.
+#![tactic(auto)]
+
 ghost use Rattle.std.specs.FinMap.{IsAntisymmetric, nat_cmp-IsAntisymmetric};
 
-/// A key of a [`CowMap`](crate::CowMap): its order is total, and only equal keys tie.
+/// A key of an ordered map: its order is total, and only equal keys tie.
 pub trait IndexKey: Ord + Drop {
     ghost exact: { IsAntisymmetric Self.cmp };
 }
