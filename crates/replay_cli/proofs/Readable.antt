@@ -5,7 +5,7 @@ use Rattle.std.proofs.lemmas.List.{length-map}
 use Rattle.std.proofs.lemmas.List.Elements.{All-head, All-tail, All-cons, All-nil}
 use Rattle.model.specs.Command.{Entry}
 use Rattle.history_json.specs.Line.{IsLine}
-use Rattle.replay_cli.specs.Dump.{first_line, entry_line}
+use Rattle.history_dump.specs.Dump.{first_line, entry_line}
 use Rattle.replay_cli.specs.Lines.{lines, lines_or_one}
 use Rattle.replay_cli.specs.Places.{last_place}
 use Rattle.replay_cli.specs.Readable.{IsReadable, AreReadable, IsFirstUnreadable}

@@ -1,6 +1,5 @@
 -- Lists by their last element.
-use Rattle.std.proofs.Common.{◌≡◌, ℕ, zero, suc, List, [], ◌∷◌, ◌++◌, take, Some, refl, ap}
-use Rattle.std.specs.Prelude.{slice_get}
+use Rattle.std.proofs.Common.{◌≡◌, List, [], ◌∷◌, ◌++◌, refl}
 
 module _ {X : Type 0} where
   pub snocs : (xs ys : List X) (x y : X) → xs ++ x ∷ [] ≡ ys ++ y ∷ [] → (xs ≡ ys) × (x ≡ y)
@@ -15,9 +14,3 @@ module _ {X : Type 0} where
       let rest = snocs xs ys x y tails in
       let same : xs ≡ ys = rest.0 in
       (cc, rest.1)
-
-  -- one more element of a list
-  pub taken_one : (xs : List X) (n : ℕ) (x : X) → slice_get xs n ≡ Some x → take (suc n) xs ≡ take n xs ++ x ∷ []
-  taken_one [] n x is = absurd (cc)
-  taken_one (y ∷ xs) zero x is = let same : y ≡ x = cc in ap (λ (z : X). z ∷ []) same
-  taken_one (y ∷ xs) (suc n) x is = ap (λ (zs : List X). y ∷ zs) (taken_one xs n x is)

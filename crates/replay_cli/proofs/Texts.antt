@@ -9,7 +9,7 @@ use Rattle.model.specs.Command.{Entry}
 use Rattle.history_json.specs.Line.{IsLine, line_text}
 use Rattle.history_json.specs.Lines.{is_one_line}
 use Rattle.history_json.proofs.InProfile.{line-one}
-use Rattle.replay_cli.specs.Dump.{first_line, entry_line, dump_text}
+use Rattle.history_dump.specs.Dump.{first_line, entry_line, dump_text}
 use Rattle.replay_cli.specs.Lines.{onto, lines, lines_or_one}
 use Rattle.replay_cli.proofs.Cuts.{goes_on, concat-lines_or_one}
 

@@ -1,4 +1,3 @@
-pub mod Dump
 pub mod Input
 pub mod Lines
 pub mod Places

@@ -2,7 +2,7 @@
 use Rattle.std.specs.Prelude.{◌≡◌, ℕ, zero, suc, ◌+◌, ◌≤◌, List, [], ◌∷◌, ◌++◌, length, ⊤}
 use Rattle.model.specs.Command.{Entry}
 use Rattle.history_json.specs.Line.{IsLine}
-use Rattle.replay_cli.specs.Dump.{first_line, entry_line}
+use Rattle.history_dump.specs.Dump.{first_line, entry_line}
 use Rattle.replay_cli.specs.Places.{last_place}
 
 -- the line of an entry at a place

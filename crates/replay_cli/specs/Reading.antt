@@ -2,7 +2,7 @@
 use Rattle.std.specs.Prelude.{◌≡◌, ℕ, List}
 use Rattle.model.specs.Command.{Entry}
 use Rattle.history_json.specs.Line.{IsLine}
-use Rattle.replay_cli.specs.Dump.{entry_line}
+use Rattle.history_dump.specs.Dump.{entry_line}
 
 -- the line is that of an entry that keeps the limits, and of no other
 pub record IsRead (line : List ℕ) (entry : Entry) : Type 0 where

@@ -1,7 +1,8 @@
 -- A run of `replay check`.
-use Rattle.std.specs.Prelude.{◌≡◌, ◌⊎◌, ℕ, ◌<◌, List, [], ◌++◌, length, take, Option, codes, decimal}
-use Rattle.std.specs.Io.KnownBytes.{Consumes, Appends, IsAtEnd}
+use Rattle.std.specs.Prelude.{◌≡◌, ℕ, List, [], ◌++◌, codes, decimal}
+use Rattle.std.specs.Io.KnownBytes.{Consumes, IsAtEnd}
 use Rattle.streams.specs.Counts.{CountRose}
+use Rattle.streams.specs.Ends.{Ends}
 use Rattle.serving.specs.Served.{Streams}
 use Rattle.replay_cli.specs.Verdicts.{IsVerdict}
 use Rattle.replay_cli.specs.declared.verdict.Verdict.{Verdict}
@@ -42,13 +43,6 @@ IsFound before after (Judged v) =
     ((text : List ℕ) × Consumes before.left after.left text × IsVerdict text v) × IsAtEnd after.left × (after.failed_reads ≡ before.failed_reads)
 IsFound before after NoMemory = after.failed_reads ≡ before.failed_reads
 IsFound before after ReadFailed = CountRose before.failed_reads after.failed_reads
-
--- The text was written, and the status is the one that it wants; or else a write failed after a part of it, and the
--- status is 1. The writer's bytes and its count of failures are those before and after.
-abbrev pub Ends : Option (List ℕ) → Option (List ℕ) → ℕ → ℕ → List ℕ → ℕ → ℕ → Type 0
-Ends old new failed_old failed_new text right status =
-    (Appends old new text × (failed_new ≡ failed_old) × (status ≡ right))
-    ⊎ (((n : ℕ) × (n < length text) × Appends old new (take n text)) × CountRose failed_old failed_new × (status ≡ 1))
 
 pub record RunsCheck (before after : Streams) (status : ℕ) : Type 0 where
   pub told : Told

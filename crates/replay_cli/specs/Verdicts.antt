@@ -4,7 +4,7 @@ use Rattle.model.specs.Command.{Entry}
 use Rattle.model.specs.Database.{empty_database}
 use Rattle.model.specs.History.{IsLegal}
 use Rattle.history_json.specs.Line.{IsLine}
-use Rattle.replay_cli.specs.Dump.{dump_text}
+use Rattle.history_dump.specs.Dump.{dump_text}
 use Rattle.replay_cli.specs.Lines.{lines_or_one}
 use Rattle.replay_cli.specs.Places.{last_place, IsFirstWrong}
 use Rattle.replay_cli.specs.Readable.{IsFirstUnreadable}

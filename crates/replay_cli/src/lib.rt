@@ -15,7 +15,7 @@ mod verdict;
 
 pub use audit::check;
 pub use dumps::dump;
-pub use run::{end_with, run_check};
+pub use run::run_check;
 pub use verdict::Verdict;
 
 #[cfg(test)]

@@ -3,16 +3,16 @@ ghost use Rattle.std.specs.Prelude.{◌≡◌, ◌↔◌, ◌<◌, ◌≤◌, �
 ghost use Rattle.std.specs.List.{AllZip};
 ghost use Rattle.model.specs.Command as model;
 ghost use Rattle.history_json.specs.Line.{IsLine};
-ghost use Rattle.replay_cli.specs.Dump.{first_line, entry_line};
+ghost use Rattle.history_dump.specs.Dump.{first_line, entry_line};
 ghost use Rattle.replay_cli.specs.Lines.{lines};
 ghost use Rattle.replay_cli.specs.Places.{last_place};
 ghost use Rattle.replay_cli.specs.Readable.{IsFirstUnreadable};
 ghost use Rattle.replay_cli.specs.Reading.{IsRead};
 ghost use Rattle.replay_cli.specs.Verdicts.{IsDump, IsUnreadable};
 
-use crate::dumps::FIRST_LINE;
 use crate::lines::cut_line;
 use commands::Entry;
+use history_dump::FIRST_LINE;
 use history_json::read_line;
 use std::alloc::{AllocError, Global};
 

@@ -2,17 +2,18 @@
 ghost use Rattle.std.specs.Prelude.{◌≡◌, ◌⊎◌, ℕ, List, IfOk};
 ghost use Rattle.std.specs.Io.KnownBytes.{Consumes, IsAtEnd};
 ghost use Rattle.serving.specs.Served.{Streams};
+ghost use Rattle.streams.specs.Ends.{Ends};
 ghost use Rattle.replay_cli.specs.Verdicts.{IsVerdict};
 ghost use Rattle.replay_cli.specs.Input.{CountsReads};
-ghost use Rattle.replay_cli.specs.Run.{Ends, RunsCheck, Told, Judged, NoMemory, told_status, told_text, verdict_status};
+ghost use Rattle.replay_cli.specs.Run.{RunsCheck, Told, Judged, NoMemory, told_status, told_text, verdict_status};
 
 use crate::audit::check;
 use crate::input::{InputFault, read_all};
 use crate::verdict::Verdict;
 use std::alloc::Global;
-use streams::{Failed, Sink, Source, write_all};
+use streams::{Sink, Source, end_with};
 
-/// The exit status where a read or a write failed.
+/// The exit status where a read failed.
 const FAILED: u8 = 1;
 
 /// The exit status where memory was refused.
@@ -78,16 +79,5 @@ fn exit_status(verdict: Verdict) -> u8
         Verdict::Legal(_) => 0,
         Verdict::WrongAt(_) => 2,
         Verdict::UnreadableLine(_) => 3,
-    }
-}
-
-/// Writes what a program tells at its end, and answers this status, or 1 where the write failed.
-pub fn end_with<W: Sink>(writer: &mut W, text: &[u8], status: u8) -> u8
-    ensures { Ends (W.taken writer.old) (W.taken writer.new) (W.failed_writes writer.old)
-        (W.failed_writes writer.new) text.now status result }
-{
-    match write_all(writer, text) {
-        Ok(()) => status,
-        Err(Failed) => FAILED,
     }
 }

@@ -1,4 +1,5 @@
 pub mod Counts
+pub mod Ends
 pub mod Stream
 pub mod Writes
 pub mod Script

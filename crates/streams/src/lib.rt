@@ -5,12 +5,14 @@
 #![tactic(auto)]
 
 mod counted;
+mod ends;
 pub mod scripted;
 mod sockets;
 mod traits;
 mod writes;
 
 pub use counted::Stream;
+pub use ends::end_with;
 pub use sockets::set_up;
 pub use traits::{Failed, Sink, Source};
 pub use writes::{write_all, write_both};

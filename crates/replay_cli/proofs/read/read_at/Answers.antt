@@ -1,7 +1,7 @@
 use Rattle.std.proofs.Common.{◌≡◌, ◌↔◌, ◌<◌, ℕ, List, [], ◌∷◌, ◌++◌, Ok, Err, Some, Option, Result, IfOk, sym, ap, ◌∙◌, arith}
 use Rattle.model.specs.Command.{Entry}
 use Rattle.history_json.specs.Line.{IsLine, line_text}
-use Rattle.replay_cli.specs.Dump.{entry_line}
+use Rattle.history_dump.specs.Dump.{entry_line}
 use Rattle.replay_cli.specs.Places.{last_place}
 use Rattle.replay_cli.proofs.Snocs.{snocs}
 use Rattle.replay_cli.proofs.read.read_at.Goals as goal

@@ -1,7 +1,7 @@
 use Rattle.std.proofs.Common.{◌≡◌, ◌≤◌, ◌∷◌, [], List, ℕ, length, rules, ap, ◌∙◌, arith}
 use Rattle.std.specs.List.{AllZip}
 use Rattle.model.specs.Command.{Entry}
-use Rattle.replay_cli.specs.Dump.{first_line}
+use Rattle.history_dump.specs.Dump.{first_line}
 use Rattle.replay_cli.specs.Lines.{lines, lines_or_one}
 use Rattle.replay_cli.specs.Places.{last_place}
 use Rattle.replay_cli.specs.Readable.{IsFirstUnreadable}

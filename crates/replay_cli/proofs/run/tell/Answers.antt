@@ -1,5 +1,6 @@
 use Rattle.std.proofs.Common.{inl, refl, subst, ◌∙◌, List, ℕ}
-use Rattle.replay_cli.specs.Run.{Judged, Ends, verdict_status}
+use Rattle.streams.specs.Ends.{Ends}
+use Rattle.replay_cli.specs.Run.{Judged, verdict_status}
 use Rattle.replay_cli.proofs.run.tell.Goals as goal
 
 pub returns : goal.returns

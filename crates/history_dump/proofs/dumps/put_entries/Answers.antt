@@ -3,9 +3,9 @@ use Rattle.std.specs.List.{flat_map}
 use Rattle.std.proofs.lemmas.List.{append-nil, append_assoc}
 use Rattle.std.proofs.lemmas.List.Concat.{flat_map-append}
 use Rattle.snapshots.specs.Version.{entry_at}
-use Rattle.replay_cli.specs.Dump.{entry_line}
-use Rattle.replay_cli.proofs.Snocs.{taken_one}
-use Rattle.replay_cli.proofs.dumps.put_entries.Goals as goal
+use Rattle.history_dump.specs.Dump.{entry_line}
+use Rattle.history_dump.proofs.Taken.{taken_one}
+use Rattle.history_dump.proofs.dumps.put_entries.Goals as goal
 
 pub loop-before-preserved : goal.loop-before-preserved
 loop-before-preserved c =

@@ -1,7 +1,7 @@
 use Rattle.std.proofs.Common.{◌≡◌, ◌++◌, take, string_bytes}
 use Rattle.std.specs.List.{flat_map}
-use Rattle.replay_cli.specs.Dump.{entry_line}
-use Rattle.replay_cli.proofs.dumps.put_entries.Given as goal
+use Rattle.history_dump.specs.Dump.{entry_line}
+use Rattle.history_dump.proofs.dumps.put_entries.Given as goal
 
 -- the entries before the place are written
 abbrev pub invariant-loop-before : goal.invariant-loop-before
