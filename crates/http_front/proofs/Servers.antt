@@ -14,12 +14,12 @@ use Rattle.serving.specs.declared.outcome.Ended.{Ended}
 use Rattle.sessions.specs.Known.{Known as KnownOfThreads, SeesOwn, fresh, seen as seen_by}
 use Rattle.sessions.specs.Ends.{is_lost, IsExact}
 use Rattle.history_lock.specs.Ending.{Ending, Ends}
-use Rattle.http_front.specs.Known.{Known}
-use Rattle.http_front.specs.Listening.{ServesAll}
-use Rattle.http_front.specs.Connection.{IsConnection}
+use Rattle.http_handlers.specs.Known.{Known}
+use Rattle.http_handlers.specs.Listening.{ServesAll}
+use Rattle.http_handlers.specs.Connection.{IsConnection}
 use Rattle.http_front.specs.Once.{ServesDatabase, max_places}
 use Rattle.http_front.specs.Server.{ServesSessions, ServesListener, opened_as}
-use Rattle.http_front.specs.Sessions.{known_of}
+use Rattle.http_handlers.specs.Sessions.{known_of}
 
 -- a reader and a writer
 abbrev pub streams_of : {R W : Type 0} → (R → Option (List ℕ)) → (R → ℕ) → (W → Option (List ℕ)) → (W → ℕ) → R → W → Streams

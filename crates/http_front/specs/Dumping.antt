@@ -2,8 +2,8 @@
 use Rattle.std.specs.Prelude.{◌≡◌, ℕ, ◌⊎◌, List, Option, None}
 use Rattle.model.specs.Command.{Entry}
 use Rattle.history_lock.specs.Ending.{Ending}
-use Rattle.replay_cli.specs.Dump.{dump_text}
-use Rattle.replay_cli.specs.Run.{Ends}
+use Rattle.history_dump.specs.Dump.{dump_text}
+use Rattle.streams.specs.Ends.{Ends}
 use Rattle.serving.specs.Served.{Streams}
 use Rattle.serving.specs.declared.outcome.Ended.{Ended}
 use Rattle.http_front.specs.Once.{ServesDatabase, OpensNone, exit_status}

@@ -1,15 +1,3 @@
-pub mod Known
-pub mod Calls
-pub mod Changes
-pub mod Feed
-pub mod Outcome
-pub mod Answers
-pub mod Connection
-pub mod Response
-pub mod Replies
-pub mod Going
-pub mod Sessions
 pub mod Once
 pub mod Dumping
-pub mod Listening
 pub mod Server

@@ -8,8 +8,8 @@ use Rattle.serving.specs.Served.{Streams}
 use Rattle.serving.specs.declared.outcome.Ended.{Ended}
 use Rattle.serving.specs.declared.outcome.Cause.{Cause}
 use Rattle.serving.specs.declared.outcome.Cause.TheVariants as cause
-use Rattle.http_front.specs.Known.{Known, opened}
-use Rattle.http_front.specs.Connection.{IsConnection}
+use Rattle.http_handlers.specs.Known.{Known, opened}
+use Rattle.http_handlers.specs.Connection.{IsConnection}
 
 -- the exit status
 abbrev pub exit_status : Cause → ℕ

@@ -4,8 +4,8 @@ use mathlib.Core.List.{IsPrefix}
 use Rattle.model.specs.Command.{Entry}
 use Rattle.model.specs.History.{IsLegal}
 use Rattle.publications.specs.Histories.{opening_base}
-use Rattle.http_front.specs.Known.{Known, opened}
-use Rattle.http_front.specs.Listening.{ServesAll}
+use Rattle.http_handlers.specs.Known.{Known, opened}
+use Rattle.http_handlers.specs.Listening.{ServesAll}
 use Rattle.http_front.specs.Once.{max_places}
 
 -- what the session of this number knows of an empty database that was just opened

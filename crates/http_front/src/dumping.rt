@@ -7,13 +7,13 @@ ghost use Rattle.http_front.specs.Dumping.{DumpsOnce, WritesDump};
 use crate::nowhere::Nowhere;
 use crate::once::{exit_status, serve_opened};
 use crate::opening::{NOT_OPENED, config};
+use history_dump::dump_version;
 use history_lock::{Closed, Opened};
-use replay_cli::{dump, end_with};
 use std::alloc::Global;
 use std::marker::Brand;
 use std::sync::Wait;
 use std::time::Clock;
-use streams::{Sink, Source};
+use streams::{Sink, Source, end_with};
 use updating::Opening;
 
 /// The exit status where memory for the dump was refused.
@@ -101,7 +101,7 @@ fn write_dump<J: Opening, W: Sink>(
     ensures { WritesDump (W.taken writer.old) (W.taken writer.new) (W.failed_writes writer.old)
         (W.failed_writes writer.new) closed.now.history status result }
 {
-    let Ok(text) = dump(alloc, closed) else {
+    let Ok(text) = dump_version(alloc, closed.version()) else {
         return NO_MEMORY;
     };
     end_with(writer, &text, status)

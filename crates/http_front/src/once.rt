@@ -4,10 +4,9 @@ ghost use Rattle.serving.specs.Served.{Streams};
 ghost use Rattle.sessions.specs.Known.{fresh};
 ghost use Rattle.http_front.specs.Once.{ServesDatabase, ServesOnce, exit_status, max_places};
 
-use crate::connection::serve;
 use crate::opening::{NOT_OPENED, config};
-use crate::setting::Setting;
 use history_lock::{Closed, Opened, open};
+use http_handlers::{Setting, serve};
 use serving::{Cause, Ended};
 use std::marker::Brand;
 use std::sync::Wait;

@@ -3,10 +3,9 @@ ghost use Rattle.std.specs.Prelude.{◌≡◌, ◌≤◌};
 ghost use Rattle.http_front.specs.Once.{max_places};
 ghost use Rattle.http_front.specs.Server.{ServesListener};
 
-use crate::listening::listen;
 use crate::opening::{NOT_OPENED, config};
-use crate::setting::Setting;
 use history_lock::{Opened, open};
+use http_handlers::{Setting, listen};
 use std::marker::Brand;
 use std::net::TcpListener;
 use std::sync::Wait;

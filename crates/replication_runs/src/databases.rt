@@ -6,7 +6,7 @@ use crate::conflict::{Ids, both_leaves};
 use crate::run::tell_runs;
 use commands::{Config, Limits};
 use history_lock::{Opened, open};
-use http_front::Calls;
+use http_handlers::Calls;
 use session_peer::SessionPeer;
 use sessions::Session;
 use std::alloc::{AllocError, Global};

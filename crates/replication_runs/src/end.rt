@@ -1,6 +1,6 @@
 //! What runs ask of an end.
 
-use http_front::Calls;
+use http_handlers::Calls;
 use replicator::Peer;
 use session_peer::SessionPeer;
 use snapshots::Version;

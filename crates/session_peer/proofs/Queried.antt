@@ -11,8 +11,8 @@ use Rattle.model.specs.Query.{OpenRevs, RevsDiff, Changes, GetLocal, Opened, Dif
 use Rattle.model.specs.Revision.{Rev}
 use Rattle.model.specs.declared.style.Style.TheVariants.{AllDocs}
 use Rattle.changes_feed.specs.Shown.{local_shown}
-use Rattle.http_front.specs.Calls.{Looks}
-use Rattle.http_front.specs.Known.{Known, history_of}
+use Rattle.http_handlers.specs.Calls.{Looks}
+use Rattle.http_handlers.specs.Known.{Known, history_of}
 use Rattle.session_peer.specs.Goes.{Reads}
 use Rattle.session_peer.specs.Shown.{with_paths}
 

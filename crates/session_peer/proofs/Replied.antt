@@ -1,8 +1,8 @@
 -- Commands that were written, with what was replied.
 use Rattle.std.proofs.Common.{◌≡◌, ℕ, sym, subst}
 use Rattle.model.specs.Command.{Command, Entry, Reply}
-use Rattle.http_front.specs.Calls.{WritesCall}
-use Rattle.http_front.specs.Known.{Known, HasEntryAt}
+use Rattle.http_handlers.specs.Calls.{WritesCall}
+use Rattle.http_handlers.specs.Known.{Known, HasEntryAt}
 use Rattle.session_peer.specs.Goes.{Writes}
 
 pub writes : (old new : Known) (asked command : Command) (place : ℕ) (reply : Reply) → asked ≡ command → WritesCall old asked place new

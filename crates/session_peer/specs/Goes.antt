@@ -12,10 +12,10 @@ use Rattle.replicator.specs.Call as call
 use Rattle.replicator.specs.declared.checkpoint.Checkpoint.{Checkpoint}
 use Rattle.replicator.specs.declared.fault.PeerFault.{PeerFault}
 use Rattle.replicator.specs.declared.fault.PeerFault.TheVariants as fault
-use Rattle.http_front.specs.declared.calls.CallFault.{CallFault}
-use Rattle.http_front.specs.declared.calls.CallFault.TheVariants as refused
-use Rattle.http_front.specs.Known.{Known, history_of}
-use Rattle.http_front.specs.Calls.{Looks, WritesCall}
+use Rattle.http_handlers.specs.declared.calls.CallFault.{CallFault}
+use Rattle.http_handlers.specs.declared.calls.CallFault.TheVariants as refused
+use Rattle.http_handlers.specs.Known.{Known, history_of}
+use Rattle.http_handlers.specs.Calls.{Looks, WritesCall}
 use Rattle.session_peer.specs.Checkpoints.{checkpoint_in, past_numbers}
 use Rattle.session_peer.specs.Commands.{are_taken, counter_in, put_checkpoint}
 use Rattle.session_peer.specs.Shown.{all_brought, with_paths}

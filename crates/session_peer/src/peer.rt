@@ -1,8 +1,8 @@
 //! A session as one end of a replication.
 ghost use Rattle.std.specs.Prelude.{◌≡◌, ⊤, Err, IfOk, IfErr};
 ghost use Rattle.model.specs.Command as model;
-ghost use Rattle.http_front.specs.Calls.{Looks, WritesCall};
-ghost use Rattle.http_front.specs.Known.{HasEntryAt};
+ghost use Rattle.http_handlers.specs.Calls.{Looks, WritesCall};
+ghost use Rattle.http_handlers.specs.Known.{HasEntryAt};
 ghost use Rattle.replicator.specs.Call.{CountsFailed};
 ghost use Rattle.session_peer.specs.Goes.{Fails, Goes, IsFailure, fault_of};
 
@@ -12,7 +12,7 @@ use crate::written::{are_taken, bulk_of, counter_in, put_of};
 use changes_feed::{changes, local_get, revs_diff};
 use commands::{Command, Merge, NamedRevisions, Reply};
 use document_id::DocId;
-use http_front::{CallFault, Calls, Viewer};
+use http_handlers::{CallFault, Calls, Viewer};
 use model::Style;
 use queries::{ChangesPage, Differences};
 use replicator::{Checkpoint, Opened, Peer, PeerFault};

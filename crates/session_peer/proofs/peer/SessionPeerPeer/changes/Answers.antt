@@ -1,5 +1,5 @@
 use Rattle.std.proofs.Common.{ap, ◌∙◌}
-use Rattle.http_front.specs.Known.{history_of}
+use Rattle.http_handlers.specs.Known.{history_of}
 use Rattle.session_peer.specs.End.{End}
 use Rattle.session_peer.proofs.Queried.{reads-changes}
 use Rattle.session_peer.proofs.peer.SessionPeerPeer.changes.Goals as goal

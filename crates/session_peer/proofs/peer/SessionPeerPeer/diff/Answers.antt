@@ -1,5 +1,5 @@
 use Rattle.std.proofs.Common.{ap, ◌∙◌}
-use Rattle.http_front.specs.Known.{history_of}
+use Rattle.http_handlers.specs.Known.{history_of}
 use Rattle.session_peer.specs.End.{End}
 use Rattle.session_peer.proofs.Queried.{reads-differences}
 use Rattle.session_peer.proofs.peer.SessionPeerPeer.diff.Goals as goal

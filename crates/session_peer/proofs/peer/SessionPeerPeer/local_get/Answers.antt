@@ -1,6 +1,6 @@
 use Rattle.std.proofs.Common.{ap, sym, ◌∙◌}
 use Rattle.std.specs.Arc.{arc_value}
-use Rattle.http_front.specs.Known.{history_of}
+use Rattle.http_handlers.specs.Known.{history_of}
 use Rattle.session_peer.specs.End.{End}
 use Rattle.session_peer.proofs.Queried.{reads-none, reads-some}
 use Rattle.session_peer.proofs.peer.SessionPeerPeer.local_get.Goals as goal

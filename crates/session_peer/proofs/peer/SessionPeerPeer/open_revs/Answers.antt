@@ -1,5 +1,5 @@
 use Rattle.std.proofs.Common.{Some, ap, ◌∙◌}
-use Rattle.http_front.specs.Known.{history_of}
+use Rattle.http_handlers.specs.Known.{history_of}
 use Rattle.model.specs.Documents.{opened}
 use Rattle.model.specs.History.{now}
 use Rattle.session_peer.specs.End.{End}

@@ -1,9 +1,0 @@
-use Rattle.std.proofs.Common.{ℕ}
-use Rattle.serving.proofs.Going.{served-nothing}
-use Rattle.http_front.proofs.Told.{served_lent}
-use Rattle.http_front.proofs.connection.serve.Goals as goal
-
-pub returns-in_default : goal.returns-in_default
-returns-in_default g c = record {
-  connection = served_lent {N = ℕ} g.S.Viewer.known (λ s. 0) _ _ c.args.session.now c.args.session.now _ served-nothing c.place-place.ensures.legal;
-}

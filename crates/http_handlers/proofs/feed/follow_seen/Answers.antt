@@ -1,0 +1,35 @@
+use Rattle.std.proofs.Common.{◌≡◌, ℕ, List, [], ◌++◌, length, ap, sym, ◌∙◌, subst}
+use Rattle.std.proofs.lemmas.List.{append-nil}
+use Rattle.std.specs.Io.KnownBytes.{Appends}
+use Rattle.model.specs.History.{now}
+use Rattle.http_response.specs.Feed.{feed_head_text}
+use Rattle.http_handlers.specs.Known.{history_of}
+use Rattle.http_handlers.specs.Changes.{most_rows}
+use Rattle.http_handlers.specs.Feed.{feed_start}
+use Rattle.http_handlers.proofs.Feeds.{going-start, goes_cut, cut_as, writes-later}
+use Rattle.http_handlers.proofs.Fed.{writes_fed}
+use Rattle.http_handlers.proofs.feed.follow_seen.Goals as goal
+
+pub returns-in_default-clause-turn : goal.returns-in_default-clause-turn
+returns-in_default-clause-turn g c =
+    λ request asks.
+    let k = g.S.Viewer.known c.args.session.now in
+    let changes = c.args.changes in
+    let start = c.new-start.result in
+    let start_is : start ≡ feed_start (now (history_of k)) changes = c.new-start.ensures ∙ (λ i. record { follower = record { cursor = c.since_seen-since.ensures i; style = changes.style }; left = most_rows changes.limit }) in
+    let head : c.as_bytes.result.now ≡ feed_head_text (length k.seen) = c.as_bytes.ensures.value ∙ c.deref.ensures.0 ∙ c.feed_head-head.ensures.head ∙ ap feed_head_text c.place.ensures.place in
+    writes_fed k k request changes asks c.requires start start_is [] (goes_cut (going-start k start c.place.ensures.legal)) _ _ _
+    (tt, cut_as _ _ c.as_bytes.result.now (feed_head_text (length k.seen) ++ []) (head ∙ sym (append-nil (feed_head_text (length k.seen)))) c.in_default.ensures.written.1) tt
+
+pub returns-clause-turn : goal.returns-clause-turn
+returns-clause-turn g c =
+    λ request asks.
+    let k = g.S.Viewer.known c.args.session.now in
+    let changes = c.args.changes in
+    let start = c.new-start.result in
+    let start_is : start ≡ feed_start (now (history_of k)) changes = c.new-start.ensures ∙ (λ i. record { follower = record { cursor = c.since_seen-since.ensures i; style = changes.style }; left = most_rows changes.limit }) in
+    let head : c.as_bytes.result.now ≡ feed_head_text (length k.seen) = c.as_bytes.ensures.value ∙ c.deref.ensures.0 ∙ c.feed_head-head.ensures.head ∙ ap feed_head_text c.place.ensures.place in
+    let goes = c.go_on.ensures.goes_on in
+    writes_fed k _ request changes asks c.requires start start_is goes.0 goes.1 _ _ _
+    (writes-later _ _ _ _ (feed_head_text (length k.seen)) goes.0 (subst (λ (t : List ℕ). Appends (g.W.Sink.taken c.args.writer.now) (g.W.Sink.taken c.write_all.new.writer) t) head c.in-Ok.ensures.written.0) goes.2)
+    c.go_on.ensures.closes

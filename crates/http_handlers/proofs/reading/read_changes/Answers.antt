@@ -1,0 +1,14 @@
+use Rattle.http_request.specs.declared.asked.Asked.TheVariants as asked
+use Rattle.http_handlers.proofs.Turns.{answers_changes, answers_fault, never_full, reads_at_once}
+use Rattle.http_handlers.proofs.reading.read_changes.Goals as goal
+
+pub returns-in-Ok : goal.returns-in-Ok
+returns-in-Ok g c =
+    λ request asks closes_is.
+    answers_changes _ _ _ request c.args.closes closes_is c.in-Ok.ensures.looks c.args.changes c.changes_query-query.result asks
+    (reads_at_once _ c.args.changes c.requires) c.changes_query-query.ensures c.read_seen.ensures
+
+pub returns-in-Err : goal.returns-in-Err
+returns-in-Err g c =
+    λ request asks closes_is.
+    answers_fault _ _ _ request c.args.closes closes_is c.in-Err.ensures.looks (asked.Changes c.args.changes) asks c.in-Err.fault c.in-Err.ensures.fault (never_full c.in-Err.fault c.in-Err.ensures.fault) c.fail.ensures

@@ -1,0 +1,12 @@
+pub mod Known
+pub mod Calls
+pub mod Changes
+pub mod Feed
+pub mod Outcome
+pub mod Answers
+pub mod Connection
+pub mod Response
+pub mod Replies
+pub mod Going
+pub mod Sessions
+pub mod Listening

@@ -1,0 +1,184 @@
+-- What becomes of a request, and the text that tells it.
+use Rattle.std.specs.Prelude.{◌≡◌, ℕ, ◌⊎◌, ◌≤◌, Bool, true, List, [], ◌∷◌, ◌++◌, length, Option, Some, IfSome, Result, Ok, Err, if◌then◌else◌, ⊤}
+use Rattle.std.specs.List.{FoldsTo}
+use Rattle.model.specs.Command.{Entry}
+use Rattle.model.specs.Query.{Query, Answer}
+use Rattle.model.specs.World.{Asked as AskedAt}
+use Rattle.model.specs.Told.{Tells}
+use Rattle.http_framing.specs.Input.{Item, Requested, Refused, closes_connection}
+use Rattle.http_request.specs.Decide.{decide}
+use Rattle.http_request.specs.declared.asked.Asked.{Asked as Asking}
+use Rattle.http_request.specs.declared.asked.Asked.TheVariants as asked
+use Rattle.http_request.specs.declared.asked.Form.{Form}
+use Rattle.http_request.specs.declared.changes.ChangesAsked.{ChangesAsked}
+use Rattle.http_request.specs.declared.changes.Feed.TheVariants as feed
+use Rattle.http_request.specs.declared.rejection.Rejection.{Rejection}
+use Rattle.http_response.specs.Feed.{feed_head_text}
+use Rattle.http_response.specs.Texts.{closing_text, refusal_text, welcome_text, reply_text, answer_text, unavailable_text, no_memory_text}
+use Rattle.http_response.specs.declared.connection.Connection.{Connection as After}
+use Rattle.http_response.specs.declared.connection.Connection.TheVariants as after
+use Rattle.http_response.specs.declared.memory.MemoryFor.TheVariants as memory_for
+use Rattle.http_response.specs.declared.no_service.Unavailable.{Unavailable}
+use Rattle.http_response.specs.declared.no_service.Unavailable.TheVariants as unavailable
+use Rattle.serving.specs.Turn.{Turn}
+use Rattle.http_handlers.specs.Known.{Known, HasEntryAt, database_at}
+use Rattle.http_handlers.specs.Changes.{MayWait, changes_query}
+use Rattle.http_handlers.specs.Feed.{Piece, Ending, GivesPiece, EndsFeed, ending_text, feed_places, feed_start, pieces_text}
+use Rattle.http_handlers.specs.declared.progress.Progress.{Progress}
+use Rattle.http_handlers.specs.Calls.{CommandFails, LookFails}
+
+-- what becomes of what stands on a connection
+pub data Outcome : Type 0 where
+  -- it is refused, or it asks for `/`
+  Fixed : Outcome
+  -- the command has this entry
+  Wrote : Form → Entry → Outcome
+  -- the command has this entry, and memory for the text of its reply was refused
+  WroteUntold : Form → Entry → Outcome
+  -- the query, which was asked at this place or at the one that the response names, has this answer
+  Read : ℕ → Query → Answer → Outcome
+  -- the rows of a feed were given, piece by piece, with a last line unless there was a fault
+  Fed : List Piece → Option Ending → Outcome
+  -- memory was refused for a request, and no entry was written
+  Memory : Outcome
+  -- its call has no answer for this reason, and what was seen has no entry of it
+  Failed : Unavailable → Outcome
+
+-- what became of an item, the place that the response names, and the entries that the session had seen then
+pub record Placed : Type 0 where
+  pub place : ℕ
+  pub outcome : Outcome
+  pub seen : List Entry
+
+-- all places that an outcome speaks of, with the one that its response names
+abbrev pub places_spoken : ℕ → Outcome → List ℕ
+places_spoken place Fixed = place ∷ []
+places_spoken place (Wrote form entry) = place ∷ []
+places_spoken place (WroteUntold form entry) = place ∷ []
+places_spoken place (Read first query answer) = first ∷ place ∷ []
+places_spoken place (Fed pieces ending) = place ∷ feed_places pieces ending
+places_spoken place Memory = place ∷ []
+places_spoken place (Failed why) = place ∷ []
+
+-- the entries that were written
+abbrev pub written : Outcome → List Entry
+written Fixed = []
+written (Wrote form entry) = entry ∷ []
+written (WroteUntold form entry) = entry ∷ []
+written (Read first query answer) = []
+written (Fed pieces ending) = []
+written Memory = []
+written (Failed why) = []
+
+-- a response that speaks of no entry and of no database names the place of what the session had seen
+abbrev pub NamesSeen : Outcome → ℕ → List Entry → Type 0
+NamesSeen Fixed place seen = place ≡ length seen
+NamesSeen (Wrote form entry) place seen = ⊤
+NamesSeen (WroteUntold form entry) place seen = ⊤
+NamesSeen (Read first query answer) place seen = ⊤
+NamesSeen (Fed pieces ending) place seen = ⊤
+NamesSeen Memory place seen = place ≡ length seen
+NamesSeen (Failed why) place seen = place ≡ length seen
+
+-- the item is a request
+abbrev pub IsRequest : Item → Type 0
+IsRequest (Requested request) = ⊤
+IsRequest (Refused fault) = ⊥
+
+-- the item is a request that asks this
+abbrev pub Asks : Item → Asking → Type 0
+Asks (Requested request) asking = decide request ≡ Ok asking
+Asks (Refused fault) asking = ⊥
+
+-- a call for what is asked may have no answer for this reason
+abbrev pub CanFail : Asking → Unavailable → Type 0
+CanFail asked.Welcome why = ⊥
+CanFail (asked.Command form command) why = CommandFails command why
+CanFail (asked.Query query) why = LookFails why
+CanFail (asked.Changes changes) why = LookFails why
+
+-- what a response says of the connection
+abbrev pub after_closing : Bool → After
+after_closing closes = if closes then after.Close else after.Open
+
+-- the text is that of a refusal, or of `/`
+abbrev pub IsFixedText : ℕ → Bool → Result Asking Rejection → List ℕ → Type 0
+IsFixedText place closes (Err refusal) text = text ≡ refusal_text place (after_closing closes) refusal
+IsFixedText place closes (Ok asked.Welcome) text = text ≡ welcome_text place (after_closing closes)
+IsFixedText place closes (Ok (asked.Command form command)) text = ⊥
+IsFixedText place closes (Ok (asked.Query query)) text = ⊥
+IsFixedText place closes (Ok (asked.Changes changes)) text = ⊥
+
+-- the text is the one that is fixed for the item at this place
+abbrev pub HasFixedText : ℕ → Item → List ℕ → Type 0
+HasFixedText place (Requested request) text = IsFixedText place request.closes (decide request) text
+HasFixedText place (Refused fault) text = text ≡ closing_text place fault
+
+-- a full history has as many entries as there is room for
+abbrev pub IsFullAt : Known → ℕ → Unavailable → Type 0
+IsFullAt k place why = why ≡ unavailable.Full → place ≡ k.room
+
+-- by what a session knows
+module _ (k : Known) where
+  -- the item asks for a command, of which what was seen has this entry of the session at the place
+  pub record IsWritten (item : Item) (place : ℕ) (form : Form) (entry : Entry) : Type 0 where
+    pub asked : Asks item (asked.Command form entry.command)
+    pub own : entry.seat.session ≡ k.number
+    pub told : HasEntryAt k place entry
+
+  -- the item is a request that asks for changes, which at the first place are this query
+  pub record AsksChanges (item : Item) (first place : ℕ) (query : Query) : Type 0 where
+    pub changes : ChangesAsked
+    pub asked : Asks item (asked.Changes changes)
+    pub waits : MayWait changes.feed (database_at k first) changes first place
+    pub query_is : query ≡ changes_query (database_at k first) changes
+
+  -- the item is a request that asks this query at the first place, to be answered at the other one
+  abbrev pub AsksQuery : Item → ℕ → ℕ → Query → Type 0
+  AsksQuery item first place query = ((first ≡ place) × Asks item (asked.Query query)) ⊎ AsksChanges item first place query
+
+  -- the item asks for a query of the first entries, as many as the place says, which they answer so
+  pub record IsRead (item : Item) (first place : ℕ) (query : Query) (answer : Answer) : Type 0 where
+    pub asked : AsksQuery item first place query
+    pub told : Tells k.base k.seen (AskedAt k.number query place answer)
+
+  -- The item is a request for a feed that goes on: its head names the place where it begins, and then come its pieces.
+  pub record IsFed (item : Item) (place : ℕ) (pieces : List Piece) (ending : Option Ending) (text : List ℕ) : Type 0 where
+    pub changes : ChangesAsked
+    pub asked : Asks item (asked.Changes changes)
+    pub goes_on : changes.feed ≡ feed.Continuous
+    pub within : place ≤ length k.seen
+    pub after : Progress
+    pub runs : FoldsTo (GivesPiece k) (feed_start (database_at k place) changes) pieces after
+    pub ends : IfSome ending (EndsFeed k after)
+    pub said : text ≡ feed_head_text place ++ (pieces_text pieces ++ ending_text after.follower.cursor ending)
+
+  -- the item is a request for a call that has no answer for this reason
+  pub record IsNotTaken (item : Item) (place : ℕ) (why : Unavailable) : Type 0 where
+    pub asking : Asking
+    pub asked : Asks item asking
+    pub fails : CanFail asking why
+    pub full : IsFullAt k place why
+
+  -- the text of the turn tells what became of its item, by what the session knows
+  abbrev pub TellsAt : Turn → ℕ → Outcome → Type 0
+  TellsAt turn place Fixed = HasFixedText place turn.item turn.text × (turn.closes ≡ closes_connection turn.item)
+  TellsAt turn place (Wrote form entry) =
+      IsWritten turn.item place form entry
+      × (Some turn.text ≡ reply_text place (after_closing turn.closes) form entry.command entry.reply)
+      × (turn.closes ≡ closes_connection turn.item)
+  TellsAt turn place (WroteUntold form entry) =
+      IsWritten turn.item place form entry × (turn.text ≡ no_memory_text place memory_for.Reply) × (turn.closes ≡ true)
+  TellsAt turn place (Read first query answer) =
+      IsRead turn.item first place query answer
+      × (Some turn.text ≡ answer_text place (after_closing turn.closes) query answer)
+      × (turn.closes ≡ closes_connection turn.item)
+  TellsAt turn place (Fed pieces ending) = IsFed turn.item place pieces ending turn.text × (turn.closes ≡ true)
+  TellsAt turn place Memory = IsRequest turn.item × (turn.text ≡ no_memory_text place memory_for.Call) × (turn.closes ≡ true)
+  TellsAt turn place (Failed why) =
+      IsNotTaken turn.item place why
+      × (turn.text ≡ unavailable_text place (after_closing turn.closes) why)
+      × (turn.closes ≡ closes_connection turn.item)
+
+  abbrev pub IsToldAt : Turn → Placed → Type 0
+  IsToldAt turn placed = TellsAt turn placed.place placed.outcome

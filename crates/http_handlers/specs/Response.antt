@@ -1,0 +1,32 @@
+-- What a response says.
+use Rattle.std.specs.Prelude.{◌≡◌, ℕ, ◌⊎◌, Bool, true, List, Option, Some}
+use Rattle.http_framing.specs.Input.{Item}
+use Rattle.serving.specs.Turn.{Turn}
+use Rattle.http_response.specs.Texts.{no_memory_text, unavailable_text}
+use Rattle.http_response.specs.declared.memory.MemoryFor.{MemoryFor}
+use Rattle.http_response.specs.declared.memory.MemoryFor.TheVariants as memory_for
+use Rattle.http_handlers.specs.Outcome.{after_closing}
+use Rattle.http_handlers.specs.declared.calls.CallFault.{CallFault}
+use Rattle.http_handlers.specs.declared.calls.CallFault.TheVariants as fault
+use Rattle.http_handlers.specs.declared.response.Sent.{Sent}
+
+-- the turn of an item that has this response
+abbrev pub turn_of : Item → Sent → Turn
+turn_of item sent = record { item = item; text = sent.response; closes = sent.closes }
+
+-- it sends this text
+abbrev pub Sends : List ℕ → Bool → Sent → Type 0
+Sends text closes sent = (sent.response ≡ text) × (sent.closes ≡ closes)
+
+-- it says that memory was refused
+abbrev pub SaysLost : ℕ → MemoryFor → Sent → Type 0
+SaysLost place wanted sent = Sends (no_memory_text place wanted) true sent
+
+-- it sends the text that is due, or says that memory for it was refused
+abbrev pub SendsDue : Option (List ℕ) → Bool → ℕ → MemoryFor → Sent → Type 0
+SendsDue due closes place wanted sent = ((Some sent.response ≡ due) × (sent.closes ≡ closes)) ⊎ SaysLost place wanted sent
+
+-- it says why a call has no answer
+abbrev pub SaysFault : ℕ → Bool → CallFault → Sent → Type 0
+SaysFault place closes fault.Memory sent = SaysLost place memory_for.Call sent
+SaysFault place closes (fault.Unavailable why) sent = Sends (unavailable_text place (after_closing closes) why) closes sent

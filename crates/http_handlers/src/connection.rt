@@ -1,0 +1,148 @@
+//! The connections of a session.
+ghost use Rattle.std.specs.Prelude.{◌≡◌};
+ghost use Rattle.serving.specs.Served.{Streams};
+ghost use Rattle.http_handlers.specs.Answers.{Answers};
+ghost use Rattle.http_handlers.specs.Connection.{IsConnection};
+
+use crate::calls::Calls;
+use crate::feed::follow;
+use crate::response::{Reply, send};
+use crate::setting::Setting;
+use crate::turn::{refuse, respond};
+use http_framing::FramingFault;
+use http_framing::request::Request;
+use serving::{Cause, Ended, Service, Window};
+use std::alloc::Global;
+use streams::{Failed, Sink, Source};
+
+/// Memory for the window was refused.
+const NOTHING_READ: Ended = Ended {
+    answered: 0,
+    cause: Cause::Memory,
+};
+
+/// A session that is lent to a connection.
+#[derive(Drop)]
+struct Lent<'s, S> {
+    session: &'s mut S,
+}
+
+impl<'s, 'c, X, S: Calls<X>> Service<Setting<'c, X>> for Lent<'s, S> {
+    // It stays the same session.
+    ghost answers = { λ _ old turn new.
+        Answers (S.known old.session.now) turn (S.known new.session.now)
+        × (new.session.ghost_name ≡ old.session.ghost_name) };
+
+    fn answer<W: Sink>(
+        &mut self,
+        setting: &Setting<'c, X>,
+        request: &Request<'_>,
+        writer: &mut W,
+    ) -> Result<bool, Failed> {
+        match respond(self.session, setting, request) {
+            Reply::Sent(sent) => send(writer, &sent),
+            Reply::Feed(changes) => {
+                follow(self.session, setting, changes, request.closes(), writer)
+            }
+        }
+    }
+
+    fn refuse<W: Sink>(
+        &mut self,
+        _setting: &Setting<'c, X>,
+        fault: FramingFault,
+        writer: &mut W,
+    ) -> Result<(), Failed> {
+        let sent = refuse(&*self.session, fault);
+        send(writer, &sent)?;
+        Ok(())
+    }
+}
+
+/// Serves the requests of the reader to the writer, in order, each as soon as it is whole. Other
+/// sessions of the database may have entries meanwhile. Room for the largest request is taken first;
+/// where that is refused, nothing is read.
+pub fn serve<R: Source, W: Sink, X, S: Calls<X>>(
+    alloc: Global,
+    reader: &mut R,
+    writer: &mut W,
+    session: &mut S,
+    setting: &Setting<'_, X>,
+) -> Ended
+    ensures connection { IsConnection
+        (record {
+          left = R.left reader.old;
+          failed_reads = R.failed_reads reader.old;
+          taken = W.taken writer.old;
+          failed_writes = W.failed_writes writer.old;
+        })
+        (record {
+          left = R.left reader.new;
+          failed_reads = R.failed_reads reader.new;
+          taken = W.taken writer.new;
+          failed_writes = W.failed_writes writer.new;
+        })
+        (S.known session.old) (S.known session.new) result }
+{
+    let Ok(mut window) = Window::new(alloc) else {
+        let _place = session.place();
+        return NOTHING_READ;
+    };
+    serve_in(&mut window, reader, writer, session, setting)
+}
+
+/// Serves a connection in a window that served others before.
+pub(crate) fn serve_in<R: Source, W: Sink, X, S: Calls<X>>(
+    window: &mut Window,
+    reader: &mut R,
+    writer: &mut W,
+    session: &mut S,
+    setting: &Setting<'_, X>,
+) -> Ended
+    ensures connection { IsConnection
+        (record {
+          left = R.left reader.old;
+          failed_reads = R.failed_reads reader.old;
+          taken = W.taken writer.old;
+          failed_writes = W.failed_writes writer.old;
+        })
+        (record {
+          left = R.left reader.new;
+          failed_reads = R.failed_reads reader.new;
+          taken = W.taken writer.new;
+          failed_writes = W.failed_writes writer.new;
+        })
+        (S.known session.old) (S.known session.new) result }
+{
+    let mut lent = Lent { session };
+    serve_lent(window, reader, writer, &mut lent, setting)
+}
+
+/// Serves by a session that is lent.
+fn serve_lent<R: Source, W: Sink, X, S: Calls<X>>(
+    window: &mut Window,
+    reader: &mut R,
+    writer: &mut W,
+    lent: &mut Lent<'_, S>,
+    setting: &Setting<'_, X>,
+) -> Ended
+    ensures same { lent.new.session.ghost_name ≡ lent.old.session.ghost_name }
+    ensures connection { IsConnection
+        (record {
+          left = R.left reader.old;
+          failed_reads = R.failed_reads reader.old;
+          taken = W.taken writer.old;
+          failed_writes = W.failed_writes writer.old;
+        })
+        (record {
+          left = R.left reader.new;
+          failed_reads = R.failed_reads reader.new;
+          taken = W.taken writer.new;
+          failed_writes = W.failed_writes writer.new;
+        })
+        (S.known lent.old.session.now) (S.known lent.new.session.now) result }
+{
+    let ended = serving::serve(window, reader, writer, lent, setting);
+    let _place = lent.session.place();
+    ended
+}

@@ -1,0 +1,21 @@
+//! Calls that have no answer.
+ghost use Rattle.std.specs.Prelude.{length};
+ghost use Rattle.http_handlers.specs.Response.{SaysFault};
+
+use crate::calls::{CallFault, Viewer};
+use crate::response::{Sent, connection_after};
+use http_response::{MemoryFor, service_unavailable};
+
+/// Says why a call has no answer.
+pub(crate) fn fail<S: Viewer>(session: &S, fault: CallFault, closes: bool) -> Sent
+    ensures { SaysFault (length (S.known session.now).seen) closes fault result }
+{
+    let place = session.place();
+    match fault {
+        CallFault::Memory => Sent::no_memory(place, MemoryFor::Call),
+        CallFault::Unavailable(why) => Sent {
+            response: service_unavailable(place, connection_after(closes), why),
+            closes,
+        },
+    }
+}

@@ -1,0 +1,184 @@
+//! Feeds that go on as changes come.
+ghost use Rattle.std.specs.Prelude.{◌≡◌, ℕ, List, length, true, false, Ok, IfOk, string_bytes};
+ghost use Rattle.http_framing.specs.Request as framing;
+ghost use Rattle.http_request.specs.Decide.{decide};
+ghost use Rattle.http_response.specs.Feed.{feed_last_text};
+ghost use Rattle.streams.specs.Counts.{CountsFailure};
+ghost use Rattle.streams.specs.Writes.{Writes};
+ghost use Rattle.http_handlers.specs.Calls.{Looks};
+ghost use Rattle.http_handlers.specs.Feed.{Piece, GivesPiece, piece_text};
+ghost use Rattle.http_handlers.specs.Going.{GivesOne, GoesOn, WritesTurn};
+
+use crate::calls::{CallFault, Calls, Viewer};
+use crate::failing::fail;
+use crate::progress::{Progress, lines};
+use crate::reading::since_seen;
+use crate::response::send;
+use crate::setting::Setting;
+use http_request::{Asked, ChangesAsked, Feed, Since};
+use http_response::{feed_head, feed_last};
+use std::alloc::{AllocError, Global};
+use streams::{Failed, Sink, write_all};
+
+/// The most rows that are written at once.
+const PIECE: u64 = 100;
+
+/// Gives the rows of a feed as they come, and answers whether the connection closes behind them.
+pub(crate) fn follow<X, S: Calls<X>, W: Sink>(
+    session: &mut S,
+    setting: &Setting<'_, X>,
+    changes: ChangesAsked,
+    closes: bool,
+    writer: &mut W,
+) -> Result<bool, Failed>
+    requires { changes.feed ≡ Feed.Continuous }
+    ensures turn { (request : framing.Request) → decide request ≡ Ok (Asked.Changes changes)
+        → request.closes ≡ closes
+        → WritesTurn (S.known session.old) (S.known session.new) request result
+        (W.taken writer.old) (W.taken writer.new) }
+    ensures failures { CountsFailure (W.failed_writes writer.old)
+        (W.failed_writes writer.new) result }
+{
+    match session.refresh() {
+        Ok(()) => follow_seen(session, setting, changes, writer),
+        Err(fault) => {
+            let sent = fail(session, fault, closes);
+            send(writer, &sent)
+        }
+    }
+}
+
+/// Gives the rows of a feed that begins with what has been seen.
+fn follow_seen<X, S: Calls<X>, W: Sink>(
+    session: &mut S,
+    setting: &Setting<'_, X>,
+    changes: ChangesAsked,
+    writer: &mut W,
+) -> Result<bool, Failed>
+    requires { changes.feed ≡ Feed.Continuous }
+    ensures turn { (request : framing.Request) → decide request ≡ Ok (Asked.Changes changes)
+        → WritesTurn (S.known session.old) (S.known session.new) request result
+        (W.taken writer.old) (W.taken writer.new) }
+    ensures failures { CountsFailure (W.failed_writes writer.old)
+        (W.failed_writes writer.new) result }
+{
+    let since = since_seen(session, changes.since);
+    let start = Progress::new(since, changes.limit, changes.style);
+    let head = feed_head(session.place());
+    let Ok(()) = write_all(writer, head.as_bytes()) else {
+        return Err(Failed);
+    };
+    go_on(session, setting, start, writer)
+}
+
+/// Gives rows as long as some are to be given and come, and then the last line. There is none after
+/// a fault.
+fn go_on<X, S: Calls<X>, W: Sink>(
+    session: &mut S,
+    setting: &Setting<'_, X>,
+    start: Progress,
+    writer: &mut W,
+) -> Result<bool, Failed>
+    ensures goes_on { (text : List ℕ)
+        × GoesOn (S.known session.old) (S.known session.new) start text
+        × Writes (W.taken writer.old) (W.taken writer.new) result text }
+    ensures closes { IfOk result (λ closes. closes ≡ true) }
+    ensures failures { CountsFailure (W.failed_writes writer.old)
+        (W.failed_writes writer.new) result }
+{
+    let mut progress = start;
+    let _place = session.place();
+    for _turn in 0..u64::MAX {
+        let Ok(given) = give(session, setting.alloc, &mut progress, writer) else {
+            return Err(Failed);
+        };
+        let Some(pending) = given else {
+            return Ok(true);
+        };
+        if progress.left == 0 {
+            return finish(writer, &progress, pending);
+        }
+        match has_more(session, setting, pending) {
+            Ok(true) => {}
+            Ok(false) => return finish(writer, &progress, pending),
+            Err(_) => return Ok(true),
+        }
+    }
+    Ok(true)
+}
+
+/// Whether there is more to look at: rows that are left, or updates that come within the wait.
+fn has_more<X, S: Calls<X>>(
+    session: &mut S,
+    setting: &Setting<'_, X>,
+    pending: u64,
+) -> Result<bool, CallFault>
+    ensures looks { Looks (S.known session.old) (S.known session.new) }
+    ensures none { result ≡ Ok false → pending ≡ 0 }
+{
+    let _place = session.place();
+    if pending > 0 {
+        return Ok(true);
+    }
+    session.wait_past(
+        setting.context,
+        since_seen(session, Since::Now),
+        setting.turns,
+    )
+}
+
+/// Writes the next rows of what has been seen, and answers how many are left. Nothing where memory
+/// is refused.
+fn give<S: Viewer, W: Sink>(
+    session: &S,
+    alloc: Global,
+    progress: &mut Progress,
+    writer: &mut W,
+) -> Result<Option<u64>, Failed>
+    ensures gives { GivesOne (S.known session.now) progress.old progress.new result
+        (W.taken writer.old) (W.taken writer.new) }
+    ensures failures { CountsFailure (W.failed_writes writer.old)
+        (W.failed_writes writer.new) result }
+{
+    let Ok(text) = next_lines(session, alloc, progress) else {
+        return Ok(None);
+    };
+    let Ok(()) = write_all(writer, text.as_bytes()) else {
+        return Err(Failed);
+    };
+    let cursor = progress.follower.cursor();
+    Ok(Some(session.version().database().count_changed_since(cursor)))
+}
+
+/// The next rows of what has been seen, at most as many as are written at once.
+fn next_lines<S: Viewer>(
+    session: &S,
+    alloc: Global,
+    progress: &mut Progress,
+) -> Result<String, AllocError>
+    ensures { IfOk result (λ text. (piece : Piece)
+        × GivesPiece (S.known session.now) progress.old piece progress.new
+        × (piece.place ≡ length (S.known session.now).seen)
+        × (string_bytes text ≡ piece_text piece)) }
+{
+    let most = progress.left.min(PIECE);
+    let rows = progress.follower.next(alloc, session.version(), most)?;
+    let text = lines(alloc, &rows)?;
+    progress.left -= rows.len() as u64;
+    Ok(text)
+}
+
+/// Writes the last line, and answers that the connection closes behind it.
+fn finish<W: Sink>(writer: &mut W, progress: &Progress, pending: u64) -> Result<bool, Failed>
+    ensures written { Writes (W.taken writer.old) (W.taken writer.new) result
+        (feed_last_text progress.now.follower.cursor pending) }
+    ensures closes { IfOk result (λ closes. closes ≡ true) }
+    ensures failures { CountsFailure (W.failed_writes writer.old)
+        (W.failed_writes writer.new) result }
+{
+    let line = feed_last(progress.follower.cursor(), pending);
+    let Ok(()) = write_all(writer, line.as_bytes()) else {
+        return Err(Failed);
+    };
+    Ok(true)
+}

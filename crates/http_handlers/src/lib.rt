@@ -1,0 +1,24 @@
+//! The connections that sessions of a database serve.
+//!
+//! [`serve`] answers the requests of a connection by the calls of a session ([`Calls`]), of which a
+//! session that shares its database with other threads is one. [`listen`] lends sessions to workers,
+//! which accept connections and serve them.
+#![tactic(auto)]
+
+mod calls;
+mod connection;
+mod failing;
+mod feed;
+mod listening;
+mod progress;
+mod reading;
+mod response;
+mod session;
+mod setting;
+mod turn;
+mod writing;
+
+pub use calls::{CallFault, Calls, Viewer};
+pub use connection::serve;
+pub use listening::listen;
+pub use setting::Setting;

@@ -1,0 +1,60 @@
+//! The rows of a feed.
+ghost use Rattle.std.specs.Prelude.{◌≡◌, ◌≤◌, length, IfOk, string_bytes};
+ghost use Rattle.std.specs.List.{flat_map};
+ghost use Rattle.answer_json.specs.Changes.{feed_line};
+ghost use Rattle.http_handlers.specs.Changes.{most_rows};
+
+use answer_json::feed_line;
+use changes_feed::Follower;
+use model::Style;
+use queries::Row;
+use std::alloc::{AllocError, Global};
+
+/// The most rows of a feed that has no limit.
+const NO_LIMIT: u64 = 999_999_999_999_999_999;
+
+/// What a feed has given, and how many more rows it is to give.
+#[derive(Drop)]
+pub(crate) struct Progress {
+    pub(crate) follower: Follower,
+    pub(crate) left: u64,
+}
+
+impl Progress {
+    /// Gives the rows above `since`, at most `limit` of them where there is a limit. A limit of 0
+    /// acts as 1.
+    pub(crate) fn new(since: u64, limit: Option<u64>, style: Style) -> Progress
+        ensures { result ≡ record {
+          follower = record { cursor = since; style = style };
+          left = most_rows limit;
+        } }
+    {
+        Progress {
+            follower: Follower::new(since, style),
+            left: most_rows(limit),
+        }
+    }
+}
+
+/// The most rows of a feed.
+#[tactic(auto, unfolding(crate::specs::Changes::no_limit))]
+fn most_rows(limit: Option<u64>) -> u64
+    ensures { result ≡ most_rows limit }
+{
+    match limit {
+        Some(limit) => limit.max(1),
+        None => NO_LIMIT,
+    }
+}
+
+/// A line each.
+pub(crate) fn lines(alloc: Global, rows: &[Row]) -> Result<String, AllocError>
+    ensures { IfOk result (λ text. string_bytes text ≡ flat_map feed_line rows.now) }
+{
+    let mut text = String::new(alloc);
+    for row in rows {
+        let line = feed_line(alloc, row)?;
+        text.push_str(line.as_str())?;
+    }
+    Ok(text)
+}

@@ -1,0 +1,78 @@
+//! A response at hand.
+ghost use Rattle.std.specs.Prelude.{◌≡◌, ℕ, List, Option, Some, IfOk};
+ghost use Rattle.streams.specs.Counts.{CountsFailure};
+ghost use Rattle.streams.specs.Writes.{Writes};
+ghost use Rattle.http_handlers.specs.Outcome.{after_closing};
+ghost use Rattle.http_handlers.specs.Response.{SaysLost, SendsDue};
+
+use http_request::ChangesAsked;
+use http_response::{Connection, MemoryFor, Response, no_memory};
+use serving::write_response;
+use std::alloc::AllocError;
+use streams::{Failed, Sink};
+
+/// What is sent, and whether the connection closes after it.
+#[derive(Drop)]
+pub(crate) struct Sent {
+    pub(crate) response: Response,
+    pub(crate) closes: bool,
+}
+
+/// How a request is answered.
+#[derive(Drop)]
+pub(crate) enum Reply {
+    /// By a response that is at hand.
+    Sent(Sent),
+    /// By a feed that goes on as changes come.
+    Feed(ChangesAsked),
+}
+
+impl Sent {
+    /// Says that memory was refused, after which the connection closes.
+    pub(crate) fn no_memory(place: u64, wanted: MemoryFor) -> Sent
+        ensures { SaysLost place wanted result }
+    {
+        Sent {
+            response: no_memory(place, wanted),
+            closes: true,
+        }
+    }
+
+    /// What is to be sent: the response, or that memory for it was refused.
+    pub(crate) fn made(
+        response: Result<Response, AllocError>,
+        closes: bool,
+        place: u64,
+        wanted: MemoryFor,
+    ) -> Sent
+        ensures { (due : Option (List ℕ)) → IfOk response (λ made. Some made ≡ due)
+            → SendsDue due closes place wanted result }
+    {
+        match response {
+            Ok(response) => Sent { response, closes },
+            Err(_) => Sent::no_memory(place, wanted),
+        }
+    }
+}
+
+/// Writes a response, and answers whether the connection closes after it.
+pub(crate) fn send<W: Sink>(writer: &mut W, sent: &Sent) -> Result<bool, Failed>
+    ensures written { Writes (W.taken writer.old) (W.taken writer.new) result sent.now.response }
+    ensures closes { IfOk result (λ closes. closes ≡ sent.now.closes) }
+    ensures failures { CountsFailure (W.failed_writes writer.old)
+        (W.failed_writes writer.new) result }
+{
+    let (head, body) = sent.response.parts();
+    write_response(writer, head, body, sent.closes)
+}
+
+/// What a response says of the connection.
+pub(crate) fn connection_after(closes: bool) -> Connection
+    ensures { result ≡ after_closing closes }
+{
+    if closes {
+        Connection::Close
+    } else {
+        Connection::Open
+    }
+}

@@ -1,0 +1,95 @@
+//! The turns of a session.
+ghost use Rattle.std.specs.Prelude.{◌≡◌, Ok};
+ghost use Rattle.http_framing.specs.Input.{Requested, Refused};
+ghost use Rattle.http_framing.specs.Request as framing;
+ghost use Rattle.http_request.specs.Decide.{decide};
+ghost use Rattle.http_request.specs.Forms.{HasForm};
+ghost use Rattle.http_handlers.specs.Answers.{Answers};
+ghost use Rattle.http_handlers.specs.Response.{turn_of};
+ghost use Rattle.http_handlers.specs.Replies.{Replies};
+
+use crate::calls::{Calls, Viewer};
+use crate::reading::{poll_changes, read, read_changes};
+use crate::response::{Reply, Sent, connection_after};
+use crate::setting::Setting;
+use crate::writing::write;
+use http_framing::FramingFault;
+use http_framing::request::Request;
+use http_request::{Asked, ChangesAsked, Feed, read_request};
+use http_response::{MemoryFor, closing, refused, welcome};
+
+/// Does what a request asks, and answers it.
+pub(crate) fn respond<X, S: Calls<X>>(
+    session: &mut S,
+    setting: &Setting<'_, X>,
+    request: &Request<'_>,
+) -> Reply
+    ensures { Replies request.now (S.known session.old) result (S.known session.new) }
+{
+    let place = session.place();
+    let closes = request.closes();
+    let Ok(asked) = read_request(setting.alloc, &setting.routes, request) else {
+        return Reply::Sent(Sent::no_memory(place, MemoryFor::Call));
+    };
+    match asked {
+        Ok(asked) => carry_out(session, setting, asked, closes),
+        Err(refusal) => {
+            let response = refused(place, connection_after(closes), refusal);
+            Reply::Sent(Sent { response, closes })
+        }
+    }
+}
+
+/// Does what is asked, and answers it.
+fn carry_out<X, S: Calls<X>>(
+    session: &mut S,
+    setting: &Setting<'_, X>,
+    asked: Asked,
+    closes: bool,
+) -> Reply
+    requires { HasForm asked }
+    ensures { (request : framing.Request) → decide request ≡ Ok asked
+        → request.closes ≡ closes
+        → Replies request (S.known session.old) result (S.known session.new) }
+{
+    match asked {
+        Asked::Command(form, command) => {
+            Reply::Sent(write(session, setting, form, command, closes))
+        }
+        Asked::Query(query) => Reply::Sent(read(session, setting.alloc, &query, closes)),
+        Asked::Changes(changes) => tell_changes(session, setting, changes, closes),
+        Asked::Welcome => {
+            let response = welcome(session.place(), connection_after(closes));
+            Reply::Sent(Sent { response, closes })
+        }
+    }
+}
+
+/// Answers which changes there are, unless they are to be given as they come.
+fn tell_changes<X, S: Calls<X>>(
+    session: &mut S,
+    setting: &Setting<'_, X>,
+    changes: ChangesAsked,
+    closes: bool,
+) -> Reply
+    ensures { (request : framing.Request) → decide request ≡ Ok (Asked.Changes changes)
+        → request.closes ≡ closes
+        → Replies request (S.known session.old) result (S.known session.new) }
+{
+    match changes.feed {
+        Feed::Normal => Reply::Sent(read_changes(session, setting.alloc, changes, closes)),
+        Feed::LongPoll => Reply::Sent(poll_changes(session, setting, changes, closes)),
+        Feed::Continuous => Reply::Feed(changes),
+    }
+}
+
+/// Answers bytes that are refused.
+pub(crate) fn refuse<S: Viewer>(session: &S, fault: FramingFault) -> Sent
+    ensures { Answers (S.known session.now) (turn_of (Refused fault) result)
+        (S.known session.now) }
+{
+    Sent {
+        response: closing(session.place(), fault),
+        closes: true,
+    }
+}
