@@ -17,6 +17,11 @@ indexes.
     responses      the texts of responses
     once           a whole run
     history        dumps: the text of a history, and whether a text is the dump of a legal one
+    versions       rows of commands, queries and a follower
+    copies         rows of compactions that are made by slices
+    worlds         rows of interleavings
+    containers     rows of maps, lists and trees
+    rows           how rows are read
 
 A route that the program doesn't have is answered as if it were not there.
 """

@@ -50,12 +50,16 @@ class Local:
     body: Body
 
 
+LOGGED = 1000  # purges that the log keeps
+
+
 class Database:
     def __init__(self):
         self.docs = {}
         self.locals = {}
         self.update_seq = 0
         self.purge_seq = 0
+        self.purges = []  # the newest, each with its number and its document
         self.revs_limit = 1000
 
     def tree(self, id):
@@ -127,6 +131,8 @@ class Database:
         removed, left = trees.cut(self.tree(id) or {}, named)
         if removed:
             self.purge_seq += 1
+            self.purges.append((self.purge_seq, id))
+            del self.purges[:-LOGGED]
             if left:
                 self.update_seq += 1
                 self.docs[id] = Record(left, self.update_seq)

@@ -2,6 +2,7 @@
 
 mod held;
 mod pair;
+mod shares;
 mod soak;
 
 use commands::{Command, Edit, Limits, ReplyKind};

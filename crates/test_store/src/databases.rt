@@ -1,0 +1,87 @@
+//! Rows of commands and queries, one after another, and of a follower of the changes.
+
+use crate::answers::push_rows;
+use crate::changes::{act, command};
+use crate::questions::{push_asked, style};
+use crate::reads::push_read;
+use crate::replies::push_last_reply;
+use changes_feed::Follower;
+use model::Style;
+use snapshots::Version;
+use std::alloc::Global;
+use std::mem;
+use std::test::Fail;
+
+/// What stands, what stood before the last command, and a follower.
+#[derive(Drop)]
+struct Store {
+    now: Version,
+    before: Version,
+    follower: Follower,
+}
+
+/// What comes of each statement, and `;` after it.
+pub(crate) fn told(alloc: Global, row: &str) -> Result<String, Fail> {
+    let mut text = String::new(alloc);
+    let mut store = Store::new(alloc);
+    for statement in row.split(';') {
+        let mut piece = String::new(alloc);
+        store.perform(alloc, statement, &mut piece)?;
+        write!(text, "{};", piece.trim())?;
+    }
+    Ok(text)
+}
+
+impl Store {
+    fn new(alloc: Global) -> Store {
+        Store {
+            now: Version::empty(alloc),
+            before: Version::empty(alloc),
+            follower: Follower::new(0, Style::MainOnly),
+        }
+    }
+
+    /// Does what a statement says, and tells what comes of it. A query follows `?`, a read of what stands or of what stood
+    /// follows `now` or `before`, and a command may follow `by` and its session, which is else 0.
+    fn perform(&mut self, alloc: Global, statement: &str, text: &mut String) -> Result<(), Fail> {
+        let words: Vec<&str> = statement.split_whitespace().collect(alloc)?;
+        match words.as_slice() {
+            ["?", query @ ..] => push_asked(text, alloc, &self.now, query),
+            ["now", read @ ..] => push_read(text, &self.now, read),
+            ["before", read @ ..] => push_read(text, &self.before, read),
+            ["follow", since, style] => self.follow(since, style, text),
+            ["next", limit] => self.next(alloc, limit.parse::<u64>()?, text),
+            ["by", session, words @ ..] => self.write(alloc, session.parse::<u16>()?, words, text),
+            words => self.write(alloc, 0, words, text),
+        }
+    }
+
+    /// Does a command, and tells its reply.
+    fn write(
+        &mut self,
+        alloc: Global,
+        session: u16,
+        words: &[&str],
+        text: &mut String,
+    ) -> Result<(), Fail> {
+        let command = command(alloc, words)?;
+        let next = act(&self.now, session, &command)?;
+        push_last_reply(text, &next)?;
+        self.before = mem::replace(&mut self.now, next);
+        Ok(())
+    }
+
+    /// Begins to follow the changes above a number, and tells where the follower stands.
+    fn follow(&mut self, since: &str, word: &str, text: &mut String) -> Result<(), Fail> {
+        self.follower = Follower::new(since.parse::<u64>()?, style(word)?);
+        write!(text, "at {}", self.follower.cursor())?;
+        Ok(())
+    }
+
+    /// The follower's next rows, and where it stands then.
+    fn next(&mut self, alloc: Global, limit: u64, text: &mut String) -> Result<(), Fail> {
+        push_rows(text, &self.follower.next(alloc, &self.now, limit)?)?;
+        write!(text, " at {}", self.follower.cursor())?;
+        Ok(())
+    }
+}

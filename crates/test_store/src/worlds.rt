@@ -1,0 +1,99 @@
+//! Rows of what happens to sessions, an updater and a compactor, one event after another.
+
+use crate::answers::push_answer;
+use crate::changes::command;
+use crate::questions::query;
+use crate::replies::{push_content, push_reply};
+use commands::{Config, Limits};
+use machine::{Completed, Event, Record, run};
+use queries::Query;
+use std::alloc::{AllocError, Global};
+use std::test::Fail;
+
+/// The calls that the events complete, how many entries there are then, and what stands.
+pub(crate) fn told(alloc: Global, row: &str) -> Result<String, Fail> {
+    let events = events(alloc, row)?;
+    let record = run(alloc, config()?, &events)?;
+    let mut text = String::new(alloc);
+    push_record(&mut text, &record)?;
+    Ok(text)
+}
+
+/// Three sessions, of whose jobs four may wait, and no slack.
+fn config() -> Result<Config, Fail> {
+    let limits = Limits {
+        sessions: 3,
+        queue: 4,
+        gather: 4,
+        slice: 4096,
+        slack: 0,
+        tries: 1,
+        max_places: 100,
+    };
+    Ok(Config::new(limits).ok_or("limits")?)
+}
+
+fn events(alloc: Global, row: &str) -> Result<Vec<Event>, Fail> {
+    let mut events = Vec::new(alloc);
+    for statement in row.split(';') {
+        let words: Vec<&str> = statement.split_whitespace().collect(alloc)?;
+        events.push(event(alloc, words.as_slice())?)?;
+    }
+    Ok(events)
+}
+
+fn event(alloc: Global, words: &[&str]) -> Result<Event, Fail> {
+    match words {
+        ["ask", session, words @ ..] => Ok(Event::Ask(
+            session.parse::<u16>()?,
+            command(alloc, words)?,
+        )),
+        ["take", n] => Ok(Event::Take(n.parse::<u64>()?)),
+        ["put"] => Ok(Event::Put),
+        ["give_up"] => Ok(Event::GiveUp),
+        ["look", session] => Ok(Event::Look(session.parse::<u16>()?)),
+        ["read", session, words @ ..] => Ok(Event::Read(
+            session.parse::<u16>()?,
+            Query::new(query(alloc, words)?),
+        )),
+        ["start", session] => Ok(Event::Start(session.parse::<u16>()?)),
+        ["slice", n] => Ok(Event::Slice(n.parse::<u64>()?)),
+        ["catch_up", n] => Ok(Event::CatchUp(n.parse::<u64>()?)),
+        ["swap"] => Ok(Event::Swap),
+        ["abort"] => Ok(Event::Abort),
+        _ => Err("an event".into()),
+    }
+}
+
+fn push_record(text: &mut String, record: &Record) -> Result<(), AllocError> {
+    for call in &record.completed {
+        push_call(text, call)?;
+    }
+    write!(text, "place {};", record.version.place())?;
+    push_content(text, &record.version)
+}
+
+/// A session, and of a write the number of its call; the place, and the reply or the answer.
+fn push_call(text: &mut String, call: &Completed) -> Result<(), AllocError> {
+    match call {
+        Completed::Wrote {
+            seat,
+            place,
+            reply,
+            ..
+        } => {
+            write!(text, "{} {} at {place}", seat.session(), seat.call())?;
+            push_reply(text, reply)?;
+        }
+        Completed::Asked {
+            session,
+            place,
+            answer,
+            ..
+        } => {
+            write!(text, "{session} at {place} ")?;
+            push_answer(text, answer)?;
+        }
+    }
+    text.push(';')
+}
