@@ -180,7 +180,7 @@ def places(path):
 def is_tested(crate, path):
     """Whether the file is of tests or benches."""
     parts = path.split(os.sep)
-    return crate.endswith(("_tests", "_bench")) or "tests" in parts or parts[-1] == "tests.rt"
+    return crate.endswith(("_tests", "_bench")) or crate.startswith("test_") or "tests" in parts or parts[-1] == "tests.rt"
 
 
 def found_places():

@@ -352,6 +352,122 @@ WORKED = {
     ],
 }
 
+HASH, OTHER = "0123456789abcdef0123456789abcdef", "f123456789abcdef0123456789abcdef"
+GENERATION = '{"error":"generation","reason":"The generation limit is reached."}'
+CLOSED = "Connection: close\r\n"
+
+
+def bad(*reasons):
+    """Requests that are refused before any was taken."""
+    return [(400, 0, '{"error":"bad_request","reason":"%s"}' % reason) for reason in reasons]
+
+
+def later(place, responses):
+    """The same at another place."""
+    return [(status, place, *rest) for status, _, *rest in responses]
+
+
+def all_docs(*ids):
+    rows = ",".join('{"id":"%s","key":"%s","value":{"rev":"%s"}}' % (id, id, A1) for id in ids)
+    return '{"offset":0,"rows":[%s],"total_rows":%d}' % (rows, len(ids))
+
+
+# of each transcript of requests, targets and bodies at their ends what the rules for it say
+AT_ENDS = {
+    "ids-in-byte-order": [(201, at + 1, written(id, A1)) for at, id in enumerate(["café", "Za", "Z"])]
+    + [(200, 3, '{"_id":"café","_rev":"%s"}' % A1), (200, 3, all_docs("Z", "Za", "café"))],
+    "ids-of-sixteen-bytes-and-more": [(201, at + 1, written(id, A1)) for at, id in enumerate(["0123456789abcdef0", "1", "0123456789abcdef"])]
+    + [(200, 3, '{"_id":"%s","_rev":"%s"}' % (id, A1)) for id in ["0123456789abcdef", "0123456789abcdef0"]]
+    + [(200, 3, all_docs("0123456789abcdef", "0123456789abcdef0", "1"))],
+    "ids-of-one-to-512-bytes": bad("id")
+    + [(201, 1, "[%s]" % written("x", A1)), (201, 2, "[%s]" % written("x" * 512, A1))] + later(2, bad("id")) + [(200, 2, info(2, 0, 2))],
+    "ids-in-targets": [(201, 1, written("a" * 512, A1))] + later(1, bad("id", "id", "id", "id")),
+    "numbers-of-bodies": [(201, 1, written("a", "1-" + md5('0,,{"n":9223372036854775807}'))), (409, 2, CONFLICT)]
+    + later(2, bad(*["number"] * 7, "json", "json", "shape", "shape", "number", "number", "json")),
+    "limits-of-revisions": [(200, 1, DONE), (200, 1, "4294967295")] + later(1, bad("shape", "shape", "shape", "shape", "number")) + [(200, 2, DONE), (200, 2, "1")],
+    "texts-that-are-json": bad(*["json"] * 6, "shape"),
+    "values-nested-to-the-limit": bad("shape", "depth", "depth", "json"),
+    "last-of-two-members": [
+        (201, 1, written("a", "1-" + md5('0,,{"a":{"_x":2},"b":[]}'))),
+        (200, 1, '{"_id":"a","_rev":"1-%s","a":{"_x":2},"b":[]}' % md5('0,,{"a":{"_x":2},"b":[]}')),
+    ],
+    "special-members-among-others": [
+        one
+        for at, (body, text) in enumerate([
+            ("{}", '{"_id":"0","_rev":"%s"}'),
+            ('{"A":[2],"a":"x","b":1}', '{"A":[2],"_id":"1","_rev":"%s","a":"x","b":1}'),
+            ('{"b":1}', '{"_id":"2","_rev":"%s","b":1}'),
+            ('{"":2,"Z":1}', '{"":2,"Z":1,"_id":"3","_rev":"%s"}'),
+        ])
+        for one in [(201, at + 1, written(str(at), "1-" + md5("0,," + body))), (200, at + 1, text % ("1-" + md5("0,," + body)))]
+    ],
+    "bodies-with-revisions-of-their-own": [(201, at + 1, written(str(at), "1-" + md5("0,," + body))) for at, body in enumerate([
+        '{"a":[1,{"b":"x"}],"c":null}', '{"a":[1,{"b":"x"}],"c":null}', "{}", '{"a":[1,{"b":"x"}],"d":null}', '{"a":[1,{"b":"y"}],"c":null}',
+        '{"a":[-1,{"b":"x"}],"c":null}', '{"a":[1],"c":null}', '{"a":[1,{"b":"x"}],"c":false}', '{"a":[1,{"b":"x"}],"c":null,"d":0}', "{}",
+    ])],
+    "revisions-in-order": [(201, 1, "[]"), (201, 2, "[]"), (201, 3, "[]")]
+    + [(200, 3, "[%s]" % ",".join('{"ok":{"_id":"%s","_rev":"%s"}}' % (id, rev) for rev in revs)) for id, revs in [("d", (A2, X2)), ("e", (A3, X2))]]
+    + [(200, 3, '{"_id":"%s","_rev":"%s"}' % pair) for pair in [("d", A2), ("e", A3)]],
+    "revisions-malformed": bad(*["revision"] * 13) + [(404, 0, MISSING)] * 2 + bad("shape", "shape"),
+    "targets-of-no-route": [(404, 0, MISSING)] * 11,
+    "targets-of-routes": [(405, 0, METHOD, "Allow: %s\r\n" % methods) for methods in [
+        "GET", "GET, PUT, DELETE", "GET", "GET", "GET, PUT", "GET", "POST", "GET", "POST", "POST", "GET, PUT, DELETE", "POST", "GET, PUT, DELETE", "GET, PUT, DELETE",
+    ]],
+    "targets-and-methods": [(404, 0, MISSING)] * 2
+    + [(405, 0, METHOD, "Allow: %s\r\n" % methods) for methods in ["GET, PUT"] + ["POST"] * 4 + ["GET, PUT, DELETE"]]
+    + [(405, 0, METHOD, "Allow: GET, PUT, DELETE\r\n" + CLOSED)],
+    "put-faults-in-order": bad("parameter", "revision", "json", "number", "shape", "shape", "member", "revision", "revision"),
+    "put-of-all-that-it-takes": [
+        (201, 1, written("café/a", A1)),
+        (201, 2, written("café/a", "2-" + md5("1," + A1 + ',{"n":1}'))),
+        (404, 2, DELETED),
+        (200, 2, '{"_deleted":true,"_id":"café/a","_rev":"2-%s","n":1}' % md5("1," + A1 + ',{"n":1}')),
+    ],
+    "refusal-at-the-twelfth-place": [(201, number + 1, written(str(number), A1)) for number in range(12)] + later(12, bad("number")),
+    "get-by-flags": [
+        (201, 1, "[]"),
+        (200, 1, '{"_conflicts":["%s"],"_id":"a","_rev":"%s"}' % (revision("1-a*"), revision("1-b*"))),
+        (200, 1, '{"couchdb":"Welcome"}'),
+        (200, 1, info(1, 0, 2)),
+    ],
+    "get-and-close": [(201, 1, written("a", A1)), (200, 1, '{"_id":"a","_rev":"%s"}' % A1, CLOSED)],
+    "get-of-a-deletion-and-close": [(201, 1, written("a", A1)), (200, 2, written("a", X2)), (404, 2, DELETED, CLOSED)],
+    "delete-over-a-revision": [(201, 1, written("a", A1)), (200, 2, written("a", X2)), (200, 2, '{"_deleted":true,"_id":"a","_rev":"%s"}' % X2)],
+    "local-document-of-many-numbers": [(201, number, written("_local/a", "0-%d" % number)) for number in range(1, 8)]
+    + [(200, 7, '{"_id":"_local/a","_rev":"0-7"}'), (404, 7, MISSING), (200, 8, written("_local/a", "0-0")), (404, 9, MISSING)],
+    "open-revisions-of-capitals": [
+        (201, 1, written("a", "1-" + md5('0,,{"Kind":1,"text":[]}'))),
+        (200, 1, '[{"ok":{"Kind":1,"_id":"a","_rev":"1-%s","text":[]}},{"missing":"1-%s"}]' % (md5('0,,{"Kind":1,"text":[]}'), HASH)),
+    ],
+    "bulk-faults-in-order": bad("json", "number", *["shape"] * 6, "member", "id", "revision"),
+    "merge-paths-at-their-ends": [(201, 1, "[]"), (201, 2, "[]")] + later(2, bad(*["shape"] * 7)) + [
+        (200, 2, '[{"ok":{"_id":"a","_rev":"4294967295-%s",%s}},{"ok":{"_id":"a","_rev":"1-%s",%s}}]' % (
+            HASH, '"_revisions":{"ids":["%s","%s"],"start":4294967295}' % (HASH, HASH), HASH, path("1-" + HASH),
+        )),
+    ],
+    "merge-faults": bad("shape", "shape", "shape", "revision"),
+    "merge-of-a-deletion": [(201, 1, "[]"), (200, 1, '[{"ok":{"_deleted":true,"_id":"a","_rev":"2-%s",%s}}]' % (HASH, path("2-" + HASH, "1-" + OTHER)))],
+    "bulk-of-two": [
+        (201, 1, "[%s,%s]" % (written("b", A1), written("a", "1-" + md5('0,,{"n":1}')))),
+        (200, 1, changes(2, 0, row("b", 1, A1), row("a", 2, "1-" + md5('0,,{"n":1}')))),
+    ],
+    "bulks-answered": [
+        (201, 1, written("b", A1)),
+        (201, 2, '[%s,{"error":"conflict","id":"b","reason":"Document update conflict."}]' % written("a", A1)),
+        (201, 3, "[]"),
+        (201, 4, '[{"error":"bad_history","id":"c","reason":"A known revision has another parent."}]'),
+    ],
+    "revisions-of-documents-faults": bad(*["json", "number", "shape", "shape", "shape", "id", "revision"] * 2),
+    "difference-and-purge-of-two": [
+        (200, 0, '{"a":{"missing":["1-%s"]}}' % HASH),
+        (201, 1, "[]"),
+        (201, 2, purged(1, d=["2-" + HASH], e=[])),
+        (201, 3, purged(1, d=[], e=[])),
+    ],
+    "compact-with-any-body": [(202, 1, DONE), (202, 2, DONE), (200, 2, info(0, 0, 0))],
+}
+WORKED.update(("wire-edges/" + name, responses) for name, responses in AT_ENDS.items())
+
 LARGE_HEAD = ("431 Request Header Fields Too Large", 37, '{"error":"too_large","reason":"head"}')
 CHUNKS = ("411 Length Required", 68, '{"error":"length_required","reason":"Chunked bodies are not taken."}')
 LENGTH = ("400 Bad Request", 41, '{"error":"bad_request","reason":"length"}')
@@ -373,6 +489,11 @@ BROKEN = {
     "broken-input/length-no-digits": LENGTH,
     "broken-input/length-too-large": LARGE_BODY,
     "broken-input/length-past-any-number": LARGE_BODY,
+    "wire-edges/length-of-40-digits": LARGE_BODY,
+    "wire-edges/length-of-an-added-one": LENGTH,
+    "wire-edges/length-with-a-letter": LENGTH,
+    "wire-edges/length-of-a-slash": LENGTH,
+    "wire-edges/length-of-a-colon": LENGTH,
 }
 
 # lengths that were counted by hand
@@ -401,11 +522,16 @@ def transcripts():
         yield name, stored(name, ".expected") == wanted and once.run(stored(name, ".http"))[0] == wanted
 
 
+AT_ENDS_OF_FEEDS = {"feed-that-goes-on-from-none", "feed-of-one-that-was-put", "feed-of-one-of-three", "feed-of-one-from-now"}
+
+
 def feeds():
     """Feeds, each behind the writes of its documents."""
     three = b"".join(response(201, at + 1, written(id, A1)) for at, id in enumerate("abc"))
     deletion = three + response(200, 4, written("a", X2))
     first = [row(id, at + 1, A1) for at, id in enumerate("abc")]
+    one = response(201, 1, written("a", A1))
+    bulk = response(201, 1, "[%s]" % ",".join(written(id, A1) for id in "abc"))
     for name, wanted in [
         ("feed-of-none", fed(0, '{"last_seq":0,"pending":0}')),
         ("feed-limited", three + fed(3, first[0], first[1], '{"last_seq":2,"pending":1}')),
@@ -415,8 +541,12 @@ def feeds():
         ("feed-since", deletion + fed(4, ROW_A, '{"last_seq":4,"pending":0}')),
         ("feed-since-now", three + fed(3, '{"last_seq":3,"pending":0}')),
         ("feed-since-later", three + fed(3, '{"last_seq":9,"pending":0}')),
+        ("feed-that-goes-on-from-none", fed(0, '{"last_seq":0,"pending":0}')),
+        ("feed-of-one-that-was-put", one + fed(1, first[0], '{"last_seq":1,"pending":0}')),
+        ("feed-of-one-of-three", bulk + fed(1, first[1], '{"last_seq":2,"pending":1}')),
+        ("feed-of-one-from-now", one + fed(1, '{"last_seq":1,"pending":0}')),
     ]:
-        name = "queries/" + name
+        name = ("wire-edges/" if name in AT_ENDS_OF_FEEDS else "queries/") + name
         yield name, stored(name, ".expected") == wanted and once.run(stored(name, ".http"))[0] == wanted
 
 

@@ -14,7 +14,7 @@ HERE = os.path.dirname(os.path.abspath(__file__))
 TESTS = os.path.dirname(HERE)
 sys.path[:0] = [TESTS, HERE]
 
-from cases import conflicts, edges, examples, first_path, purges, queries  # noqa: E402
+from cases import conflicts, edges, examples, first_path, purges, queries, wire_edges  # noqa: E402
 from reference import history, once  # noqa: E402
 
 # the cases of each folder
@@ -25,6 +25,7 @@ FOLDERS = {
     "purges": purges.PURGES,
     "compactions": purges.COMPACTIONS,
     "broken-input": first_path.BROKEN_INPUT,
+    "wire-edges": wire_edges.CASES,
 }
 
 

@@ -12,8 +12,6 @@ mod lines;
 mod numbers;
 pub mod replay;
 mod replicate;
-#[cfg(test)]
-mod tests;
 
 pub use arguments::given_words;
 use clap::Command;

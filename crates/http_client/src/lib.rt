@@ -18,6 +18,3 @@ pub use front::ResponseSpans;
 pub use incoming::{Incoming, ResponseFault};
 pub use request::request_text;
 pub use target::{SEGMENT, changes_target, local_target, open_revs_target};
-
-#[cfg(test)]
-mod tests;

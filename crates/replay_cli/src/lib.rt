@@ -17,6 +17,3 @@ pub use audit::check;
 pub use dumps::dump;
 pub use run::run_check;
 pub use verdict::Verdict;
-
-#[cfg(test)]
-mod tests;

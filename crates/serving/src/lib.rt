@@ -13,6 +13,3 @@ pub use answering::{Service, write_response};
 pub use outcome::{Cause, Ended};
 pub use turns::serve;
 pub use window::Window;
-
-#[cfg(test)]
-mod tests;

@@ -1,0 +1,51 @@
+//! Tells what the libraries of texts, limits and connections make of each row of its input, a text for
+//! each. A row is words with `|` between, and the first says what is asked. At words that are no row the
+//! run ends, with status 1.
+#![tactic(auto)]
+
+mod histories;
+mod limits;
+mod peers;
+mod responses;
+mod scripts;
+mod services;
+mod words;
+
+use std::alloc::Global;
+use std::test::Fail;
+
+/// What a row of these words tells.
+fn told(alloc: Global, words: &[&str]) -> Result<String, Fail> {
+    match words {
+        ["line", line] => histories::line_told(alloc, line),
+        ["commands", lines @ ..] => histories::commands_told(alloc, lines),
+        ["reply", place, form, command, reply] => {
+            responses::reply_told(alloc, place, form, command, reply)
+        }
+        ["answer", query] => responses::answer_told(alloc, query),
+        ["response", place, name] => responses::response_told(alloc, place, name),
+        ["feed", place] => responses::feed_head_told(alloc, place),
+        ["feed_end", last_seq, pending] => responses::feed_last_told(alloc, last_seq, pending),
+        ["config", numbers @ ..] => limits::config_told(alloc, numbers),
+        ["seat", session, call] => limits::seat_told(alloc, session, call),
+        ["words", words @ ..] => words::words_told(alloc, words),
+        ["digest", text] => limits::digest_told(alloc, text),
+        ["serve", reading, writing, input] => services::served(alloc, reading, writing, input),
+        ["read", reading, input] => peers::responses_read(alloc, reading, input),
+        _ => Err("no such row".into()),
+    }
+}
+
+/// What a row tells.
+fn row_told(alloc: Global, row: &str) -> Result<String, Fail> {
+    let words: Vec<&str> = row.split('|').collect(alloc)?;
+    told(alloc, words.as_slice())
+}
+
+fn main(rt: HostRuntime) -> Result<(), Fail> {
+    for row in rt.lines(rt.alloc()) {
+        let text = row_told(rt.alloc(), row?.as_str())?;
+        println!(rt; "{text}")?;
+    }
+    Ok(())
+}
