@@ -1,4 +1,4 @@
-"""The shim in front of the C library, which counts requests for memory and refuses those that it is told to."""
+"""Shims in front of the C library. That of this folder counts allocations, and refuses those that it is asked to."""
 import contextlib
 import os
 import subprocess
@@ -8,9 +8,9 @@ SOURCE = os.path.join(os.path.dirname(os.path.abspath(__file__)), "refuse.c")
 
 
 @contextlib.contextmanager
-def built():
-    """Its path, for `LD_PRELOAD`, as long as it is there. It needs a C compiler."""
+def built(source=SOURCE):
+    """The path of a shim, for `LD_PRELOAD`, as long as it is there. It needs a C compiler."""
     with tempfile.TemporaryDirectory() as room:
-        path = os.path.join(room, "refuse.so")
-        subprocess.run(["cc", "-shared", "-fPIC", "-O1", "-o", path, SOURCE], check=True)
+        path = os.path.join(room, "shim.so")
+        subprocess.run(["cc", "-shared", "-fPIC", "-O1", "-o", path, source], check=True)
         yield path

@@ -1,0 +1,14 @@
+"""The crates of the repository, as crates.txt has them."""
+import os
+import re
+
+ROOT = os.path.join(os.path.dirname(os.path.abspath(__file__)), "..", "..")
+ASIDE = re.compile(r"_(tests|runs|bench)$|^(test|bench|probe|soak)_")  # what only tests, times or probes
+
+
+def stands_on():
+    """For each crate that a program or a proof stands on, those of this repository that its line names, lowest first."""
+    with open(os.path.join(ROOT, "crates.txt"), encoding="utf-8") as file:
+        rows = [line.split(":") for line in file.read().splitlines() if line and not line.startswith("#")]
+    named = {head.split()[0]: below.split() for head, below in rows}
+    return {name: [it for it in below if it in named] for name, below in named.items() if not ASIDE.search(name)}
