@@ -8,7 +8,7 @@ use Rattle.model.specs.Map.{Map, get, without, same_key, same_key-equal, same_ke
 use Rattle.model.specs.Revision.{Rev}
 use Rattle.model.specs.Tree.{Tree}
 use Rattle.model.specs.Command.{Id, names, Command, Seat, Entry}
-use Rattle.model.specs.PurgeLog.{PurgeLog, logged, purges_since, is_overrun, AreNumbered}
+use Rattle.model.specs.PurgeLog.{PurgeLog, logged, limited, purges_since, is_overrun, AreNumbered}
 use Rattle.model.specs.Database.{Database, Record, with_tree, stripped, compacted, act}
 use Rattle.model.specs.History.{replay}
 use Rattle.model.specs.Compaction.{Marks, marks_of, is_logged, is_updated, strip_at, Agrees}
@@ -16,7 +16,7 @@ use Rattle.model.proofs.ListLaws.{by_cases}
 use Rattle.model.proofs.MapLaws.{get-refine_all}
 use Rattle.model.proofs.LookupLaws.{get-put_same, get-put_other, get-without_other}
 use Rattle.model.proofs.StripLaws.{strip-strip}
-use Rattle.model.proofs.LogLaws.{AreNumbered-logged, since-logged, is_overrun-logged}
+use Rattle.model.proofs.LogLaws.{AreNumbered-logged, since-logged, is_overrun-logged, AreNumbered-limited, since-limited, is_overrun-limited}
 use Rattle.model.proofs.StepLaws.{KeptByEntries, purged, of_act, of_replay}
 
 -- e is a later database than d
@@ -133,6 +133,29 @@ Later-purged d id leaves None = λ h. Later-logged d id leaves h (without d.docs
     (λ same. inr (ap (same_key names id) (same_key-equal names q id same) ∙ same_key_itself names id))
     (λ other. inl (get-without_other d.docs id q other)))
 
+-- ---- another limit of the log may lose a purge above the mark, and then it is overrun
+
+Later-limited : (d : Database) (n : ℕ) → IsLater d (record d { purges = limited d.purges n })
+Later-limited d n h = record {
+  numbered = AreNumbered-limited d.purges n h;
+  update = omega arith;
+  purge = omega arith;
+  overrun = is_overrun-limited d.purges n h;
+  agrees = agrees;
+}
+  where
+    under : Database
+    under = record d { purges = limited d.purges n }
+
+    at : (copy : Id → Option Record) (m : Marks) (q : Id) → is_overrun under.purges m.purge ≡ false → AgreesAt copy m d q → AgreesAt copy m under q
+    at copy m q within (inl a) = inl a
+    at copy m q within (inr (inl a)) = inr (inl a)
+    at copy m q within (inr (inr a)) = inr (inr (ap (list_any (λ p. same_key names p.id q)) (since-limited d.purges n h m.purge within) ∙ a))
+
+    agrees : (copy : Id → Option Record) (m : Marks) → m.update ≤ d.update_seq → m.purge ≤ d.purges.purge_seq → Agrees copy m d → Agrees copy m under
+    agrees copy m u p (inl over) = inl (is_overrun-limited d.purges n h m.purge over)
+    agrees copy m u p (inr a) = by_cases (is_overrun under.purges m.purge) (λ over. inl over) (λ within. inr (λ q. at copy m q within (a q)))
+
 -- ---- a compaction strips what a copy has stripped
 
 strip_at-compacted : (d : Database) (id : Id) → strip_at (compacted d) id ≡ strip_at d id
@@ -155,6 +178,7 @@ later : KeptByEntries IsLater
 later = record {
   purges = record { writes = record { none = Later-none; more = Later-more; tree = Later-tree }; purge = Later-purged };
   aside = Later-aside;
+  limit = Later-limited;
   compact = Later-compacted;
 }
 

@@ -9,7 +9,7 @@ use Rattle.model.specs.Body.{Body, IsBody}
 use Rattle.model.specs.Revision.{Rev, IsRev}
 use Rattle.model.specs.Tree.{Tree, Leaf, IsTree, IsInRange, body_of, winner}
 use Rattle.model.specs.TreeChange.{cut, removed_leaves}
-use Rattle.model.specs.Command.{Id, IsId, names, Edit, Merge, Command, Edits, Merges, PutLocal, Purge, SetLimit, Compact, Refusal, Seat, Entry, IsEdit, IsMerge, NamesRevs, IsCommand}
+use Rattle.model.specs.Command.{Id, IsId, names, Edit, Merge, Command, Edits, Merges, PutLocal, Purge, SetLimit, SetPurgedLimit, Compact, Refusal, Seat, Entry, IsEdit, IsMerge, NamesRevs, IsCommand}
 use Rattle.model.specs.PurgeLog.{logged}
 use Rattle.model.specs.Edit.{Written}
 use Rattle.model.specs.Local.{Local, store_local}
@@ -23,7 +23,7 @@ use Rattle.model.proofs.LeafLaws.{winner-greatest}
 use Rattle.model.proofs.ReachLaws.{some_winner}
 use Rattle.model.proofs.StepLaws.{purged}
 use Rattle.model.proofs.LookupLaws.{put-cases, without-some, refined-some}
-use Rattle.model.proofs.LogLaws.{IsLog-logged}
+use Rattle.model.proofs.LogLaws.{IsLog-limited, IsLog-logged}
 use Rattle.model.proofs.NumberLaws.{IsNumbered-with_tree, IsNumbered-without, IsNumbered-same, IsNumbered-compacted}
 use Rattle.model.proofs.LocalLaws.{IsCounter-next}
 use Rattle.model.proofs.WrittenLaws.{IsSound, AreSound, IsSoundWrite, IsSoundWrite-edited, IsSoundWrite-merged}
@@ -140,6 +140,7 @@ IsDatabase-changed d (Merges ms) is h = IsDatabase-merges d ms is.1 h
 IsDatabase-changed d (PutLocal id named body) is h = IsDatabase-local d id named body is.0 is.2 h
 IsDatabase-changed d (Purge named) is h = IsDatabase-purges d (entries named) is.1 h
 IsDatabase-changed d (SetLimit n) is h = record { docs = h.docs; numbered = IsNumbered-same d _ refl (omega arith) h.numbered; locals = h.locals; log = h.log; revs_limit = is }
+IsDatabase-changed d (SetPurgedLimit n) is h = record { docs = h.docs; numbered = IsNumbered-same d _ refl (omega arith) h.numbered; locals = h.locals; log = IsLog-limited d.purges n is h.log; revs_limit = h.revs_limit }
 IsDatabase-changed d Compact is h = IsDatabase-compacted d h
 
 pub IsDatabase-act : (d : Database) (seat : Seat) (c : Command) → IsCommand c → IsDatabase d → IsDatabase (act d seat c)

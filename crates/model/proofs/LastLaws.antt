@@ -83,6 +83,7 @@ kept : KeptByEntries Lasts
 kept = record {
   purges = record { writes = record { none = Lasts-none; more = Lasts-more; tree = Lasts-tree }; purge = Lasts-purge };
   aside = λ d e docs purges seq. Lasts-docs d e docs (omega arith);
+  limit = λ d n. Lasts-docs d _ refl (omega arith);
   compact = Lasts-compact;
 }
 

@@ -5,14 +5,14 @@ use Rattle.std.specs.Cmp.{both_ways}
 use Rattle.std.proofs.Common.{inl, inr, sym, ap, subst, ◌∙◌, arith, ltb-true, lt-ltb}
 use Rattle.std.proofs.lemmas.Bool.{true≢false, or_from, not-true, ne_eqb, cases_lt, cond-false, ltb-false, le-ltb}
 use Rattle.std.proofs.lemmas.Bool.Decides.{nat_tests}
-use Rattle.std.proofs.lemmas.List.{length-drop, length_push}
+use Rattle.std.proofs.lemmas.List.{drop-drop, length-drop, length_push}
 use Rattle.std.proofs.lemmas.List.FromFn.{length-range_with_len, get_or-range_with_len}
 use Rattle.std.proofs.lemmas.List.Folds.{Any-from_list_any, list_any_at}
 use Rattle.std.proofs.lemmas.List.Elements.{All-push, All-drop, filter-append}
 use Rattle.model.specs.Lists.{last_few}
 use Rattle.model.specs.Revision.{Rev, IsRev}
-use Rattle.model.specs.Command.{Id, IsId}
-use Rattle.model.specs.PurgeLog.{PurgeInfo, PurgeLog, logged, has_number, purges_since, is_overrun, AreNumbered, IsPurgeInfo, IsLog}
+use Rattle.model.specs.Command.{Id, IsId, IsLimit}
+use Rattle.model.specs.PurgeLog.{PurgeInfo, PurgeLog, logged, limited, has_number, purges_since, is_overrun, AreNumbered, IsPurgeInfo, IsLog}
 
 -- ---- the numbers
 
@@ -121,3 +121,33 @@ module _ (l : PurgeLog) (id : Id) (leaves : List Rev) (h : AreNumbered l.purge_s
       let less = ltb-true mark (l.purge_seq - length l.infos) (sym (is_overrun-numbered l mark h) ∙ over) in
       let kept = length-drop (length (l.infos ++ info ∷ []) - l.limit) (l.infos ++ info ∷ []) in
       is_overrun-numbered (logged l id leaves) mark (AreNumbered-logged l id leaves h) ∙ lt-ltb mark _ (omega (arith, less, kept, length_push l.infos info))
+
+-- ---- another limit
+
+pub AreNumbered-limited : (l : PurgeLog) (n : ℕ) → AreNumbered l.purge_seq l.infos → AreNumbered l.purge_seq (limited l n).infos
+AreNumbered-limited l n h = AreNumbered-drop l.purge_seq (length l.infos - n) l.infos h
+
+pub IsLog-limited : (l : PurgeLog) (n : ℕ) → IsLimit n → IsLog l → IsLog (limited l n)
+IsLog-limited l n is h =
+    let kept = length-drop (length l.infos - n) l.infos in
+    record {
+      limit = is;
+      numbered = AreNumbered-limited l n h.numbered;
+      infos = All-drop IsPurgeInfo _ _ h.infos;
+      room = omega (arith, kept);
+      newest = λ some. omega (arith, kept, h.newest some, is.0);
+    }
+
+-- what is kept of the newest m is what is kept of all
+pub last_few-fewer : (n m : ℕ) (ps : List PurgeInfo) → n ≤ m → last_few n (last_few m ps) ≡ last_few n ps
+last_few-fewer n m ps le = drop-drop (length (last_few m ps) - n) (length ps - m) ps ∙ ap (λ k. drop k ps) (omega (arith, length-drop (length ps - m) ps, le))
+
+module _ (l : PurgeLog) (n : ℕ) (h : AreNumbered l.purge_seq l.infos) (mark : ℕ) where
+  pub since-limited : is_overrun (limited l n) mark ≡ false → purges_since (limited l n) mark ≡ purges_since l mark
+  since-limited within = since-all (limited l n) l.infos mark h refl within
+
+  pub is_overrun-limited : is_overrun l mark ≡ true → is_overrun (limited l n) mark ≡ true
+  is_overrun-limited over =
+      let less = ltb-true mark (l.purge_seq - length l.infos) (sym (is_overrun-numbered l mark h) ∙ over) in
+      let kept = length-drop (length l.infos - n) l.infos in
+      is_overrun-numbered (limited l n) mark (AreNumbered-limited l n h) ∙ lt-ltb mark _ (omega (arith, less, kept))

@@ -1,5 +1,5 @@
 -- Laws of maps: entries against look-ups, and the order of keys.
-use Rattle.std.specs.Prelude.{◌≡◌, ◌↔◌, Bool, true, false, cond, ◌&&◌, T, List, [], ◌∷◌, map, Option, Some, None, is_some, option_map, option_and_then, All, Contains, refl}
+use Rattle.std.specs.Prelude.{◌≡◌, ◌↔◌, true, false, cond, T, List, [], ◌∷◌, map, Option, Some, None, is_some, option_map, option_and_then, All, Contains, refl}
 use Rattle.std.specs.List.{list_any}
 use Rattle.std.specs.declared.cmp.Ordering.{Ordering}
 use Rattle.std.specs.declared.cmp.Ordering.TheVariants.{Less, Equal, Greater}

@@ -58,6 +58,7 @@ numbered = record {
     purge = IsNumbered-purged;
   };
   aside = λ d e docs purges update_seq h. IsNumbered-same d e docs (omega arith) h;
+  limit = λ d n h. IsNumbered-same d _ refl (omega arith) h;
   compact = IsNumbered-compacted;
 }
 
@@ -84,6 +85,7 @@ none_lower = record {
     purge = lower;
   };
   aside = λ d e docs purges update_seq. record { update = omega arith; purge = omega (arith, ap (λ l. l.purge_seq) purges) };
+  limit = λ d n. record { update = omega arith; purge = omega arith };
   compact = λ d. record { update = omega arith; purge = omega arith };
 }
   where

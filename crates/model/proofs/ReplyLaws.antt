@@ -7,7 +7,7 @@ use Rattle.std.proofs.lemmas.List.Elements.{All-nil, All-cons, All-head, All-tai
 use Rattle.model.specs.Map.{Map, entries, get}
 use Rattle.model.specs.Body.{Body}
 use Rattle.model.specs.Revision.{Rev, IsRev}
-use Rattle.model.specs.Command.{Id, names, Edit, Merge, Command, Edits, Merges, PutLocal, Purge, SetLimit, Compact, Refusal, Conflict, BadHistory, GenerationLimit, IsEdit, IsMerge, NamesRevs, IsCommand, FitsEdit, FitsMerge, FitsLocal, FitsReply, last_counter, last_purge}
+use Rattle.model.specs.Command.{Id, names, Edit, Merge, Command, Edits, Merges, PutLocal, Purge, SetLimit, SetPurgedLimit, Compact, Refusal, Conflict, BadHistory, GenerationLimit, IsEdit, IsMerge, NamesRevs, IsCommand, FitsEdit, FitsMerge, FitsLocal, FitsReply, last_counter, last_purge}
 use Rattle.model.specs.Edit.{Written, revision_written}
 use Rattle.model.specs.Local.{Local, next_counter, local_written}
 use Rattle.model.specs.Database.{Database, tree_at, edit_in, merge_in, after_edit, after_merge, edit_replies, merge_replies, removed_of, purge_reply, reply_to, changed_by, IsDatabase}
@@ -73,4 +73,5 @@ FitsReply-reply_to d (Merges ms) is h fits = FitsMerge-replies d ms is.1 h
 FitsReply-reply_to d (PutLocal id named body) is h fits = FitsLocal-written (get d.locals id) named body
 FitsReply-reply_to d (Purge named) is h fits = (fits, NamesRevs-reply d named is.1 h)
 FitsReply-reply_to d (SetLimit n) is h fits = tt
+FitsReply-reply_to d (SetPurgedLimit n) is h fits = tt
 FitsReply-reply_to d Compact is h fits = tt

@@ -5,7 +5,7 @@ use Rattle.std.proofs.lemmas.Bool.{cond-true, cond-false}
 use Rattle.model.specs.Map.{Map, get, entries, put, same_key, same_key-equal}
 use Rattle.model.specs.Revision.{Rev}
 use Rattle.model.specs.Tree.{Tree}
-use Rattle.model.specs.Command.{Id, numbers, Edit, Merge, Command, Edits, Merges, PutLocal, Purge, SetLimit, Compact, Seat}
+use Rattle.model.specs.Command.{Id, numbers, Edit, Merge, Command, Edits, Merges, PutLocal, Purge, SetLimit, SetPurgedLimit, Compact, Seat}
 use Rattle.model.specs.Database.{Database, after_edits, after_merges, after_purges, changed_by, act, calls_of}
 use Rattle.model.proofs.ListLaws.{by_cases}
 use Rattle.model.proofs.LookupLaws.{get-put_same, get-put_other}
@@ -67,6 +67,7 @@ module _ (d : Database) where
   same_calls (PutLocal id named body) = refl
   same_calls (Purge named) = ap (λ (e : Database). e.calls) (rest_of_purges (entries named))
   same_calls (SetLimit n) = refl
+  same_calls (SetPurgedLimit n) = refl
   same_calls Compact = refl
 
   -- each command is one call of its session, and none of another

@@ -1,11 +1,11 @@
 -- A relation of databases that each step keeps is kept by the commands: the steps are a document's new tree, a purge, and a compaction.
-use Rattle.std.specs.Prelude.{◌≡◌, true, false, cond, List, [], ◌∷◌, Option, Result, Ok, Err, option_map, option_and_then, unwrap_or, refl}
+use Rattle.std.specs.Prelude.{◌≡◌, ℕ, true, false, cond, List, [], ◌∷◌, Option, Result, Ok, Err, option_map, option_and_then, unwrap_or, refl}
 use Rattle.model.specs.Map.{entries}
 use Rattle.model.specs.Revision.{Rev}
 use Rattle.model.specs.Tree.{Tree}
 use Rattle.model.specs.TreeChange.{cut}
-use Rattle.model.specs.Command.{Id, Edit, Merge, Command, Edits, Merges, PutLocal, Purge, SetLimit, Compact, Refusal, Seat, Entry}
-use Rattle.model.specs.PurgeLog.{logged}
+use Rattle.model.specs.Command.{Id, Edit, Merge, Command, Edits, Merges, PutLocal, Purge, SetLimit, SetPurgedLimit, Compact, Refusal, Seat, Entry}
+use Rattle.model.specs.PurgeLog.{logged, limited}
 use Rattle.model.specs.Edit.{Written}
 use Rattle.model.specs.Database.{Database, tree_at, same_tree, with_tree, store, store_written, edit_in, merge_in, after_edit, after_merge, after_edits, after_merges, removed_of, leave, purge_removed, after_purge, after_purges, compacted, changed_by, act}
 use Rattle.model.specs.History.{replay}
@@ -56,6 +56,7 @@ pub record KeptByEntries (R : Database → Database → Type 0) : Type 0 where
   pub purges : KeptByPurges R
   -- local documents, the limit of revisions and the counts of calls may change
   pub aside : (d e : Database) → e.docs ≡ d.docs → e.purges ≡ d.purges → e.update_seq ≡ d.update_seq → R d e
+  pub limit : (d : Database) (n : ℕ) → R d (record d { purges = limited d.purges n })
   pub compact : (d : Database) → R d (compacted d)
 
 module _ (R : Database → Database → Type 0) (k : KeptByEntries R) where
@@ -66,6 +67,7 @@ module _ (R : Database → Database → Type 0) (k : KeptByEntries R) where
   of_command d (PutLocal id named body) = k.aside d _ refl refl refl
   of_command d (Purge named) = of_purges R k.purges d (entries named)
   of_command d (SetLimit n) = k.aside d _ refl refl refl
+  of_command d (SetPurgedLimit n) = k.limit d n
   of_command d Compact = k.compact d
 
   pub of_act : (d : Database) (seat : Seat) (c : Command) → R d (act d seat c)

@@ -5,10 +5,10 @@ use Rattle.model.specs.Map.{entries, get}
 use Rattle.model.specs.Revision.{Rev}
 use Rattle.model.specs.Tree.{winner}
 use Rattle.model.specs.Command.{Id}
-use Rattle.model.specs.Query.{Query, Get, OpenRevs, RevsDiff, Changes, AllDocuments, Info, GetLocal, RevsLimit, Counts, Answer, Found, Opened, Differences, Changed, Documents, Counted, FoundLocal, Limit}
+use Rattle.model.specs.Query.{Query, Get, OpenRevs, RevsDiff, Changes, AllDocuments, Info, GetLocal, RevsLimit, PurgedInfosLimit, Counts, Answer, Found, Opened, Differences, Changed, Documents, Counted, FoundLocal, Limit}
 use Rattle.model.specs.Database.{Database, Record}
 use Rattle.model.specs.Documents.{found, opened, differences}
-use Rattle.model.specs.Changes.{every_id, has_deleted_winner, changes_page}
+use Rattle.model.specs.Changes.{wanted_by, has_deleted_winner, changes_page}
 
 abbrev pub is_live : Record → Bool
 is_live r = not (has_deleted_winner r.tree)
@@ -35,8 +35,9 @@ unfoldable pub answer_to : Database → Query → Answer
 answer_to d (Get id r options) = Found (found d id r options)
 answer_to d (OpenRevs id asked options) = Opened (opened d id asked options)
 answer_to d (RevsDiff asked) = Differences (differences d asked)
-answer_to d (Changes since limit style) = Changed (changes_page every_id d since limit style)
+answer_to d (Changes since limit style ids) = Changed (changes_page (wanted_by ids) d since limit style)
 answer_to d AllDocuments = Documents (live_documents d)
 answer_to d Info = Counted (counts d)
 answer_to d (GetLocal id) = FoundLocal (option_map (λ l. (l.counter, l.body)) (get d.locals id))
 answer_to d RevsLimit = Limit d.revs_limit
+answer_to d PurgedInfosLimit = Limit d.purges.limit

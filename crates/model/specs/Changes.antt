@@ -1,9 +1,10 @@
 -- The changes feed: each document once, at its last update. All records are sorted and filtered, with no index.
 use Rattle.std.specs.Prelude.{◌≡◌, ℕ, ◌-◌, ◌==◌, ◌<◌, ◌≤◌, ◌&&◌, max, Bool, true, false, List, [], ◌∷◌, length, map, take, filter, nat_lt, Option, Some, None, option_map, unwrap_or, if◌then◌else◌}
-use Rattle.model.specs.Map.{Map, entries, get, put, from_list}
+use Rattle.std.specs.List.{list_any}
+use Rattle.model.specs.Map.{Map, entries, get, put, from_list, same_key}
 use Rattle.model.specs.Revision.{Rev}
 use Rattle.model.specs.Tree.{Tree, leaves, winner, revs_of}
-use Rattle.model.specs.Command.{Id, names, numbers}
+use Rattle.model.specs.Command.{Id, names, numbers, has_id_length}
 use Rattle.model.specs.Query.{Style, MainOnly, AllDocs, Row, ChangesPage}
 use Rattle.model.specs.Database.{Database, Record}
 
@@ -16,10 +17,20 @@ at_numbers d = from_list (map (λ e. (e.1.seq, e)) (entries d.docs))
 unfoldable pub by_seq : Database → List (ℕ × (Id × Record))
 by_seq d = entries (at_numbers d)
 
--- a feed may be of some documents alone
--- CouchDB: GET /{db}/_changes, "doc_ids"
+-- of all documents
 abbrev pub every_id : Id → Bool
 every_id id = true
+
+-- a feed may be of some documents alone
+-- CouchDB: POST /{db}/_changes, "doc_ids"
+abbrev pub wanted_by : Option (List Id) → Id → Bool
+wanted_by None = every_id
+wanted_by (Some ids) = λ id. list_any (same_key names id) ids
+
+-- the documents that a list of texts names: each once, in the byte order; a text that is no identity names none
+-- CouchDB: POST /{db}/_changes, "doc_ids"
+abbrev pub ids_named : List Id → List Id
+ids_named texts = map (λ e. e.0) (entries (from_list {O = names} (map (λ id. (id, id)) (filter has_id_length texts))))
 
 -- the wanted documents with a number above `since`, in rising order
 -- CouchDB: GET /{db}/_changes, "since"

@@ -1,5 +1,5 @@
 -- What a session can ask the database to do, and what it is answered.
-use Rattle.std.specs.Prelude.{◌≡◌, ◌<◌, ◌≤◌, ◌^◌, ℕ, Bool, List, ◌∷◌, length, All, ⊤, Option, IfSome, Result, Ok, Err, IsUtf8}
+use Rattle.std.specs.Prelude.{◌≡◌, ◌<◌, ◌≤◌, ◌^◌, ◌&&◌, ℕ, Bool, List, ◌∷◌, length, nat_lt, All, ⊤, Option, IfSome, Result, Ok, Err, IsUtf8}
 use Rattle.std.specs.Cmp.{nat_cmp_total}
 use Rattle.std.specs.Ordering.{nat_cmp}
 use Rattle.std.specs.Cmp.Lexicographic.{slice_cmp, nat_list_cmp_total}
@@ -22,6 +22,10 @@ pub record IsId (id : Id) : Type 0 where
   pub text : IsUtf8 id
   pub not_empty : 0 < length id
   pub short : length id ≤ 512
+
+-- a text of a length that an identity has
+abbrev pub has_id_length : Id → Bool
+has_id_length text = nat_lt 0 (length text) && nat_lt (length text) 513
 
 abbrev pub names : Order
 names = record { key = Id; cmp = slice_cmp nat_cmp; total = nat_list_cmp_total; exact = slice_cmp-IsAntisymmetric nat_cmp-IsAntisymmetric }
@@ -46,7 +50,7 @@ pub record Merge : Type 0 where
   pub deleted : Bool
   pub body : Body
 
--- CouchDB: POST /{db}/_bulk_docs, PUT /{db}/_local/{docid}, POST /{db}/_purge, PUT /{db}/_revs_limit, POST /{db}/_compact
+-- CouchDB: POST /{db}/_bulk_docs, PUT /{db}/_local/{docid}, POST /{db}/_purge, PUT /{db}/_revs_limit, PUT /{db}/_purged_infos_limit, POST /{db}/_compact
 pub data Command : Type 0 where
   Edits : List Edit → Command
   Merges : List Merge → Command
@@ -55,6 +59,7 @@ pub data Command : Type 0 where
   -- revisions of each document
   Purge : Map names (List Rev) → Command
   SetLimit : ℕ → Command
+  SetPurgedLimit : ℕ → Command
   Compact : Command
 
 -- CouchDB: POST /{db}/_bulk_docs; POST /{db}/_purge, "purge_seq", "purged"
@@ -89,7 +94,7 @@ pub record Entry : Type 0 where
 abbrev pub max_edits : ℕ
 max_edits = 1048576
 
--- the last revision number of a local document, and the largest number of revisions that is kept
+-- the last revision number of a local document, and the largest number of revisions, and of purges, that is kept
 abbrev pub last_counter : ℕ
 last_counter = 4294967295
 
@@ -126,6 +131,7 @@ IsCommand (Merges ms) = (length ms ≤ max_edits) × All IsMerge ms
 IsCommand (PutLocal id named body) = IsId id × IfSome named IsCounter × IfSome body IsBody
 IsCommand (Purge named) = (length (entries named) ≤ max_edits) × All NamesRevs (entries named)
 IsCommand (SetLimit n) = IsLimit n
+IsCommand (SetPurgedLimit n) = IsLimit n
 IsCommand Compact = ⊤
 
 abbrev pub FitsEdit : Result Rev Refusal → Type 0
@@ -151,6 +157,7 @@ FitsReply (Merges ms) (Wrote rs) = All FitsMerge rs
 FitsReply (PutLocal id named body) (WroteLocal r) = FitsLocal r
 FitsReply (Purge named) (Purged n removed) = (n ≤ last_purge) × All NamesRevs (entries removed)
 FitsReply (SetLimit n) Done = ⊤
+FitsReply (SetPurgedLimit n) Done = ⊤
 FitsReply Compact Done = ⊤
 FitsReply c r = ⊥
 

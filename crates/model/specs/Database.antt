@@ -8,8 +8,8 @@ use Rattle.model.specs.Body.{Body, IsBody, same_body}
 use Rattle.model.specs.Revision.{Rev, same_rev}
 use Rattle.model.specs.Tree.{Tree, Revision, IsTree, IsInRange}
 use Rattle.model.specs.TreeChange.{strip, cut, removed_leaves}
-use Rattle.model.specs.Command.{Id, IsId, names, numbers, Edit, Merge, Command, Edits, Merges, PutLocal, Purge, SetLimit, Compact, Refusal, Reply, Wrote, WroteLocal, Purged, Done, Seat, IsCounter, IsLimit}
-use Rattle.model.specs.PurgeLog.{PurgeLog, IsLog, empty_log, logged}
+use Rattle.model.specs.Command.{Id, IsId, names, numbers, Edit, Merge, Command, Edits, Merges, PutLocal, Purge, SetLimit, SetPurgedLimit, Compact, Refusal, Reply, Wrote, WroteLocal, Purged, Done, Seat, IsCounter, IsLimit}
+use Rattle.model.specs.PurgeLog.{PurgeLog, IsLog, empty_log, logged, limited}
 use Rattle.model.specs.Edit.{Written, edited, merged, revision_written}
 use Rattle.model.specs.Local.{Local, local_written, store_local}
 
@@ -161,6 +161,7 @@ reply_to d (Merges ms) = Wrote (merge_replies d ms)
 reply_to d (PutLocal id named body) = WroteLocal (put_local_reply d id named body)
 reply_to d (Purge named) = Purged (after_purges d (entries named)).purges.purge_seq (purge_reply d named)
 reply_to d (SetLimit n) = Done
+reply_to d (SetPurgedLimit n) = Done
 reply_to d Compact = Done
 
 unfoldable pub changed_by : Database → Command → Database
@@ -169,6 +170,7 @@ changed_by d (Merges ms) = after_merges d ms
 changed_by d (PutLocal id named body) = after_put_local d id named body
 changed_by d (Purge named) = after_purges d (entries named)
 changed_by d (SetLimit n) = record d { revs_limit = n }
+changed_by d (SetPurgedLimit n) = record d { purges = limited d.purges n }
 changed_by d Compact = compacted d
 
 abbrev pub calls_of : Database → ℕ → ℕ

@@ -3,7 +3,7 @@
 --     empty, get, put, without, from_list, entries      refine f m has f k x at each key k where m has x, and nothing where f gives none
 --     IsRising O ks      each key stands before all later ones, so each stands there once
 --     get-.., same_map      what `get` answers after each, and that two maps that answer alike are equal
-use Rattle.std.specs.Prelude.{◌≡◌, Bool, true, false, cond, ◌&&◌, T, List, [], ◌∷◌, map, AllPairs, Option, Some, None, option_and_then, if◌then◌else◌, refl}
+use Rattle.std.specs.Prelude.{◌≡◌, Bool, true, false, cond, T, List, [], ◌∷◌, map, AllPairs, Option, Some, None, option_and_then, if◌then◌else◌, refl}
 use Rattle.std.specs.declared.cmp.Ordering.{Ordering}
 use Rattle.std.specs.declared.cmp.Ordering.TheVariants.{Less, Equal, Greater}
 use Rattle.std.specs.Ordering.{is_eq, is_lt, eq_by_cmp}

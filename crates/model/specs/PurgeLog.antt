@@ -28,6 +28,11 @@ empty_log = record { purge_seq = 0; infos = []; limit = 1000 }
 abbrev pub logged : PurgeLog → Id → List Rev → PurgeLog
 logged l id leaves = record l { purge_seq = l.purge_seq + 1; infos = last_few l.limit (l.infos ++ record { seq = l.purge_seq + 1; id = id; leaves = leaves } ∷ []) }
 
+-- under another limit, the newest that it keeps; what is gone stays away
+-- CouchDB: PUT /{db}/_purged_infos_limit
+abbrev pub limited : PurgeLog → ℕ → PurgeLog
+limited l n = record l { infos = last_few n l.infos; limit = n }
+
 -- the purges above the mark
 abbrev pub purges_since : PurgeLog → ℕ → List PurgeInfo
 purges_since l mark = filter (λ p. nat_lt mark p.seq) l.infos

@@ -21,7 +21,7 @@ pub record Options : Type 0 where
   pub conflicts : Bool
   pub deleted_conflicts : Bool
 
--- CouchDB: GET /{db}/{docid}, POST /{db}/_revs_diff, GET /{db}/_changes, GET /{db}/_all_docs, GET /{db}, GET /{db}/_local/{docid}, GET /{db}/_revs_limit
+-- CouchDB: GET /{db}/{docid}, POST /{db}/_revs_diff, GET /{db}/_changes, GET /{db}/_all_docs, GET /{db}, GET /{db}/_local/{docid}, GET /{db}/_revs_limit, GET /{db}/_purged_infos_limit
 pub data Query : Type 0 where
   -- the winner, or the revision named
   Get : Id → Option Rev → Options → Query
@@ -29,12 +29,13 @@ pub data Query : Type 0 where
   OpenRevs : Id → Option (List Rev) → Options → Query
   -- revisions of each document
   RevsDiff : Map names (List Rev) → Query
-  -- the number since when, at most how many rows if there is a limit, and the style
-  Changes : ℕ → Option ℕ → Style → Query
+  -- the number since when, at most how many rows if there is a limit, the style, and the documents, where it is not of all
+  Changes : ℕ → Option ℕ → Style → Option (List Id) → Query
   AllDocuments : Query
   Info : Query
   GetLocal : Id → Query
   RevsLimit : Query
+  PurgedInfosLimit : Query
 
 -- a revision with its body; what was not asked for is None, and of conflicts the empty list
 -- CouchDB: GET /{db}/{docid}, "_revisions", "_revs_info", "_conflicts", "_deleted_conflicts"

@@ -6,9 +6,9 @@ ghost use Rattle.model.specs.Body.{Body};
 ghost use Rattle.model.specs.Revision.{Rev, IsRev, child, generation_after, last_generation};
 ghost use Rattle.model.specs.Tree.{Tree, Leaf, body_of, is_leaf, winner};
 ghost use Rattle.model.specs.TreeChange.{Contradicts, cut, graft, stem};
-ghost use Rattle.model.specs.Command.{Id, IsId, names, numbers, Edit, Merge, Command, PutLocal, Purge, SetLimit, Compact, Purged, Refusal, BadHistory, Missing, Deleted, GenerationLimit, Seat, Entry, IsCommand, FitsReply, last_purge};
-ghost use Rattle.model.specs.Query.{Options, Style, RevsDiff, AllDocuments, Info, GetLocal, RevsLimit};
-ghost use Rattle.model.specs.PurgeLog.{PurgeInfo, PurgeLog, AreNumbered, IsLog, has_number, is_overrun, logged, purges_since};
+ghost use Rattle.model.specs.Command.{Id, IsId, names, numbers, Edit, Merge, Command, PutLocal, Purge, SetLimit, SetPurgedLimit, Compact, Purged, Refusal, BadHistory, Missing, Deleted, GenerationLimit, Seat, Entry, IsCommand, IsLimit, FitsReply, last_purge};
+ghost use Rattle.model.specs.Query.{Options, Style, RevsDiff, AllDocuments, Info, GetLocal, RevsLimit, PurgedInfosLimit};
+ghost use Rattle.model.specs.PurgeLog.{PurgeInfo, PurgeLog, AreNumbered, IsLog, has_number, is_overrun, limited, logged, purges_since};
 ghost use Rattle.model.specs.Edit.{Written, parent_for, parent_path};
 ghost use Rattle.model.specs.Local.{store_local};
 ghost use Rattle.model.specs.Database.{Database, Record, IsDatabase, IsNumbered, act, after_edit, after_edits, after_merge, after_merges, after_purge, after_purges, after_put_local, calls_of, changed_by, edit_in, edit_replies, empty_database, merge_in, merge_replies, purge_reply, put_local_reply, removed_of, reply_to, tree_at, with_tree};
@@ -32,7 +32,8 @@ pub fn overrun_is_a_lost_purge()
         purges_since l mark ≡ filter (λ p. nat_lt mark p.seq) all }
 {}
 
-/// A log stays one with each purge, and has the newest of all purges, as many as its limit lets it keep.
+/// A log stays one with each purge, and has the newest of all purges, as many as its limit lets it keep. Under another
+/// limit it keeps of them the newest at once, and gets none back.
 pub fn log_keeps_the_newest()
     ensures kept { (l : PurgeLog) (id : Id) (leaves : List Rev) →
         IsId id → All IsRev leaves → 0 < length leaves → IsLog l → IsLog (logged l id leaves) }
@@ -40,6 +41,10 @@ pub fn log_keeps_the_newest()
         l.infos ≡ last_few l.limit all →
         (logged l id leaves).infos ≡ last_few l.limit
         (all ++ record { seq = l.purge_seq + 1; id = id; leaves = leaves } ∷ []) }
+    ensures limited { (l : PurgeLog) (n : ℕ) → IsLimit n → IsLog l → IsLog (limited l n) }
+    ensures cut { (l : PurgeLog) (all : List PurgeInfo) (n : ℕ) → l.infos ≡ last_few l.limit all → n ≤ l.limit →
+        (limited l n).infos ≡ last_few n all }
+    ensures none_back { (l : PurgeLog) (n : ℕ) → length l.infos ≤ n → (limited l n).infos ≡ l.infos }
 {}
 
 // ---- what a command does
@@ -147,10 +152,14 @@ pub fn writes_leave_the_rest()
         (after_purges d es).purges.limit ≡ d.purges.limit }
 {}
 
-/// Setting the limit of revisions and writing a local document touch no document and no number of updates or purges.
+/// Setting a limit and writing a local document touch no document and no number of updates or purges; the limit of the
+/// log cuts it.
 pub fn settings_touch_no_document()
     ensures limit { (d : Database) (seat : Seat) (n : ℕ) →
         act d seat (SetLimit n) ≡ record d { revs_limit = n; calls = (act d seat (SetLimit n)).calls } }
+    ensures purged_limit { (d : Database) (seat : Seat) (n : ℕ) →
+        act d seat (SetPurgedLimit n)
+        ≡ record d { purges = limited d.purges n; calls = (act d seat (SetPurgedLimit n)).calls } }
     ensures local { (d : Database) (seat : Seat) (id : Id) (named : Option ℕ) (body : Option Body) →
         act d seat (PutLocal id named body) ≡ record d {
           locals = store_local d.locals id body (put_local_reply d id named body);
@@ -232,7 +241,7 @@ pub fn compaction_is_the_strip()
         act d seat Compact ≡ record d { docs = (act d seat Compact).docs; calls = (act d seat Compact).calls } }
 {}
 
-/// Compaction is seen by no feed, by no query of differences, live documents, numbers, the limit or local documents, and
+/// Compaction is seen by no feed, by no query of differences, live documents, numbers, the limits or local documents, and
 /// by no query of a winner or of all leaves that doesn't ask which of their ancestors have a body.
 pub fn compaction_is_unseen()
     ensures changes { (wanted : Id → Bool) (d : Database) (seat : Seat) (since : ℕ) (limit : Option ℕ) (style : Style) →
@@ -242,6 +251,8 @@ pub fn compaction_is_unseen()
     ensures live { (d : Database) (seat : Seat) → answer_to (act d seat Compact) AllDocuments ≡ answer_to d AllDocuments }
     ensures info { (d : Database) (seat : Seat) → answer_to (act d seat Compact) Info ≡ answer_to d Info }
     ensures limit { (d : Database) (seat : Seat) → answer_to (act d seat Compact) RevsLimit ≡ answer_to d RevsLimit }
+    ensures purged_limit { (d : Database) (seat : Seat) →
+        answer_to (act d seat Compact) PurgedInfosLimit ≡ answer_to d PurgedInfosLimit }
     ensures local { (d : Database) (seat : Seat) (id : Id) →
         answer_to (act d seat Compact) (GetLocal id) ≡ answer_to d (GetLocal id) }
     ensures winner { (d : Database) (seat : Seat) (id : Id) (options : Options) → options.revs_info ≡ false →

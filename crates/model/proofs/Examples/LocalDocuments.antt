@@ -43,7 +43,7 @@ local_documents_take_no_update_number : after two_writes ≡ record empty_databa
 unfolding computed
 local_documents_take_no_update_number = refl
 
-local_documents_are_no_changes : answer two_writes (Changes 0 None MainOnly) ≡ Changed (record { last_seq = 0; pending = 0; rows = [] })
+local_documents_are_no_changes : answer two_writes (Changes 0 None MainOnly None) ≡ Changed (record { last_seq = 0; pending = 0; rows = [] })
 unfolding computed
 local_documents_are_no_changes = refl
 

@@ -1,11 +1,12 @@
 -- Purges: the leaves that go, the numbers taken, and the log.
-use Rattle.std.specs.Prelude.{◌≡◌, ℕ, zero, suc, true, false, List, [], ◌∷◌, codes, Option, Some, None, option_map, refl}
+use Rattle.std.specs.Prelude.{◌≡◌, ℕ, zero, suc, true, false, List, [], ◌∷◌, ◌++◌, codes, Option, Some, None, option_map, refl}
 use Rattle.model.specs.Lists.{first_of}
 use Rattle.model.specs.Map.{empty, put, from_list}
-use Rattle.model.specs.Command.{Id, Command, Merges, Purge, Purged}
-use Rattle.model.specs.PurgeLog.{PurgeLog, empty_log, logged, is_overrun}
+use Rattle.model.specs.Command.{Id, Command, Merges, Purge, SetPurgedLimit, Purged, Done}
+use Rattle.model.specs.Query.{PurgedInfosLimit, Limit}
+use Rattle.model.specs.PurgeLog.{PurgeInfo, PurgeLog, empty_log, logged, is_overrun}
 use Rattle.model.specs.Database.{reply_to, changed_by}
-use Rattle.model.proofs.Examples.Fixtures.{computed, after, braces, rev, put_new, path, of, with_body, without_body, record_of, d, x, y, a1}
+use Rattle.model.proofs.Examples.Fixtures.{computed, after, answer, braces, rev, put_new, path, of, with_body, without_body, record_of, d, x, y, a1}
 
 -- ---- one of two leaves
 
@@ -71,6 +72,38 @@ a_lost_purge_above_the_mark_is_an_overrun = refl
 a_lost_purge_at_the_mark_is_none : is_overrun short 1 ≡ false
 unfolding computed
 a_lost_purge_at_the_mark_is_none = refl
+
+-- ---- a log under another limit
+
+abbrev purged_thrice : List Command
+purged_thrice = put_new x ∷ put_new y ∷ put_new d ∷ Purge (of x (a1 ∷ [])) ∷ Purge (of y (a1 ∷ [])) ∷ Purge (of d (a1 ∷ [])) ∷ []
+
+abbrev info_of : ℕ → Id → PurgeInfo
+info_of seq id = record { seq = seq; id = id; leaves = a1 ∷ [] }
+
+a_lower_limit_cuts_the_log_at_once_to_the_newest : changed_by (after purged_thrice) (SetPurgedLimit 2) ≡ record (after purged_thrice) { purges = record { purge_seq = 3; infos = info_of 2 y ∷ info_of 3 d ∷ []; limit = 2 } }
+unfolding computed
+a_lower_limit_cuts_the_log_at_once_to_the_newest = refl
+
+it_is_done : reply_to (after purged_thrice) (SetPurgedLimit 2) ≡ Done
+unfolding computed
+it_is_done = refl
+
+the_limit_is_told : answer (purged_thrice ++ SetPurgedLimit 2 ∷ []) PurgedInfosLimit ≡ Limit 2
+unfolding computed
+the_limit_is_told = refl
+
+a_higher_one_brings_nothing_back : (after (purged_thrice ++ SetPurgedLimit 1 ∷ SetPurgedLimit 9 ∷ [])).purges ≡ record { purge_seq = 3; infos = info_of 3 d ∷ []; limit = 9 }
+unfolding computed
+a_higher_one_brings_nothing_back = refl
+
+what_is_cut_above_the_mark_is_an_overrun : is_overrun (after (purged_thrice ++ SetPurgedLimit 1 ∷ [])).purges 1 ≡ true
+unfolding computed
+what_is_cut_above_the_mark_is_an_overrun = refl
+
+what_is_cut_at_the_mark_is_none : is_overrun (after (purged_thrice ++ SetPurgedLimit 1 ∷ [])).purges 2 ≡ false
+unfolding computed
+what_is_cut_at_the_mark_is_none = refl
 
 -- ---- a log of a thousand purges
 

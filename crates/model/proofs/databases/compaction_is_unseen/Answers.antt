@@ -28,6 +28,10 @@ pub returns-clause-limit : goal.returns-clause-limit
 unfolding act changed_by answer_to
 returns-clause-limit c d seat = refl
 
+pub returns-clause-purged_limit : goal.returns-clause-purged_limit
+unfolding act changed_by answer_to
+returns-clause-purged_limit c d seat = refl
+
 pub returns-clause-local : goal.returns-clause-local
 unfolding act changed_by answer_to
 returns-clause-local c d seat id = refl

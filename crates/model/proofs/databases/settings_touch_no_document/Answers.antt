@@ -6,6 +6,10 @@ pub returns-clause-limit : goal.returns-clause-limit
 unfolding act changed_by
 returns-clause-limit c d seat n = refl
 
+pub returns-clause-purged_limit : goal.returns-clause-purged_limit
+unfolding act changed_by
+returns-clause-purged_limit c d seat n = refl
+
 pub returns-clause-local : goal.returns-clause-local
 unfolding act changed_by
 returns-clause-local c d seat id named body = refl
