@@ -38,6 +38,8 @@ pub enum CommandKind {
     Purge(NamedRevisions),
     /// How many revisions are kept above a leaf, itself among them.
     SetLimit(u32),
+    /// How many purges the log keeps.
+    SetPurgedLimit(u32),
     /// Each record stripped.
     Compact,
 }
@@ -152,6 +154,19 @@ impl Command {
         })
     }
 
+    /// The limit of the purge log, from 1.
+    pub fn set_purged_limit(limit: u32) -> Option<Command>
+        ensures in_range { IsSome result ↔ model.IsLimit limit }
+        ensures command { IfSome result (λ command. command ≡ model.SetPurgedLimit limit) }
+    {
+        if limit == 0 {
+            return None;
+        }
+        Some(Command {
+            kind: CommandKind::SetPurgedLimit(limit),
+        })
+    }
+
     /// What is asked, by its kind.
     pub fn kind(&self) -> &CommandKind
         ensures kind { command_of result.now ≡ self.now }
@@ -187,6 +202,7 @@ impl Copied for Command {
             },
             CommandKind::Purge(named) => CommandKind::Purge(named.copy(alloc)?),
             CommandKind::SetLimit(limit) => CommandKind::SetLimit(*limit),
+            CommandKind::SetPurgedLimit(limit) => CommandKind::SetPurgedLimit(*limit),
             CommandKind::Compact => CommandKind::Compact,
         };
         Ok(Command { kind })
@@ -224,6 +240,7 @@ fn is_same_kind(one: &CommandKind, other: &CommandKind) -> bool
         }
         (CommandKind::Purge(one), CommandKind::Purge(other)) => one.is_same(other),
         (CommandKind::SetLimit(one), CommandKind::SetLimit(other)) => one == other,
+        (CommandKind::SetPurgedLimit(one), CommandKind::SetPurgedLimit(other)) => one == other,
         (CommandKind::Compact, CommandKind::Compact) => true,
         _ => false,
     }

@@ -1,7 +1,5 @@
 -- The log of purges as a list of entries by their numbers.
-use Rattle.std.specs.Prelude.{◌-◌, ◌<◌, ◌≤◌, ℕ, List, length, map, nat_lt, if◌then◌else◌}
-use Rattle.std.specs.Ordering.{nat_cmp}
-use Rattle.cow_index.specs.Entries.{without}
+use Rattle.std.specs.Prelude.{◌<◌, ◌≤◌, ℕ, List, length, map}
 use Rattle.model.specs.Revision.{Rev}
 use Rattle.model.specs.Command.{Id}
 use Rattle.model.specs.PurgeLog.{PurgeInfo, PurgeLog, AreNumbered}
@@ -24,8 +22,3 @@ pub record IsKept (n : ℕ) (es : List (ℕ × PurgedEntry)) (limit : ℕ) : Typ
   pub numbered : AreNumbered n (infos_of es)
   pub room : length es ≤ limit
   pub not_zero : 0 < limit
-
--- without the oldest, where there are more than the limit
--- CouchDB: GET /{db}/_purged_infos_limit
-abbrev pub newest_of : ℕ → ℕ → List (ℕ × PurgedEntry) → List (ℕ × PurgedEntry)
-newest_of n limit es = if nat_lt limit (length es) then without nat_cmp (n - limit) es else es

@@ -3,6 +3,7 @@
 
 mod cuts;
 mod log;
+mod newest;
 mod purged;
 
 pub use cuts::cut_document;

@@ -1,13 +1,10 @@
 //! The log of purges.
-ghost use Rattle.std.specs.Prelude.{◌≡◌, ◌+◌, ◌^◌, ◌<◌, ℕ, Some, None, length, map, IfOk, option_map, if◌then◌else◌};
-ghost use Rattle.std.specs.Ordering.{nat_cmp};
-ghost use Rattle.std.specs.FinMap.Entries.{put};
+ghost use Rattle.std.specs.Prelude.{◌≡◌, ◌^◌, ◌<◌, ℕ, Some, None, length, map, IfOk, option_map, if◌then◌else◌};
 ghost use Rattle.std.specs.Map.Iter.{ShowsInOrder, deref_pair};
-ghost use Rattle.model.specs.Command.{Id};
-ghost use Rattle.model.specs.Revision.{Rev};
-ghost use Rattle.model.specs.PurgeLog.{empty_log, logged, is_overrun, purges_since};
-ghost use Rattle.purge.specs.Log.{PurgedEntry, info_of, newest_of};
+ghost use Rattle.model.specs.PurgeLog.{empty_log, limited, logged, is_overrun, purges_since};
+ghost use Rattle.purge.specs.Log.{PurgedEntry, info_of};
 
+use crate::newest::{newest_beside, without_older};
 use crate::purged::Purged;
 use cow_index::{CowMap, Range};
 use document_id::DocId;
@@ -83,6 +80,13 @@ impl PurgeLog {
         self.purge_seq
     }
 
+    /// How many purges the log keeps, from 1.
+    pub fn limit(&self) -> u32
+        ensures { result ≡ self.now.limit }
+    {
+        self.limit
+    }
+
     /// The log with one more purge, at the next number. Past the limit the oldest goes.
     pub fn add(&self, id: &DocId, leaves: Vec<RevId>) -> Result<PurgeLog, AllocError>
         requires room { self.now.purge_seq < u64.MAX }
@@ -92,12 +96,29 @@ impl PurgeLog {
         let all = self
             .infos
             .insert(purge_seq, Purged::new(id.share()?, leaves))?;
-        let infos = newest(all, purge_seq, self.limit)?;
+        let infos = without_older(all, purge_seq, self.limit)?;
         Ok(PurgeLog {
             alloc: self.alloc,
             infos,
             purge_seq,
             limit: self.limit,
+        })
+    }
+
+    /// The log under another limit: it keeps the newest of its purges at once, as many as the limit
+    /// lets it keep, and gets none back.
+    ///
+    /// Takes time and memory for as many purges as go, or as stay, whichever are fewer.
+    pub fn set_limit(&self, limit: u32) -> Result<PurgeLog, AllocError>
+        requires some { 0 < limit }
+        ensures limited { IfOk result (λ l. l ≡ limited self.now limit) }
+    {
+        let infos = newest_beside(self.alloc, &self.infos, self.purge_seq, limit)?;
+        Ok(PurgeLog {
+            alloc: self.alloc,
+            infos,
+            purge_seq: self.purge_seq,
+            limit,
         })
     }
 
@@ -141,19 +162,4 @@ impl PurgeLog {
         }
         Ok(Some(ids))
     }
-}
-
-/// The purges without the oldest, where there are more than the limit.
-fn newest(
-    all: CowMap<u64, Purged>,
-    purge_seq: u64,
-    limit: u32,
-) -> Result<CowMap<u64, Purged>, AllocError>
-    requires { length all.entries < purge_seq + 1 }
-    ensures { IfOk result (λ m. m.entries ≡ newest_of purge_seq limit all.entries) }
-{
-    if all.len() <= limit as u64 {
-        return Ok(all);
-    }
-    all.into_without(&(purge_seq - limit as u64))
 }

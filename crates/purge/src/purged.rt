@@ -1,8 +1,9 @@
 //! A purge as it is kept.
-ghost use Rattle.std.specs.Prelude.{◌≡◌};
+ghost use Rattle.std.specs.Prelude.{◌≡◌, IfOk};
 
 use document_id::DocId;
 use revision_id::RevId;
+use std::alloc::{AllocError, Global};
 use std::marker::Model;
 
 /// A document that was purged, and the leaves that it lost.
@@ -32,6 +33,14 @@ impl Purged {
         ensures { result ≡ (id, leaves.items) }
     {
         Purged { id, leaves }
+    }
+
+    /// The same purge, in memory of its own.
+    pub(crate) fn copy(&self, alloc: Global) -> Result<Purged, AllocError>
+        ensures { IfOk result (λ p. p ≡ self.now) }
+    {
+        let leaves = Vec::from_slice(alloc, &self.leaves)?;
+        Ok(Purged::new(self.id.share()?, leaves))
     }
 
     /// The id that the document had.

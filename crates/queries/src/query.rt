@@ -4,7 +4,7 @@ ghost use Rattle.queries.specs.Query.{query_of};
 
 use crate::options::Options;
 use commands::NamedRevisions;
-use document_id::DocId;
+use document_id::{DocId, DocIds};
 use model::Style;
 use revision_id::RevId;
 use std::marker::Model;
@@ -26,16 +26,18 @@ pub enum QueryKind {
     },
     /// Which of these revisions are not known.
     RevsDiff(NamedRevisions),
-    /// The changes after a number, at most `limit` rows where there is a limit.
+    /// The changes after a number, at most `limit` rows where there is a limit, of some documents where a set is given.
     Changes {
         since: u64,
         limit: Option<u64>,
         style: Style,
+        ids: Option<DocIds>,
     },
     AllDocuments,
     Info,
     GetLocal(DocId),
     RevsLimit,
+    PurgedInfosLimit,
 }
 
 /// What is asked of the database as it stands.
