@@ -6,8 +6,8 @@ ghost use Rattle.model.specs.Answers.{answer_to};
 use crate::difference::revs_diff;
 use crate::found::get;
 use crate::opened::open_revs;
-use crate::page::changes;
-use crate::reads::{all_docs, info, local_get, revs_limit};
+use crate::page::wanted_changes;
+use crate::reads::{all_docs, info, local_get, purged_infos_limit, revs_limit};
 use queries::{Answer, AnswerKind, Query, QueryKind};
 use revision_id::RevId;
 use snapshots::Version;
@@ -34,8 +34,9 @@ pub fn answer(alloc: Global, version: &Version, query: &Query) -> Result<Answer,
             since,
             limit,
             style,
+            ids,
         } => {
-            let page = changes(alloc, version, *since, *limit, *style)?;
+            let page = wanted_changes(alloc, version, *since, *limit, *style, ids)?;
             Ok(Answer::new(AnswerKind::Changed(page)))
         }
         QueryKind::AllDocuments => {
@@ -48,6 +49,9 @@ pub fn answer(alloc: Global, version: &Version, query: &Query) -> Result<Answer,
             Ok(Answer::new(AnswerKind::FoundLocal(local)))
         }
         QueryKind::RevsLimit => Ok(Answer::new(AnswerKind::Limit(revs_limit(version)))),
+        QueryKind::PurgedInfosLimit => {
+            Ok(Answer::new(AnswerKind::Limit(purged_infos_limit(version))))
+        }
     }
 }
 

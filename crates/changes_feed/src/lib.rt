@@ -17,5 +17,5 @@ pub use difference::revs_diff;
 pub use follower::Follower;
 pub use found::get;
 pub use opened::open_revs;
-pub use page::changes;
-pub use reads::{all_docs, info, local_get, revs_limit};
+pub use page::{changes, changes_among, count_wanted};
+pub use reads::{all_docs, info, local_get, purged_infos_limit, revs_limit};

@@ -61,3 +61,10 @@ pub fn revs_limit(version: &Version) -> u32
 {
     version.database().revs_limit()
 }
+
+/// How many purges the log keeps.
+pub fn purged_infos_limit(version: &Version) -> u32
+    ensures limit { result ≡ (now version.now).purges.limit }
+{
+    version.database().purges().limit()
+}

@@ -2,6 +2,7 @@
 ghost use Rattle.std.specs.Prelude.{◌≡◌, IfOk, option_map};
 
 use commands::Copied;
+use document_id::DocIds;
 use queries::{Query, QueryKind};
 use revision_id::RevId;
 use std::alloc::{AllocError, Global};
@@ -26,17 +27,30 @@ pub(crate) fn copy_query(alloc: Global, query: &Query) -> Result<Query, AllocErr
             since,
             limit,
             style,
+            ids,
         } => QueryKind::Changes {
             since: *since,
             limit: *limit,
             style: *style,
+            ids: copy_ids(ids)?,
         },
         QueryKind::AllDocuments => QueryKind::AllDocuments,
         QueryKind::Info => QueryKind::Info,
         QueryKind::GetLocal(id) => QueryKind::GetLocal(id.share()?),
         QueryKind::RevsLimit => QueryKind::RevsLimit,
+        QueryKind::PurgedInfosLimit => QueryKind::PurgedInfosLimit,
     };
     Ok(Query::new(kind))
+}
+
+/// The same documents, if some are named.
+fn copy_ids(ids: &Option<DocIds>) -> Result<Option<DocIds>, AllocError>
+    ensures same { IfOk result (λ copy. copy ≡ ids.now) }
+{
+    match ids {
+        Some(ids) => Ok(Some(ids.share()?)),
+        None => Ok(None),
+    }
 }
 
 /// The same revisions, if any are listed.

@@ -7,7 +7,7 @@ use Rattle.std.specs.FinMap.Entries as listed
 use Rattle.model.specs.Map.{Map, empty, get, put, from_list, entries, same_key}
 use Rattle.model.specs.Local.{Local}
 use Rattle.model.specs.PurgeLog.{PurgeLog}
-use Rattle.model.specs.Command.{names, numbers, Command, Edits, Merges, PutLocal, Purge, SetLimit, Compact, Entry}
+use Rattle.model.specs.Command.{names, numbers, Command, Edits, Merges, PutLocal, Purge, SetLimit, SetPurgedLimit, Compact, Entry}
 use Rattle.model.specs.Database.{Database, calls_of, changed_by, counted}
 use Rattle.model.specs.History.{Chronicle, now}
 use Rattle.model.proofs.RestLaws.{rest_of_edits, rest_of_merges, rest_of_purges}
@@ -23,6 +23,7 @@ calls-changed d (Merges ms) = ap (λ (e : Database). e.calls) (rest_of_merges d 
 calls-changed d (PutLocal id named body) = refl
 calls-changed d (Purge named) = ap (λ (e : Database). e.calls) (rest_of_purges d (entries named))
 calls-changed d (SetLimit n) = refl
+calls-changed d (SetPurgedLimit n) = refl
 calls-changed d Compact = refl
 
 pub calls_of-changed : (d : Database) (c : Command) (s : ℕ) → calls_of (changed_by d c) s ≡ calls_of d s

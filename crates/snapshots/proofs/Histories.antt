@@ -7,7 +7,7 @@ use Rattle.model.specs.Revision.{Rev}
 use Rattle.model.specs.Tree.{Tree}
 use Rattle.model.specs.TreeChange.{cut}
 use Rattle.model.specs.PurgeLog.{logged}
-use Rattle.model.specs.Command.{Id, Command, Edits, Merges, PutLocal, Purge, SetLimit, Compact, Reply, Done, Seat, Entry, IsCommand, IsSeat, IsEntry, max_edits}
+use Rattle.model.specs.Command.{Id, Command, Edits, Merges, PutLocal, Purge, SetLimit, SetPurgedLimit, Compact, Reply, Done, Seat, Entry, IsCommand, IsSeat, IsEntry, max_edits}
 use Rattle.model.specs.Database.{Database, tree_at, leave, removed_of, purge_removed, after_purge, after_purges, changed_by, reply_to, act, calls_of, IsDatabase}
 use Rattle.model.specs.History.{Chronicle, now, extended, entry_of}
 use Rattle.model.proofs.HistoryLaws.{replay-push, IsLegal-push, IsNext-entry_of}
@@ -37,6 +37,7 @@ few-changed_by d (Merges ms) is = omega (arith, few-after_merges d ms, is.0)
 few-changed_by d (PutLocal id named body) is = omega arith
 few-changed_by d (Purge named) is = omega (arith, few-after_purges d (entries named), is.0)
 few-changed_by d (SetLimit n) is = omega arith
+few-changed_by d (SetPurgedLimit n) is = omega arith
 few-changed_by d Compact is = omega arith
 
 few-act : (d : Database) (seat : Seat) (c : Command) → IsCommand c → (act d seat c).update_seq ≤ d.update_seq + max_edits
@@ -71,6 +72,7 @@ logged-changed_by d (Merges ms) is = omega (arith, ap (λ (e : Database). e.purg
 logged-changed_by d (PutLocal id named body) is = omega arith
 logged-changed_by d (Purge named) is = omega (arith, logged-after_purges d (entries named), is.0)
 logged-changed_by d (SetLimit n) is = omega arith
+logged-changed_by d (SetPurgedLimit n) is = omega arith
 logged-changed_by d Compact is = omega arith
 
 logged-act : (d : Database) (seat : Seat) (c : Command) → IsCommand c → (act d seat c).purges.purge_seq ≤ d.purges.purge_seq + max_edits

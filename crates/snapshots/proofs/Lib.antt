@@ -12,3 +12,4 @@ pub mod Shown
 pub mod TouchedCount
 pub mod Crossing
 pub mod Remerged
+pub mod Among

@@ -1,3 +1,4 @@
+pub mod Among
 pub mod Codes
 pub mod Listing
 pub mod Database

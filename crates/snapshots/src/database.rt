@@ -146,6 +146,10 @@ impl Database {
                 self.set_limit(*limit);
                 Ok(Reply::new(ReplyKind::Done))
             }
+            CommandKind::SetPurgedLimit(limit) => {
+                self.set_purged_limit(*limit)?;
+                Ok(Reply::new(ReplyKind::Done))
+            }
         }
     }
 

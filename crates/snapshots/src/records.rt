@@ -12,6 +12,7 @@ ghost use Rattle.model.specs.Changes.{every_id, changed_since as changed_above};
 ghost use Rattle.model.specs.Answers.{counts};
 ghost use Rattle.snapshots.specs.Listing.{database_of};
 
+mod among;
 mod writes;
 
 use crate::record::Record;

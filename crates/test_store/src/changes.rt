@@ -45,6 +45,9 @@ pub(crate) fn command(alloc: Global, words: &[&str]) -> Result<Command, Fail> {
         ["put_local", id, named, text] => local(alloc, id, named, Some(body(alloc, text)?)),
         ["delete_local", id, named] => local(alloc, id, named, None),
         ["set_limit", limit] => Ok(Command::set_limit(limit.parse::<u32>()?).ok_or("from 1")?),
+        ["set_purged_limit", limit] => {
+            Ok(Command::set_purged_limit(limit.parse::<u32>()?).ok_or("from 1")?)
+        }
         ["purge", documents @ ..] => purge(asked(alloc, documents)?),
         ["compact"] => Ok(Command::compact()),
         _ => Err("a command".into()),

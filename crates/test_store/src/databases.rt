@@ -2,7 +2,7 @@
 
 use crate::answers::push_rows;
 use crate::changes::{act, command};
-use crate::questions::{push_asked, style};
+use crate::questions::{ids_named, push_asked, style};
 use crate::reads::push_read;
 use crate::replies::push_last_reply;
 use changes_feed::Follower;
@@ -50,6 +50,10 @@ impl Store {
             ["now", read @ ..] => push_read(text, &self.now, read),
             ["before", read @ ..] => push_read(text, &self.before, read),
             ["follow", since, style] => self.follow(since, style, text),
+            ["follow_some", texts, since, style] => {
+                self.follow_some(alloc, texts, since, style, text)
+            }
+            ["pending"] => self.pending(text),
             ["next", limit] => self.next(alloc, limit.parse::<u64>()?, text),
             ["by", session, words @ ..] => self.write(alloc, session.parse::<u16>()?, words, text),
             words => self.write(alloc, 0, words, text),
@@ -75,6 +79,27 @@ impl Store {
     fn follow(&mut self, since: &str, word: &str, text: &mut String) -> Result<(), Fail> {
         self.follower = Follower::new(since.parse::<u64>()?, style(word)?);
         write!(text, "at {}", self.follower.cursor())?;
+        Ok(())
+    }
+
+    /// Begins to follow the changes above a number of the documents that these texts name.
+    fn follow_some(
+        &mut self,
+        alloc: Global,
+        texts: &str,
+        since: &str,
+        word: &str,
+        text: &mut String,
+    ) -> Result<(), Fail> {
+        let ids = ids_named(alloc, texts)?;
+        self.follower = Follower::filtered(since.parse::<u64>()?, style(word)?, ids);
+        write!(text, "at {}", self.follower.cursor())?;
+        Ok(())
+    }
+
+    /// How many rows are above the follower's cursor.
+    fn pending(&self, text: &mut String) -> Result<(), Fail> {
+        write!(text, "{}", self.follower.pending(&self.now))?;
         Ok(())
     }
 

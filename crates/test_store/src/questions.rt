@@ -6,9 +6,10 @@ use crate::answers::{
 };
 use crate::changes::{asked, listed, revision};
 use changes_feed::{
-    all_docs, answer, changes, get, info, local_get, open_revs, revs_diff, revs_limit,
+    all_docs, answer, changes, changes_among, get, info, local_get, open_revs, purged_infos_limit,
+    revs_diff, revs_limit,
 };
-use document_id::DocId;
+use document_id::{DocId, DocIds};
 use model::Style;
 use queries::{Options, Query, QueryKind};
 use snapshots::Version;
@@ -34,22 +35,45 @@ pub(crate) fn query(alloc: Global, words: &[&str]) -> Result<QueryKind, Fail> {
             options: options_of(options),
         }),
         ["revs_diff", documents @ ..] => Ok(QueryKind::RevsDiff(asked(alloc, documents)?)),
-        ["changes", since, "-", word] => Ok(QueryKind::Changes {
-            since: since.parse::<u64>()?,
-            limit: None,
-            style: style(word)?,
-        }),
-        ["changes", since, limit, word] => Ok(QueryKind::Changes {
-            since: since.parse::<u64>()?,
-            limit: Some(limit.parse::<u64>()?),
-            style: style(word)?,
-        }),
+        ["changes", since, limit, word] => changes_asked(since, limit, word, None),
+        ["changes_of", texts, since, limit, word] => {
+            changes_asked(since, limit, word, Some(ids_named(alloc, texts)?))
+        }
         ["all_docs"] => Ok(QueryKind::AllDocuments),
         ["info"] => Ok(QueryKind::Info),
         ["get_local", id] => Ok(QueryKind::GetLocal(DocId::new(alloc, id)?)),
         ["revs_limit"] => Ok(QueryKind::RevsLimit),
+        ["purged_infos_limit"] => Ok(QueryKind::PurgedInfosLimit),
         _ => Err("a query".into()),
     }
+}
+
+fn changes_asked(
+    since: &str,
+    limit: &str,
+    word: &str,
+    ids: Option<DocIds>,
+) -> Result<QueryKind, Fail> {
+    Ok(QueryKind::Changes {
+        since: since.parse::<u64>()?,
+        limit: row_limit(limit)?,
+        style: style(word)?,
+        ids,
+    })
+}
+
+/// The most rows, or no limit for `-`.
+fn row_limit(word: &str) -> Result<Option<u64>, Fail> {
+    if word == "-" {
+        return Ok(None);
+    }
+    Ok(Some(word.parse::<u64>()?))
+}
+
+/// The documents that texts with `,` between name.
+pub(crate) fn ids_named(alloc: Global, texts: &str) -> Result<DocIds, Fail> {
+    let texts: Vec<&str> = texts.split(',').collect(alloc)?;
+    Ok(DocIds::named(alloc, texts.as_slice())?)
 }
 
 fn options_of(words: &[&str]) -> Options {
@@ -126,10 +150,21 @@ fn push_own(
             since,
             limit,
             style,
+            ids: None,
         } => push_page(text, &changes(alloc, version, *since, *limit, *style)?),
+        QueryKind::Changes {
+            since,
+            limit,
+            style,
+            ids: Some(ids),
+        } => push_page(
+            text,
+            &changes_among(alloc, version, *since, *limit, *style, ids)?,
+        ),
         QueryKind::AllDocuments => push_documents(text, &all_docs(alloc, version)?),
         QueryKind::Info => push_counts(text, &info(version)),
         QueryKind::GetLocal(id) => push_local(text, &local_get(version, id)?),
         QueryKind::RevsLimit => push_limit(text, revs_limit(version)),
+        QueryKind::PurgedInfosLimit => push_limit(text, purged_infos_limit(version)),
     }
 }

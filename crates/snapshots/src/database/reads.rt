@@ -1,7 +1,7 @@
 //! What is read of a database: its parts are lent, each to be asked itself.
-ghost use Rattle.std.specs.Prelude.{◌≡◌, ◌<◌, ◌^◌, ℕ, length};
+ghost use Rattle.std.specs.Prelude.{◌≡◌, ◌<◌, ◌^◌, ℕ, length, Some, IfOk};
 ghost use Rattle.std.specs.Map.Iter.{ShowsInOrder, deref_pair};
-ghost use Rattle.model.specs.Changes.{every_id, changed_since as changed_above};
+ghost use Rattle.model.specs.Changes.{every_id, changed_since as changed_above, wanted_by};
 ghost use Rattle.model.specs.Answers.{counts};
 ghost use Rattle.model.specs.Command.{Id};
 ghost use Rattle.model.specs.Database.{Record as Stored, calls_of};
@@ -9,11 +9,12 @@ ghost use Rattle.model.specs.Database.{Record as Stored, calls_of};
 use crate::database::Database;
 use crate::record::Record;
 use crate::records::Records;
-use cow_index::{Range, Shared};
-use document_id::DocId;
+use cow_index::{CowMap, Range, Shared};
+use document_id::{DocId, DocIds};
 use local_docs::Locals;
 use purge::PurgeLog;
 use queries::Counts;
+use std::alloc::{AllocError, Global};
 
 impl Database {
     /// The documents, and the last update number that was given, from 0.
@@ -72,6 +73,29 @@ impl Database {
         ensures { result ≡ length (changed_above every_id self.now since) }
     {
         self.documents.count_changed_since(since)
+    }
+
+    /// Those of some documents that have an update number above `since`, by these numbers. It costs a look at each of
+    /// the documents, or at each that changed, whichever are fewer, and as many ways down the index that it makes.
+    #[tactic(auto, unfolding(model::specs::Changes::by_seq))]
+    pub fn changed_among(
+        &self,
+        alloc: Global,
+        since: u64,
+        ids: &DocIds,
+    ) -> Result<CowMap<u64, (DocId, Shared<Record>)>, AllocError>
+        ensures changed { IfOk result (λ m. m.entries ≡ changed_above (wanted_by (Some ids.now)) self.now since) }
+    {
+        self.documents.changed_among(alloc, since, ids)
+    }
+
+    /// How many of some documents have an update number above `since`, counted at the cost of a look at each of these, or
+    /// at each that changed, whichever are fewer.
+    #[tactic(auto, unfolding(model::specs::Changes::by_seq))]
+    pub fn count_changed_among(&self, since: u64, ids: &DocIds) -> u64
+        ensures { result ≡ length (changed_above (wanted_by (Some ids.now)) self.now since) }
+    {
+        self.documents.count_changed_among(since, ids)
     }
 
     /// How many documents there are, live and deleted, and the last numbers that were given.

@@ -36,7 +36,7 @@ pub returns-in_ok-page-in-Changes : goal.returns-in_ok-page-in-Changes
 unfolding answer_to
 returns-in_ok-page-in-Changes c =
     let d = now c.args.version.now in
-    record { answer = c.new-in-Changes.ensures.answer ∙ ap model.Changed c.in_ok-page-in-Changes.ensures.page ∙ by_kind d _ c.kind.result.now c.args.query.now c.in-Changes.is c.kind.ensures.kind }
+    record { answer = c.new-in-Changes.ensures.answer ∙ ap model.Changed c.in_ok-page-in-Changes.ensures ∙ by_kind d _ c.kind.result.now c.args.query.now c.in-Changes.is c.kind.ensures.kind }
 
 pub returns-in_ok-documents-in-AllDocuments : goal.returns-in_ok-documents-in-AllDocuments
 unfolding answer_to
@@ -61,3 +61,9 @@ unfolding answer_to
 returns-in-RevsLimit c =
     let d = now c.args.version.now in
     record { answer = c.new-in-RevsLimit.ensures.answer ∙ ap model.Limit c.revs_limit.ensures.limit ∙ by_kind d _ c.kind.result.now c.args.query.now c.in-RevsLimit.is c.kind.ensures.kind }
+
+pub returns-in-PurgedInfosLimit : goal.returns-in-PurgedInfosLimit
+unfolding answer_to
+returns-in-PurgedInfosLimit c =
+    let d = now c.args.version.now in
+    record { answer = c.new-in-PurgedInfosLimit.ensures.answer ∙ ap model.Limit c.purged_infos_limit.ensures.limit ∙ by_kind d _ c.kind.result.now c.args.query.now c.in-PurgedInfosLimit.is c.kind.ensures.kind }

@@ -1,17 +1,11 @@
--- The walk gives the first changes.
-use Rattle.std.specs.Prelude.{map}
-use Rattle.std.specs.List.{take-map}
-use Rattle.std.specs.Map.Iter.{deref_pair}
-use Rattle.std.proofs.Common.{sym, ap, ◌∙◌}
-use Rattle.std.proofs.lemmas.Iterator.{YieldsList-from_take}
-use Rattle.std.proofs.lemmas.Iterator.Consumers.{YieldsList-from_rest, YieldsList-end}
-use Rattle.model.specs.History.{now}
+-- The rows of all that changed.
+use Rattle.std.specs.Prelude.{◌≡◌, IfOk, map, take}
+use Rattle.std.proofs.Common.{ap, subst, ◌∙◌}
+use Rattle.model.specs.Database.{Database}
 use Rattle.model.specs.Changes.{changed_since, every_id, row}
 use Rattle.changes_feed.proofs.page.first_rows.Goals as goal
 
 pub returns : goal.returns
-returns c =
-    let all = changed_since every_id (now c.args.version.now) c.args.since in
-    let t = YieldsList-end (YieldsList-from_take {s = c.into_iter-seq-iterator.result} c.args.most (YieldsList-from_rest {shows = deref_pair} all cc) cc)
-    c.loop-seq.yielded _ c.loop-seq.yielded_by _ _ c.in-None.is c.next.ensures.steps in
-    c.loop-seq.invariant ∙ ap (map (row c.args.style)) t.0 ∙ sym (take-map (row c.args.style) c.args.most all)
+returns c = subst (λ es. IfOk c.rows_of.result (λ rows. rows.items ≡ take c.args.most (map (row c.args.style) es)))
+    (c.changed_since.ensures.rest ∙ ap (λ (e : Database). changed_since every_id e c.args.since) c.database.ensures)
+    c.rows_of.ensures

@@ -1,0 +1,12 @@
+-- So far as many as of the documents that were looked at have changed.
+use Rattle.std.proofs.Common.{◌≡◌, ◌≤◌, length, map, Some}
+use Rattle.std.specs.Map.Iter.{deref}
+use Rattle.model.specs.Changes.{changed_since, wanted_by}
+use Rattle.snapshots.specs.Listing.{database_of}
+use Rattle.snapshots.proofs.records.Records.count_looked_up.Given as goal
+
+abbrev pub invariant-loop-id : goal.invariant-loop-id
+invariant-loop-id l = record {
+  counted : l.count ≡ length (changed_since (wanted_by (Some (map deref l.yielded))) (database_of l.self) l.since);
+  few : l.count ≤ length l.yielded;
+}
