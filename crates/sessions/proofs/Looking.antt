@@ -20,7 +20,16 @@ looks_then a b c p q = record {
   legal = q.legal;
   extends = prefix_trans (seen a) (seen b) (seen c) p.extends q.extends;
   own = q.own;
-  same = q.same ∙ ap (λ (k : Known). record k { published = c.published }) p.same;
+  same = q.same ∙ ap (λ (k : Known). record k { published = c.published; waited = c.waited }) p.same;
+}
+
+-- a look that a wait counts
+pub looks_counted : (a b : Known) (looks : ℕ) → Looks a b → Looks a (record b { waited = looks })
+looks_counted a b looks p = record {
+  legal = p.legal;
+  extends = p.extends;
+  own = p.own;
+  same = ap (λ (k : Known). record k { waited = looks }) p.same;
 }
 
 lost_too : (a b : Known) → Looks a b → Looks (record a { lost = true }) (record b { lost = true })
@@ -46,7 +55,7 @@ writes_then a b c command receipt p w = record {
   first = w.first;
   bound = w.bound;
   counted = w.counted;
-  same = w.same ∙ ap (λ (k : Known). record k { published = c.published; receipts = c.receipts; pushes = c.pushes }) p.same;
+  same = w.same ∙ ap (λ (k : Known). record k { published = c.published; receipts = c.receipts; pushes = c.pushes; waited = c.waited }) p.same;
 }
 
 -- ---- faults of a copy

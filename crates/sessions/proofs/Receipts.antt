@@ -165,6 +165,7 @@ writes old new found command receipt e own later grows at is seat_is one publica
         published = new.published;
         receipts = new.receipts;
         pushes = new.pushes;
+        waited = new.waited;
         lost = (same i).lost;
       };
     }

@@ -9,13 +9,13 @@ use Rattle.snapshots.specs.Version.{entry_at}
 use Rattle.publications.specs.Histories.{opening_base}
 use Rattle.sessions.specs.Known.{Known, seen, SeesOwn}
 
--- After a look: a legal history is seen, which extends what was seen and has of the session exactly its entries with a
--- receipt, and nothing else changed.
+-- After looks, one or those of a wait: a legal history is seen, which extends what was seen and has of the session
+-- exactly its entries with a receipt, and nothing else changed.
 pub record Looks (old new : Known) : Type 0 where
   pub legal : IsLegal opening_base (seen new)
   pub extends : IsPrefix (seen old) (seen new)
   pub own : SeesOwn new
-  pub same : new ≡ record old { published = new.published }
+  pub same : new ≡ record old { published = new.published; waited = new.waited }
 
 -- the seat of the session's next call
 abbrev pub next_seat : Known → Seat
@@ -40,7 +40,7 @@ pub record Writes (old : Known) (command : Command) (receipt : Told) (new : Know
   pub first : 0 < receipt.publication
   pub bound : receipt.publication ≤ receipt.place
   pub counted : receipt.publication ≡ length new.published
-  pub same : new ≡ record old { published = new.published; receipts = new.receipts; pushes = new.pushes }
+  pub same : new ≡ record old { published = new.published; receipts = new.receipts; pushes = new.pushes; waited = new.waited }
 
 -- the entry at the place has this seat and command, and is its session's last
 pub record IsTold (h : List Entry) (place : ℕ) (seat : Seat) (command : Command) : Type 0 where

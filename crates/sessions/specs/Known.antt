@@ -5,13 +5,14 @@ use Rattle.model.specs.History.{Chronicle, of_session}
 use Rattle.turns.specs.Turns.{Turn}
 use Rattle.publications.specs.Histories.{newest, Grows, IsNewest}
 
--- a session's number, the published histories that it has seen, its entries with a receipt, how many jobs it pushed, and
--- whether it is lost
+-- a session's number, the published histories that it has seen, its entries with a receipt, how many jobs it pushed, how
+-- often its last wait looked, and whether it is lost
 pub record Known : Type 0 where
   pub number : ℕ
   pub published : List (List Entry)
   pub receipts : List Entry
   pub pushes : ℕ
+  pub waited : ℕ
   pub lost : Bool
 
 -- the history that a session has seen
@@ -20,7 +21,7 @@ seen k = newest k.published
 
 -- a session that has seen the empty history
 abbrev pub fresh : ℕ → Known
-fresh number = record { number = number; published = []; receipts = []; pushes = 0; lost = false }
+fresh number = record { number = number; published = []; receipts = []; pushes = 0; waited = 0; lost = false }
 
 -- the session's entries in the history that it has seen are those with a receipt
 abbrev pub SeesOwn : Known → Type 0

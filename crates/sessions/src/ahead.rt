@@ -42,6 +42,7 @@ fn read_ahead(seen: &Version, command: &Command) {
         CommandKind::PutLocal { .. }
         | CommandKind::Purge(_)
         | CommandKind::SetLimit(_)
+        | CommandKind::SetPurgedLimit(_)
         | CommandKind::Compact => {}
     }
 }

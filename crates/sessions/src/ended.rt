@@ -14,6 +14,7 @@ pub struct Ended<J: Opening> {
     pub(crate) number: u16,
     pub(crate) calls: u64,
     pub(crate) pushes: u64,
+    pub(crate) waited: u64,
     pub(crate) lost: bool,
     pub(crate) seen: Front<J>,
 }
@@ -24,6 +25,7 @@ impl<J: Opening> Drop for Ended<J> {
             number: _,
             calls: _,
             pushes: _,
+            waited: _,
             lost: _,
             seen: _,
         } = self;
@@ -42,7 +44,7 @@ impl<J: Opening> Model for Ended<J> {
 
     ghost coded = { Prim.hlevel (codes, coded_members) };
 
-    ghost view = { λ e. record { number = e.number; published = e.seen; receipts = of_session e.number (newest e.seen); pushes = e.pushes; lost = e.lost } };
+    ghost view = { λ e. record { number = e.number; published = e.seen; receipts = of_session e.number (newest e.seen); pushes = e.pushes; waited = e.waited; lost = e.lost } };
 
     ghost invariant = { λ e. e.calls ≡ length (of_session e.number (newest e.seen)) };
 }

@@ -11,7 +11,7 @@ ghost use Rattle.sessions.specs.declared.fault.Fault.TheVariants as fault;
 use crate::ended::Ended;
 use crate::fault::Fault;
 use crate::shared::Shared;
-use crate::snapshot::Snapshot;
+use crate::snapshot::{Snapshot, shared_apart};
 use crossbeam_utils::CachePadded;
 use publications::{Lens, Published};
 use snapshots::Version;
@@ -28,6 +28,10 @@ pub struct Session<C: Drop, J: Opening, G: Drop> {
     /// How many receipts it has.
     pub(crate) calls: u64,
     pub(crate) lost: bool,
+    /// How often its last wait looked.
+    pub(crate) waited: u64,
+    /// How often its waits looked one after another, for the pauses between these looks.
+    pub(crate) paced: u64,
     pub(crate) latest: Published<J>,
     /// A share of that version, where a look took one: the looks that see the same one are owners of it.
     pub(crate) looked: Option<Arc<Version, Global>>,
@@ -44,6 +48,8 @@ impl<C: Drop, J: Opening, G: Drop> Drop for Session<C, J, G> {
             number: _,
             calls: _,
             lost: _,
+            waited: _,
+            paced: _,
             latest: _,
             looked: _,
             reader: _,
@@ -66,7 +72,7 @@ impl<C: Drop, J: Opening, G: Drop> Model for Session<C, J, G> {
 
     ghost coded = { Prim.hlevel (codes, coded_members) };
 
-    ghost view = { λ s. record { number = s.number; published = s.latest; receipts = of_session s.number (newest s.latest); pushes = s.ticket.pushed; lost = s.lost } };
+    ghost view = { λ s. record { number = s.number; published = s.latest; receipts = of_session s.number (newest s.latest); pushes = s.ticket.pushed; waited = s.waited; lost = s.lost } };
 
     ghost invariant = { λ s. Holds s.number s.calls s.lost s.latest (option_map arc_value s.looked) s.ticket };
 }
@@ -90,6 +96,8 @@ impl<C: Drop, J: Opening, G: Drop> Session<C, J, G> {
             number: ticket.number(),
             calls: 0,
             lost: false,
+            waited: 0,
+            paced: 0,
             latest,
             looked: None,
             reader: CachePadded::new(reader),
@@ -125,6 +133,8 @@ impl<C: Drop, J: Opening, G: Drop> Session<C, J, G> {
             number,
             calls,
             lost,
+            waited,
+            paced: _,
             latest,
             looked: _,
             reader: _,
@@ -137,6 +147,7 @@ impl<C: Drop, J: Opening, G: Drop> Session<C, J, G> {
             number,
             calls,
             pushes: ticket.pushed(),
+            waited,
             lost,
             seen,
         };
@@ -146,6 +157,17 @@ impl<C: Drop, J: Opening, G: Drop> Session<C, J, G> {
     /// Sees what is published now, and nothing else: where that was seen already, it writes to its own
     /// place among the readers alone, which a publication reads. It waits for nobody and takes no memory.
     pub fn refresh(&mut self) -> Result<(), Fault>
+        ensures looks { IfOk result (λ _. Looks self.old self.new) }
+        ensures kept { OnErr result (self.new ≡ self.old) }
+        ensures lost { (result ≡ Err fault.Lost) ↔ (self.old.lost ≡ true) }
+        ensures refused { IfErr result (λ e. (e ≡ fault.Lost) ⊎ (e ≡ fault.EntryRefused)) }
+    {
+        self.begin_pauses();
+        self.see_latest()
+    }
+
+    /// Sees what is published now.
+    pub(crate) fn see_latest(&mut self) -> Result<(), Fault>
         ensures looks { IfOk result (λ _. Looks self.old self.new) }
         ensures kept { OnErr result (self.new ≡ self.old) }
         ensures lost { (result ≡ Err fault.Lost) ↔ (self.old.lost ≡ true) }
@@ -363,13 +385,6 @@ pub fn later_of<J: Opening>(mine: Published<J>, theirs: Published<J>) -> Publish
         return theirs;
     }
     mine
-}
-
-/// A share of the version in a block of its own, so that its owners are counted apart from those of others.
-fn shared_apart(alloc: Global, version: &Version) -> Option<Arc<Version, Global>>
-    ensures { IfSome result (λ own. arc_value own ≡ version.now) }
-{
-    Arc::new(alloc, version.share().ok()?).ok()
 }
 
 /// How many calls of a session the version has.

@@ -1,6 +1,6 @@
 //! What a look answers.
 ghost use Rattle.std.specs.Arc.{arc_value};
-ghost use Rattle.std.specs.Prelude.{◌≡◌, ℕ, length, IfOk};
+ghost use Rattle.std.specs.Prelude.{◌≡◌, ℕ, length, IfOk, IfSome};
 ghost use Rattle.model.specs.History.{IsLegal};
 ghost use Rattle.model.specs.World.{Asked};
 ghost use Rattle.model.specs.Told.{Tells};
@@ -78,4 +78,11 @@ impl<J: Naming> Snapshot<J> {
     {
         changes_feed::answer(alloc, &self.version, query)
     }
+}
+
+/// A share of the version in a block of its own, so that its owners are counted apart from those of others.
+pub(crate) fn shared_apart(alloc: Global, version: &Version) -> Option<Arc<Version, Global>>
+    ensures { IfSome result (λ own. arc_value own ≡ version.now) }
+{
+    Arc::new(alloc, version.share().ok()?).ok()
 }

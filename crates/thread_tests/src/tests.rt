@@ -4,6 +4,7 @@ mod held;
 mod pair;
 mod shares;
 mod soak;
+mod wait;
 
 use commands::{Command, Edit, Limits, ReplyKind};
 use document_id::DocId;

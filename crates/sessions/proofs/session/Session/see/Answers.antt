@@ -29,5 +29,5 @@ returns-clause-looks g c =
       legal = newest_legal [] c.args.found tt c.requires.grows;
       extends = newest_grows c.args.self.now.published c.args.found c.requires.grows c.requires.later;
       own = refl;
-      same = λ i. record { number = number i; published = c.args.found; receipts = own i; pushes = (view i).pushes; lost = (view i).lost };
+      same = λ i. record { number = number i; published = c.args.found; receipts = own i; pushes = (view i).pushes; waited = c.self.inside.waited; lost = (view i).lost };
     }

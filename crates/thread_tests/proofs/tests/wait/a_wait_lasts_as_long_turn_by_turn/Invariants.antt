@@ -1,0 +1,11 @@
+use Rattle.thread_tests.proofs.tests.wait.a_wait_lasts_as_long_turn_by_turn.Given as goal
+
+-- the database that was just opened
+abbrev pub ghosts-waits_in_vain-J-Naming : goal.ghosts-waits_in_vain-J-Naming
+ghosts-waits_in_vain-J-Naming g a = record { book = a.opened.book }
+
+abbrev pub ghosts-waits_in_vain-J-Queued : goal.ghosts-waits_in_vain-J-Queued
+ghosts-waits_in_vain-J-Queued g a = record { table = a.opened.queue.table; capacity = a.opened.queue.capacity; sessions = a.opened.queue.sessions }
+
+abbrev pub ghosts-waits_in_vain-J-Opening : goal.ghosts-waits_in_vain-J-Opening
+ghosts-waits_in_vain-J-Opening g a = record { max_places = a.opened.max_places }
