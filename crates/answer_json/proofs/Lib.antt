@@ -1,5 +1,6 @@
 pub mod AnswerTexts
 pub mod BulkLists
+pub mod DocIds
 pub mod ListTexts
 pub mod NamedRevisions
 pub mod ObjectTexts

@@ -1,5 +1,6 @@
 pub mod Limit
 pub mod TextLists
+pub mod DocIds
 pub mod NamedRevisions
 pub mod Replies
 pub mod Opened

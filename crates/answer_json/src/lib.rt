@@ -1,5 +1,5 @@
 //! JSON of what is asked and told about documents: rows, pages, differences, counts, replies,
-//! opened revisions and the limit.
+//! opened revisions, the limit and lists of ids.
 //!
 //! A text is checked as a document's is. Each text is written once, into memory that it may be
 //! refused; `specs/` says it byte by byte.
@@ -10,6 +10,7 @@ mod bulk;
 mod changes;
 mod counts;
 mod differences;
+mod doc_ids;
 mod limit;
 mod list;
 mod named_revisions;
@@ -25,6 +26,7 @@ pub use bulk::{edits_text, merges_text};
 pub use changes::{feed_line, page_text};
 pub use counts::counts_text;
 pub use differences::differences_text;
+pub use doc_ids::read_doc_ids;
 pub use limit::{number_text, read_limit};
 pub use list::append_list;
 pub use named_revisions::read_named_revisions;

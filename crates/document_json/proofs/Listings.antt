@@ -9,7 +9,7 @@ use Rattle.model.specs.Command.{max_edits}
 use Rattle.document_json.specs.Bulk.{few, listed_in}
 use Rattle.document_json.specs.Lists.{values_of}
 
-get-object : (name : List ℕ) (d : Data) → get name d ≡ option_and_then (get_member name) (as_object d)
+pub get-object : (name : List ℕ) (d : Data) → get name d ≡ option_and_then (get_member name) (as_object d)
 get-object name null = refl
 get-object name (boolean b) = refl
 get-object name (number n) = refl

@@ -10,7 +10,7 @@ use Rattle.hex.specs.Hex.{encode_lower}
 use Rattle.json.proofs.Printed.Utf8.{are_ascii, IsUtf8-are_ascii}
 use Rattle.serde_json.specs.Data.{Data, unsigned, number, boolean, string, object, no_items, Members, no_members, member}
 use Rattle.model.specs.Body.{Body, IsBody}
-use Rattle.model.specs.Command.{Id, IsId, names, Edit, IsEdit, Merge, IsMerge, Command, Edits, Merges, PutLocal, Purge, SetLimit, Compact, IsCommand, IsCounter, NamesRevs, Reply, Wrote, WroteLocal, Purged, Done, FitsReply, FitsEdit, FitsMerge, FitsLocal, Seat, Entry}
+use Rattle.model.specs.Command.{Id, IsId, names, Edit, IsEdit, Merge, IsMerge, Command, Edits, Merges, PutLocal, Purge, SetLimit, SetPurgedLimit, Compact, IsCommand, IsCounter, NamesRevs, Reply, Wrote, WroteLocal, Purged, Done, FitsReply, FitsEdit, FitsMerge, FitsLocal, Seat, Entry}
 use Rattle.model.specs.declared.refusal.Refusal.{Refusal}
 use Rattle.model.specs.declared.refusal.Refusal.TheVariants.{Conflict, BadHistory, Missing, Deleted, GenerationLimit}
 use Rattle.model.specs.Map.{Map, entries}
@@ -125,6 +125,9 @@ sound_command (Purge named) h =
 sound_command (SetLimit limit) h =
     let low = h.1 in
     sound_object 66 _ (sound_named 66 (codes "limit") (number (unsigned limit)) no_members refl refl (sound_number 66 limit (omega arith)) (sound_none 66))
+sound_command (SetPurgedLimit limit) h =
+    let low = h.1 in
+    sound_object 66 _ (sound_named 66 (codes "purged_limit") (number (unsigned limit)) no_members refl refl (sound_number 66 limit (omega arith)) (sound_none 66))
 sound_command Compact h = sound_object 66 _ (sound_named 66 (codes "compact") (boolean true) no_members refl refl (sound_boolean 66 true) (sound_none 66))
 
 -- ---- replies
@@ -178,6 +181,10 @@ sound_reply (SetLimit limit) (Wrote rs) h = absurd h
 sound_reply (SetLimit limit) (WroteLocal r) h = absurd h
 sound_reply (SetLimit limit) (Purged n removed) h = absurd h
 sound_reply (SetLimit limit) Done h = sound_boolean 67 true
+sound_reply (SetPurgedLimit limit) (Wrote rs) h = absurd h
+sound_reply (SetPurgedLimit limit) (WroteLocal r) h = absurd h
+sound_reply (SetPurgedLimit limit) (Purged n removed) h = absurd h
+sound_reply (SetPurgedLimit limit) Done h = sound_boolean 67 true
 sound_reply Compact (Wrote rs) h = absurd h
 sound_reply Compact (WroteLocal r) h = absurd h
 sound_reply Compact (Purged n removed) h = absurd h

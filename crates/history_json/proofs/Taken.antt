@@ -6,7 +6,7 @@ use Rattle.serde_json.specs.Data.{Data, string, object, Members, no_members, mem
 use Rattle.serde_json.specs.Find.{as_object, get_member}
 use Rattle.json_profile.specs.Objects.{without}
 use Rattle.model.specs.Body.{Body, IsBody}
-use Rattle.model.specs.Command.{Id, IsId, names, Edit, IsEdit, Command, Edits, Merges, PutLocal, Purge, SetLimit, Compact, IsCommand}
+use Rattle.model.specs.Command.{Id, IsId, names, Edit, IsEdit, Command, Edits, Merges, PutLocal, Purge, SetLimit, SetPurgedLimit, Compact, IsCommand}
 use Rattle.model.specs.Map.{Map, entries, same_list}
 use Rattle.model.specs.Revision.{Rev, IsRev}
 use Rattle.document_json.specs.Written.{rev_data}
@@ -95,4 +95,5 @@ module _ (ms left rest : Members) (id : Data) (found : Option Command) where
   local_found value (PutLocal i named body) object_is is e none first taken second tells = local_at i named body is (inside value ms _ object_is e) first taken second tells
   local_found value (Purge named) object_is is e none first taken second tells = absurd (other _ (inside value ms _ object_is e) first taken refl)
   local_found value (SetLimit limit) object_is is e none first taken second tells = absurd (other _ (inside value ms _ object_is e) first taken refl)
+  local_found value (SetPurgedLimit limit) object_is is e none first taken second tells = absurd (other _ (inside value ms _ object_is e) first taken refl)
   local_found value Compact object_is is e none first taken second tells = absurd (other _ (inside value ms _ object_is e) first taken refl)

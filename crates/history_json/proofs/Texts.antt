@@ -6,7 +6,7 @@ use Rattle.serde_json.specs.Data.{Data, string, boolean, array, object, Members,
 use Rattle.serde_json.specs.View.{items_of}
 use Rattle.serde_json.specs.Written.{compact_text, members_text}
 use Rattle.model.specs.Body.{Body, body_text}
-use Rattle.model.specs.Command.{Id, Seat, Entry, SetLimit, Compact, Purge, names}
+use Rattle.model.specs.Command.{Id, Seat, Entry, SetLimit, SetPurgedLimit, Compact, Purge, names}
 use Rattle.model.specs.declared.refusal.Refusal.{Refusal}
 use Rattle.model.specs.declared.refusal.Refusal.TheVariants.{Conflict, BadHistory, Missing, Deleted, GenerationLimit}
 use Rattle.model.specs.Map.{Map}
@@ -23,6 +23,10 @@ use Rattle.history_json.specs.Replies.{refusal_name, reply_data}
 pub limit_text : (limit : ℕ) → codes "{\"limit\":" ++ (decimal limit ++ codes "}") ≡ compact_text (command_data (SetLimit limit))
 unfolding serde_json_on_literals
 limit_text limit = refl
+
+pub purged_limit_text : (limit : ℕ) → codes "{\"purged_limit\":" ++ (decimal limit ++ codes "}") ≡ compact_text (command_data (SetPurgedLimit limit))
+unfolding serde_json_on_literals
+purged_limit_text limit = refl
 
 pub compaction_text : codes "{\"compact\":true}" ≡ compact_text (command_data Compact)
 unfolding serde_json_on_literals

@@ -3,7 +3,7 @@ use Rattle.std.specs.Prelude.{ℕ, Bool, true, false, List, ◌∷◌, map, Opti
 use Rattle.serde_json.specs.Data.{Data, unsigned, number, string, boolean, array, object, Members, no_members, member}
 use Rattle.serde_json.specs.View.{items_of}
 use Rattle.model.specs.Body.{Body}
-use Rattle.model.specs.Command.{Id, Edit, Merge, Command, Edits, Merges, PutLocal, Purge, SetLimit, Compact}
+use Rattle.model.specs.Command.{Id, Edit, Merge, Command, Edits, Merges, PutLocal, Purge, SetLimit, SetPurgedLimit, Compact}
 use Rattle.model.specs.Revision.{Rev}
 use Rattle.document_json.specs.Written.{rev_data, revs_data}
 use Rattle.answer_json.specs.Purge.{removed_data}
@@ -50,13 +50,14 @@ abbrev pub put_local_data : Id → Option ℕ → Option Body → Data
 put_local_data id named body = object (body_first body (member (codes "local") (string id) (counter_member named)))
 
 -- one form for each kind
--- CouchDB: POST /{db}/_bulk_docs, PUT /{db}/_local/{docid}, POST /{db}/_purge, PUT /{db}/_revs_limit, POST /{db}/_compact
+-- CouchDB: POST /{db}/_bulk_docs, PUT /{db}/_local/{docid}, POST /{db}/_purge, PUT /{db}/_revs_limit, PUT /{db}/_purged_infos_limit, POST /{db}/_compact
 abbrev pub command_data : Command → Data
 command_data (Edits edits) = bulk_data (map edit_data edits) true
 command_data (Merges merges) = bulk_data (map merge_data merges) false
 command_data (PutLocal id named body) = put_local_data id named body
 command_data (Purge named) = object (member (codes "purge") (removed_data named) no_members)
 command_data (SetLimit limit) = object (member (codes "limit") (number (unsigned limit)) no_members)
+command_data (SetPurgedLimit limit) = object (member (codes "purged_limit") (number (unsigned limit)) no_members)
 command_data Compact = object (member (codes "compact") (boolean true) no_members)
 
 -- the command is neither a bulk nor a write of a local document
@@ -66,4 +67,5 @@ is_setting (Merges merges) = false
 is_setting (PutLocal id named body) = false
 is_setting (Purge named) = true
 is_setting (SetLimit limit) = true
+is_setting (SetPurgedLimit limit) = true
 is_setting Compact = true

@@ -7,7 +7,7 @@ ghost use Rattle.history_json.specs.Commands.{command_data, is_setting};
 
 use crate::bulk::{put_bulk, read_bulk};
 use crate::compact::put_compaction;
-use crate::limit::{put_limit, read_limit};
+use crate::limit::{put_limit, put_purged_limit, read_limit, read_purged_limit};
 use crate::local::{put_local, read_local};
 use crate::purge::{put_purge, read_purge};
 use commands::{Command, CommandKind};
@@ -30,6 +30,7 @@ pub(crate) fn put_command(
         }
         CommandKind::Purge(named) => put_purge(text, alloc, named),
         CommandKind::SetLimit(limit) => put_limit(text, *limit),
+        CommandKind::SetPurgedLimit(limit) => put_purged_limit(text, *limit),
         CommandKind::Compact => put_compaction(text),
     }
 }
@@ -62,6 +63,9 @@ fn read_setting(alloc: Global, mut members: Object) -> Result<Option<Command>, A
     }
     if let Some(limit) = members.take("limit") {
         return Ok(read_limit(&limit));
+    }
+    if let Some(limit) = members.take("purged_limit") {
+        return Ok(read_purged_limit(&limit));
     }
     Ok(Some(Command::compact()))
 }

@@ -47,6 +47,7 @@ pub(crate) fn read_reply(
         CommandKind::PutLocal { .. } => Ok(read_local_written(&value)),
         CommandKind::Purge(_) => read_purged(alloc, value),
         CommandKind::SetLimit(_) => Ok(Some(Reply::new(ReplyKind::Done))),
+        CommandKind::SetPurgedLimit(_) => Ok(Some(Reply::new(ReplyKind::Done))),
         CommandKind::Compact => Ok(Some(Reply::new(ReplyKind::Done))),
     }
 }

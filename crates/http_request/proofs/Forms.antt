@@ -25,7 +25,7 @@ use Rattle.document_json.specs.Local.{counter_in, counter_over, local_document_o
 use Rattle.answer_json.specs.NamedRevisions.{named_revisions_of}
 use Rattle.answer_json.specs.Purge.{purge_of}
 use Rattle.http_request.specs.Decide.{decide, route_in, method_in, asked_of, get_document, opened_or_got, put_document, post_bulk, post_purge}
-use Rattle.http_request.specs.Feeds.{all_docs_of, asks_for_keys, asks_for_other_changes, asks_for_range, changes_of, feed_in, since_in, style_in}
+use Rattle.http_request.specs.Feeds.{all_docs_of, asks_for_keys, asks_for_other_changes, asks_for_range, asks_for_some, changes_of, feed_in, wanted_ids, since_in, style_in}
 use Rattle.http_request.specs.Forms.{IsFormOf, HasForm}
 use Rattle.http_request.specs.Identity.{path_id}
 use Rattle.http_request.specs.Local.{rev_text, put_local}
@@ -118,13 +118,14 @@ purge-fits body = after_such (purge_of body) _ (IsFormOf form.Whole) HasForm who
     whole : IfOk (purge_of body) (IsFormOf form.Whole)
     whole = after (named_revisions_of body) _ (IsFormOf form.Whole) (λ named. few_or_not (nat_le (length (entries named)) max_edits) named)
 
-changes-fits : (parameters : Parameters) → IfOk (changes_of parameters) HasForm
-changes-fits parameters =
-    after (check (not (asks_for_other_changes parameters)) reason.Parameter) _ HasForm (λ _.
+changes-fits : (method : Method) (parameters : Parameters) (body : List ℕ) → IfOk (changes_of method parameters body) HasForm
+changes-fits method parameters body =
+    after (check (not (asks_for_other_changes method parameters)) reason.Parameter) _ HasForm (λ _.
     after (feed_in (parameter (codes "feed") parameters)) _ HasForm (λ feed.
     after (style_in (parameter (codes "style") parameters)) _ HasForm (λ style.
     after (number_parameter (codes "limit") parameters) _ HasForm (λ limit.
-    after (since_in parameters) _ HasForm (λ since. tt)))))
+    after (since_in parameters) _ HasForm (λ since.
+    after (wanted_ids (asks_for_some method parameters) body) _ HasForm (λ ids. tt))))))
 
 all_docs-fits : (parameters : Parameters) → IfOk (all_docs_of parameters) HasForm
 all_docs-fits parameters =
@@ -151,9 +152,9 @@ asked-fits route.BulkDocs method.Get path query body = tt
 asked-fits route.BulkDocs method.Put path query body = tt
 asked-fits route.BulkDocs method.Post path query body = decided-fits-so _ HasForm (bulk-fits body)
 asked-fits route.BulkDocs method.Delete path query body = tt
-asked-fits route.Changes method.Get path query body = decided-fits-so _ HasForm (changes-fits (parameters_of query))
+asked-fits route.Changes method.Get path query body = decided-fits-so _ HasForm (changes-fits method.Get (parameters_of query) body)
 asked-fits route.Changes method.Put path query body = tt
-asked-fits route.Changes method.Post path query body = tt
+asked-fits route.Changes method.Post path query body = decided-fits-so _ HasForm (changes-fits method.Post (parameters_of query) body)
 asked-fits route.Changes method.Delete path query body = tt
 asked-fits route.Compact method.Get path query body = tt
 asked-fits route.Compact method.Put path query body = tt
@@ -167,6 +168,10 @@ asked-fits route.Purge method.Get path query body = tt
 asked-fits route.Purge method.Put path query body = tt
 asked-fits route.Purge method.Post path query body = decided-fits-so _ HasForm (purge-fits body)
 asked-fits route.Purge method.Delete path query body = tt
+asked-fits route.PurgedInfosLimit method.Get path query body = tt
+asked-fits route.PurgedInfosLimit method.Put path query body = decided-fits-so _ HasForm (after (limit_of body) _ HasForm (λ limit. tt))
+asked-fits route.PurgedInfosLimit method.Post path query body = tt
+asked-fits route.PurgedInfosLimit method.Delete path query body = tt
 asked-fits route.RevsDiff method.Get path query body = tt
 asked-fits route.RevsDiff method.Put path query body = tt
 asked-fits route.RevsDiff method.Post path query body = decided-fits-so _ HasForm (after (named_revisions_of body) _ HasForm (λ named. tt))

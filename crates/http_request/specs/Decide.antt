@@ -11,8 +11,8 @@ use Rattle.http_routes.specs.declared.Route.TheVariants as route
 use Rattle.http_routes.specs.declared.Method.{Method}
 use Rattle.http_routes.specs.declared.Method.TheVariants as method
 use Rattle.serde_json.specs.Data.{no_members}
-use Rattle.model.specs.Command.{Id, Compact, Edits, SetLimit}
-use Rattle.model.specs.Query.{Get, Info, Options, RevsLimit, RevsDiff}
+use Rattle.model.specs.Command.{Id, Compact, Edits, SetLimit, SetPurgedLimit}
+use Rattle.model.specs.Query.{Get, Info, Options, PurgedInfosLimit, RevsLimit, RevsDiff}
 use Rattle.document_json.specs.Steps.{Checked, and_then}
 use Rattle.http_request.specs.Identity.{path_id}
 use Rattle.http_request.specs.Parameters.{options_of, rev_parameter, no_replication}
@@ -88,6 +88,11 @@ delete_document path query =
 abbrev pub put_revs_limit : List ℕ → Checked Asked
 put_revs_limit body = and_then (limit_of body) (λ limit. Ok (asked.Command form.Whole (SetLimit limit)))
 
+-- PUT of the limit of the purge log
+-- CouchDB: PUT /{db}/_purged_infos_limit
+abbrev pub put_purged_infos_limit : List ℕ → Checked Asked
+put_purged_infos_limit body = and_then (limit_of body) (λ limit. Ok (asked.Command form.Whole (SetPurgedLimit limit)))
+
 -- POST of a bulk of documents
 -- CouchDB: POST /{db}/_bulk_docs
 abbrev pub post_bulk : List ℕ → Checked Asked
@@ -110,12 +115,15 @@ asked_of route.Database method.Get path query body = Ok (asked.Query Info)
 asked_of route.DatabaseSlash method.Get path query body = Ok (asked.Query Info)
 asked_of route.BulkDocs method.Post path query body = decided (post_bulk body)
 asked_of route.AllDocs method.Get path query body = decided (all_docs_of (parameters_of query))
-asked_of route.Changes method.Get path query body = decided (changes_of (parameters_of query))
+asked_of route.Changes method.Get path query body = decided (changes_of method.Get (parameters_of query) body)
+asked_of route.Changes method.Post path query body = decided (changes_of method.Post (parameters_of query) body)
 asked_of route.Compact method.Post path query body = Ok (asked.Command form.Whole Compact)
 asked_of route.Local method.Get path query body = decided (get_local path)
 asked_of route.Local method.Put path query body = decided (put_local path query body)
 asked_of route.Local method.Delete path query body = decided (delete_local path query)
 asked_of route.Purge method.Post path query body = decided (post_purge body)
+asked_of route.PurgedInfosLimit method.Get path query body = Ok (asked.Query PurgedInfosLimit)
+asked_of route.PurgedInfosLimit method.Put path query body = decided (put_purged_infos_limit body)
 asked_of route.RevsDiff method.Post path query body = decided (post_revs_diff body)
 asked_of route.RevsLimit method.Get path query body = Ok (asked.Query RevsLimit)
 asked_of route.RevsLimit method.Put path query body = decided (put_revs_limit body)

@@ -1,10 +1,14 @@
--- What is asked of all documents: their changes, and their list.
-use Rattle.std.specs.Prelude.{ℕ, ◌||◌, Bool, List, Option, Some, None, Ok, codes, not, unwrap_or, if◌then◌else◌}
+-- What is asked of documents: their changes, and their list.
+use Rattle.std.specs.Prelude.{ℕ, ◌&&◌, ◌||◌, Bool, true, false, List, Option, Some, None, Ok, codes, not, unwrap_or, if◌then◌else◌}
 use Rattle.std.specs.Str.{bytes_eq}
+use Rattle.http_routes.specs.declared.Method.{Method}
+use Rattle.http_routes.specs.declared.Method.TheVariants as method
 use Rattle.http_target.specs.Query.{Parameters, parameter}
+use Rattle.model.specs.Command.{Id}
 use Rattle.model.specs.Query.{AllDocuments}
 use Rattle.model.specs.declared.style.Style.{Style}
 use Rattle.model.specs.declared.style.Style.TheVariants.{MainOnly, AllDocs}
+use Rattle.answer_json.specs.DocIds.{doc_ids_of}
 use Rattle.document_json.specs.Steps.{Checked, and_then, or_refused, check}
 use Rattle.http_request.specs.Parameters.{asks_for_documents, is_given, is_there, number_parameter}
 use Rattle.http_request.specs.declared.asked.Asked.{Asked}
@@ -17,11 +21,22 @@ use Rattle.document_json.specs.declared.fault.Reason.TheVariants as reason
 
 -- ---- the changes
 
+-- the changes of some documents alone, which the body of a POST lists
+-- CouchDB: POST /{db}/_changes, "filter"
+abbrev pub asks_for_some : Method → Parameters → Bool
+asks_for_some method.Post parameters = is_given (codes "filter") (codes "_doc_ids") parameters
+asks_for_some method parameters = false
+
+-- a filter that no feed has
+-- CouchDB: GET /{db}/_changes, POST /{db}/_changes, "filter"
+abbrev pub asks_for_other_filter : Method → Parameters → Bool
+asks_for_other_filter method parameters = is_there (codes "filter") parameters && not (asks_for_some method parameters)
+
 -- changes that no feed gives
 -- CouchDB: GET /{db}/_changes, "filter", "view"
-abbrev pub asks_for_other_changes : Parameters → Bool
-asks_for_other_changes parameters =
-    asks_for_documents parameters || is_there (codes "filter") parameters || is_there (codes "view") parameters
+abbrev pub asks_for_other_changes : Method → Parameters → Bool
+asks_for_other_changes method parameters =
+    asks_for_documents parameters || asks_for_other_filter method parameters || is_there (codes "view") parameters
 
 -- CouchDB: GET /{db}/_changes, "feed"
 abbrev pub feed_named : List ℕ → Option Feed
@@ -55,16 +70,23 @@ since_in parameters =
     if is_given (codes "since") (codes "now") parameters then Ok Now
     else and_then (number_parameter (codes "since") parameters) (λ since. Ok (Number (unwrap_or since 0)))
 
--- the changes
--- CouchDB: GET /{db}/_changes
-abbrev pub changes_of : Parameters → Checked Asked
-changes_of parameters =
-    and_then (check (not (asks_for_other_changes parameters)) reason.Parameter) (λ _.
+-- the documents of which changes are asked for, where it is not all of them: the body of another request is not read
+-- CouchDB: POST /{db}/_changes, "doc_ids"
+abbrev pub wanted_ids : Bool → List ℕ → Checked (Option (List Id))
+wanted_ids true body = and_then (doc_ids_of body) (λ ids. Ok (Some ids))
+wanted_ids false body = Ok None
+
+-- the changes; the parameters are checked before the body
+-- CouchDB: GET /{db}/_changes, POST /{db}/_changes
+abbrev pub changes_of : Method → Parameters → List ℕ → Checked Asked
+changes_of method parameters body =
+    and_then (check (not (asks_for_other_changes method parameters)) reason.Parameter) (λ _.
     and_then (feed_in (parameter (codes "feed") parameters)) (λ feed.
     and_then (style_in (parameter (codes "style") parameters)) (λ style.
     and_then (number_parameter (codes "limit") parameters) (λ limit.
     and_then (since_in parameters) (λ since.
-    Ok (asked.Changes (record { since = since; limit = limit; style = style; feed = feed })))))))
+    and_then (wanted_ids (asks_for_some method parameters) body) (λ ids.
+    Ok (asked.Changes (record { since = since; limit = limit; style = style; feed = feed; ids = ids }))))))))
 
 -- ---- the list of all documents
 

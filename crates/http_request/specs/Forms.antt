@@ -1,13 +1,13 @@
 -- Which commands requests of each form ask for.
 use Rattle.std.specs.Prelude.{[], ◌∷◌, ⊤}
-use Rattle.model.specs.Command.{Command, Compact, Edits, Merges, Purge, PutLocal, SetLimit}
+use Rattle.model.specs.Command.{Command, Compact, Edits, Merges, Purge, PutLocal, SetLimit, SetPurgedLimit}
 use Rattle.http_request.specs.declared.asked.Asked.{Asked}
 use Rattle.http_request.specs.declared.asked.Asked.TheVariants as asked
 use Rattle.http_request.specs.declared.asked.Form.{Form}
 use Rattle.http_request.specs.declared.asked.Form.TheVariants as form
 
 -- some request of this form asks for the command: of one document for one edit, or a local write, and else for a bulk,
--- a purge, the limit or a compaction
+-- a purge, a limit or a compaction
 abbrev pub IsFormOf : Form → Command → Type 0
 IsFormOf form.Put (Edits (edit ∷ [])) = ⊤
 IsFormOf form.Delete (Edits (edit ∷ [])) = ⊤
@@ -17,6 +17,7 @@ IsFormOf form.Whole (Edits edits) = ⊤
 IsFormOf form.Whole (Merges merges) = ⊤
 IsFormOf form.Whole (Purge named) = ⊤
 IsFormOf form.Whole (SetLimit limit) = ⊤
+IsFormOf form.Whole (SetPurgedLimit limit) = ⊤
 IsFormOf form.Whole Compact = ⊤
 IsFormOf form command = ⊥
 

@@ -1,23 +1,45 @@
-//! What is asked of all documents: their changes, and their list.
+//! What is asked of documents: their changes, and their list.
 ghost use Rattle.std.specs.Prelude.{◌≡◌, codes};
-ghost use Rattle.http_request.specs.Feeds.{all_docs_of, asks_for_keys, asks_for_other_changes, asks_for_range, changes_of, feed_in, feed_named, since_in, style_in, style_named};
+ghost use Rattle.http_request.specs.Feeds.{all_docs_of, asks_for_keys, asks_for_other_changes, asks_for_other_filter, asks_for_range, asks_for_some, changes_of, feed_in, feed_named, wanted_ids, since_in, style_in, style_named};
 ghost use Rattle.document_json.specs.Steps.{Decides};
 ghost use Rattle.http_target.specs.Query.{parameter, parameters_of};
 
 use crate::asked::Asked;
 use crate::changes::{ChangesAsked, Feed, Since};
 use crate::parameter::{asks_for_documents, is_given, is_there, read_number};
+use answer_json::read_doc_ids;
+use document_id::DocIds;
 use document_json::{Fault, Reason};
+use http_routes::Method;
 use http_target::query::Parameters;
 use model::Style;
 use queries::{Query, QueryKind};
 use std::alloc::Global;
 
-/// Whether changes are asked for that no feed gives.
-fn asks_for_other_changes(parameters: &Parameters<'_>) -> bool
-    ensures { result ≡ asks_for_other_changes parameters.now }
+/// Whether the changes of some documents alone are asked for, which the body lists.
+fn asks_for_some(method: Method, parameters: &Parameters<'_>) -> bool
+    ensures { result ≡ asks_for_some method parameters.now }
 {
-    asks_for_documents(parameters) || is_there(parameters, "filter") || is_there(parameters, "view")
+    match method {
+        Method::Post => is_given(parameters, "filter", "_doc_ids"),
+        Method::Get | Method::Put | Method::Delete => false,
+    }
+}
+
+/// Whether a filter is asked for that no feed has.
+fn asks_for_other_filter(method: Method, parameters: &Parameters<'_>) -> bool
+    ensures { result ≡ asks_for_other_filter method parameters.now }
+{
+    is_there(parameters, "filter") && !asks_for_some(method, parameters)
+}
+
+/// Whether changes are asked for that no feed gives.
+fn asks_for_other_changes(method: Method, parameters: &Parameters<'_>) -> bool
+    ensures { result ≡ asks_for_other_changes method parameters.now }
+{
+    asks_for_documents(parameters)
+        || asks_for_other_filter(method, parameters)
+        || is_there(parameters, "view")
 }
 
 /// The feed of this name.
@@ -80,23 +102,41 @@ fn read_since(parameters: &Parameters<'_>) -> Result<Since, Reason>
     Ok(Since::Number(since))
 }
 
-/// GET of the changes.
-pub(crate) fn read_changes(alloc: Global, query: &str) -> Result<Asked, Fault>
-    ensures { Decides result (changes_of (parameters_of query.now)) }
+/// The documents of which changes are asked for, where it is some of them. The body of another request is not read.
+fn read_wanted_ids(alloc: Global, some: bool, body: &[u8]) -> Result<Option<DocIds>, Fault>
+    ensures { Decides result (wanted_ids some body.now) }
+{
+    if !some {
+        return Ok(None);
+    }
+    let ids = read_doc_ids(alloc, body)?;
+    Ok(Some(ids))
+}
+
+/// GET or POST of the changes.
+pub(crate) fn read_changes(
+    alloc: Global,
+    method: Method,
+    query: &str,
+    body: &[u8],
+) -> Result<Asked, Fault>
+    ensures { Decides result (changes_of method (parameters_of query.now) body.now) }
 {
     let parameters = Parameters::read(alloc, query)?;
-    if asks_for_other_changes(&parameters) {
+    if asks_for_other_changes(method, &parameters) {
         return Err(Fault::Refused(Reason::Parameter));
     }
     let feed = read_feed(&parameters)?;
     let style = read_style(&parameters)?;
     let limit = read_number(&parameters, "limit")?;
     let since = read_since(&parameters)?;
+    let ids = read_wanted_ids(alloc, asks_for_some(method, &parameters), body)?;
     Ok(Asked::Changes(ChangesAsked {
         since,
         limit,
         style,
         feed,
+        ids,
     }))
 }
 

@@ -1,7 +1,7 @@
 //! What a request asks: its route, its method, and then what the route says.
 ghost use Rattle.std.specs.Prelude.{◌≡◌, [], ◌∷◌, Ok, IfOk};
 ghost use Rattle.model.specs.Command.{Edits};
-ghost use Rattle.http_request.specs.Decide.{asked_of, decide, delete_document, get_document, method_in, method_of, post_bulk, post_purge, post_revs_diff, put_document, put_revs_limit, route_in};
+ghost use Rattle.http_request.specs.Decide.{asked_of, decide, delete_document, get_document, method_in, method_of, post_bulk, post_purge, post_revs_diff, put_document, put_purged_infos_limit, put_revs_limit, route_in};
 ghost use Rattle.document_json.specs.Steps.{Checked, Decides};
 ghost use Rattle.http_request.specs.Rejections.{decided, DecidesSo};
 
@@ -71,12 +71,21 @@ fn read_route(
         }
         (Route::BulkDocs, Method::Post) => decide_by(read_bulk_docs(alloc, body)),
         (Route::AllDocs, Method::Get) => decide_by(read_all_docs(alloc, query)),
-        (Route::Changes, Method::Get) => decide_by(read_changes(alloc, query)),
+        (Route::Changes, Method::Get) => {
+            decide_by(read_changes(alloc, Method::Get, query, body))
+        }
+        (Route::Changes, Method::Post) => {
+            decide_by(read_changes(alloc, Method::Post, query, body))
+        }
         (Route::Local, Method::Get) => decide_by(read_local_query(alloc, path)),
         (Route::Local, Method::Put) => decide_by(read_local_put(alloc, path, query, body)),
         (Route::Local, Method::Delete) => decide_by(read_local_deletion(alloc, path, query)),
         (Route::Compact, Method::Post) => Ok(Asked::Command(Form::Whole, Command::compact())),
         (Route::Purge, Method::Post) => decide_by(read_purged(alloc, body)),
+        (Route::PurgedInfosLimit, Method::Get) => {
+            Ok(Asked::Query(Query::new(QueryKind::PurgedInfosLimit)))
+        }
+        (Route::PurgedInfosLimit, Method::Put) => decide_by(read_purged_infos_limit(alloc, body)),
         (Route::RevsDiff, Method::Post) => decide_by(read_revs_diff(alloc, body)),
         (Route::RevsLimit, Method::Get) => Ok(Asked::Query(Query::new(QueryKind::RevsLimit))),
         (Route::RevsLimit, Method::Put) => decide_by(read_revs_limit(alloc, body)),
@@ -215,6 +224,17 @@ fn read_revs_limit(alloc: Global, body: &[u8]) -> Result<Asked, Fault>
 {
     let limit = read_limit(alloc, body)?;
     let Some(command) = Command::set_limit(limit) else {
+        unreachable!()
+    };
+    Ok(Asked::Command(Form::Whole, command))
+}
+
+/// PUT of the limit of the purge log.
+fn read_purged_infos_limit(alloc: Global, body: &[u8]) -> Result<Asked, Fault>
+    ensures { Decides result (put_purged_infos_limit body.now) }
+{
+    let limit = read_limit(alloc, body)?;
+    let Some(command) = Command::set_purged_limit(limit) else {
         unreachable!()
     };
     Ok(Asked::Command(Form::Whole, command))

@@ -16,6 +16,7 @@ few_methods route.Changes = omega arith
 few_methods route.Compact = omega arith
 few_methods route.Local = omega arith
 few_methods route.Purge = omega arith
+few_methods route.PurgedInfosLimit = omega arith
 few_methods route.RevsDiff = omega arith
 few_methods route.RevsLimit = omega arith
 few_methods route.Document = omega arith

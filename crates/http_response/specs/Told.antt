@@ -3,9 +3,9 @@ use Rattle.std.specs.Prelude.{ℕ, List, [], ◌∷◌, Result, Ok, Err, codes, 
 use Rattle.serde_json.specs.Data.{Data, number, unsigned, array}
 use Rattle.serde_json.specs.View.{items_of}
 use Rattle.serde_json.specs.Written.{compact_text}
-use Rattle.model.specs.Command.{Id, Edit, Merge, Command, Compact, Edits, Merges, Purge, PutLocal, SetLimit, Reply, Wrote, WroteLocal, Purged, Done}
+use Rattle.model.specs.Command.{Id, Edit, Merge, Command, Compact, Edits, Merges, Purge, PutLocal, SetLimit, SetPurgedLimit, Reply, Wrote, WroteLocal, Purged, Done}
 use Rattle.model.specs.declared.refusal.Refusal.{Refusal}
-use Rattle.model.specs.Query.{Query, Get, OpenRevs, RevsDiff, Changes, AllDocuments, Info, GetLocal, RevsLimit, Answer, Document, Counted, Found, Limit, Changed, Differences, Documents, FoundLocal, Opened}
+use Rattle.model.specs.Query.{Query, Get, OpenRevs, RevsDiff, Changes, AllDocuments, Info, GetLocal, RevsLimit, PurgedInfosLimit, Answer, Document, Counted, Found, Limit, Changed, Differences, Documents, FoundLocal, Opened}
 use Rattle.model.specs.declared.absent.Absent.{Absent}
 use Rattle.model.specs.declared.absent.Absent.TheVariants.{IsMissing}
 use Rattle.model.specs.Revision.{Rev}
@@ -84,6 +84,7 @@ reply_told form (PutLocal id named body) (WroteLocal outcome) = told_local form 
 reply_told form.Whole (Purge named) (Purged purge_seq removed) =
     Some (status.Created, compact_text (purged_data purge_seq removed))
 reply_told form.Whole (SetLimit limit) Done = Some (done status.Ok)
+reply_told form.Whole (SetPurgedLimit limit) Done = Some (done status.Ok)
 reply_told form.Whole Compact Done = Some (done status.Accepted)
 reply_told form command reply = None
 
@@ -116,9 +117,10 @@ abbrev pub answer_told : Query → Answer → Option Told
 answer_told (Get id rev options) (Found found) = Some (found_told found)
 answer_told (OpenRevs id asked options) (Opened opened) = Some (told_data (all_opened_data opened))
 answer_told (RevsDiff named) (Differences differences) = Some (told_data (differences_data differences))
-answer_told (Changes since limit style) (Changed page) = Some (told_data (page_data page))
+answer_told (Changes since limit style ids) (Changed page) = Some (told_data (page_data page))
 answer_told AllDocuments (Documents documents) = Some (told_data (all_docs_data documents))
 answer_told Info (Counted counts) = Some (told_data (counts_data counts))
 answer_told (GetLocal id) (FoundLocal found) = Some (local_told id found)
 answer_told RevsLimit (Limit limit) = Some (told_data (number (unsigned limit)))
+answer_told PurgedInfosLimit (Limit limit) = Some (told_data (number (unsigned limit)))
 answer_told query answer = None

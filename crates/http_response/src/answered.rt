@@ -72,7 +72,7 @@ fn tell(
         (QueryKind::GetLocal(id), AnswerKind::FoundLocal(found)) => {
             Ok(Some(tell_local(alloc, id, found)?))
         }
-        (QueryKind::RevsLimit, AnswerKind::Limit(limit)) => {
+        (QueryKind::RevsLimit | QueryKind::PurgedInfosLimit, AnswerKind::Limit(limit)) => {
             Ok(Some(tell_text(number_text(alloc, *limit)?)))
         }
         _ => Ok(None),

@@ -69,6 +69,9 @@ fn tell(
         (Form::Whole, CommandKind::SetLimit(_), ReplyKind::Done) => {
             Ok(Some(tell_done(StatusCode::Ok)))
         }
+        (Form::Whole, CommandKind::SetPurgedLimit(_), ReplyKind::Done) => {
+            Ok(Some(tell_done(StatusCode::Ok)))
+        }
         (Form::Whole, CommandKind::Compact, ReplyKind::Done) => {
             Ok(Some(tell_done(StatusCode::Accepted)))
         }

@@ -21,6 +21,7 @@ routes =
     ∷ (Plain (codes "/db/_changes"), route.Changes)
     ∷ (Plain (codes "/db/_compact"), route.Compact)
     ∷ (WithId (codes "/db/_local/"), route.Local)
+    ∷ (Plain (codes "/db/_purged_infos_limit"), route.PurgedInfosLimit)
     ∷ (Plain (codes "/db/_purge"), route.Purge)
     ∷ (Plain (codes "/db/_revs_diff"), route.RevsDiff)
     ∷ (Plain (codes "/db/_revs_limit"), route.RevsLimit)
@@ -37,10 +38,11 @@ methods_of route.Database = method.Get ∷ []
 methods_of route.DatabaseSlash = method.Get ∷ []
 methods_of route.AllDocs = method.Get ∷ []
 methods_of route.BulkDocs = method.Post ∷ []
-methods_of route.Changes = method.Get ∷ []
+methods_of route.Changes = method.Get ∷ method.Post ∷ []
 methods_of route.Compact = method.Post ∷ []
 methods_of route.Local = method.Get ∷ method.Put ∷ method.Delete ∷ []
 methods_of route.Purge = method.Post ∷ []
+methods_of route.PurgedInfosLimit = method.Get ∷ method.Put ∷ []
 methods_of route.RevsDiff = method.Post ∷ []
 methods_of route.RevsLimit = method.Get ∷ method.Put ∷ []
 methods_of route.Document = method.Get ∷ method.Put ∷ method.Delete ∷ []

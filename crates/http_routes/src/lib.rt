@@ -36,6 +36,8 @@ pub enum Route {
     Local,
     /// `/db/_purge`
     Purge,
+    /// `/db/_purged_infos_limit`
+    PurgedInfosLimit,
     /// `/db/_revs_diff`
     RevsDiff,
     /// `/db/_revs_limit`
@@ -74,16 +76,17 @@ impl Route {
     {
         match self {
             Route::Root | Route::Database | Route::DatabaseSlash => &[Method::Get],
-            Route::AllDocs | Route::Changes => &[Method::Get],
+            Route::AllDocs => &[Method::Get],
+            Route::Changes => &[Method::Get, Method::Post],
             Route::BulkDocs | Route::Compact | Route::Purge | Route::RevsDiff => &[Method::Post],
-            Route::RevsLimit => &[Method::Get, Method::Put],
+            Route::PurgedInfosLimit | Route::RevsLimit => &[Method::Get, Method::Put],
             Route::Local | Route::Document => &[Method::Get, Method::Put, Method::Delete],
         }
     }
 }
 
 /// The paths of the routes, as `matchit` writes them.
-const TABLE: [(&str, Route); 12] = [
+const TABLE: [(&str, Route); 13] = [
     ("/", Route::Root),
     ("/db", Route::Database),
     ("/db/", Route::DatabaseSlash),
@@ -93,6 +96,7 @@ const TABLE: [(&str, Route); 12] = [
     ("/db/_compact", Route::Compact),
     ("/db/_local/{id}", Route::Local),
     ("/db/_purge", Route::Purge),
+    ("/db/_purged_infos_limit", Route::PurgedInfosLimit),
     ("/db/_revs_diff", Route::RevsDiff),
     ("/db/_revs_limit", Route::RevsLimit),
     ("/db/{id}", Route::Document),
