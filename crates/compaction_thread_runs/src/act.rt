@@ -20,6 +20,8 @@ pub(crate) enum Act {
     PutMany(usize),
     /// Purges so many of these by one command.
     PurgeMany(usize),
+    /// Has the log keep so many purges.
+    KeepPurges(u32),
     Compact,
     /// Sees what is published.
     Look,

@@ -25,14 +25,16 @@ pub(crate) enum Case {
     Crossed,
     Behind,
     Overrun,
+    Cut,
     Full,
     Met,
 }
 
-pub(crate) const CASES: [Case; 5] = [
+pub(crate) const CASES: [Case; 6] = [
     Case::Crossed,
     Case::Behind,
     Case::Overrun,
+    Case::Cut,
     Case::Full,
     Case::Met,
 ];
@@ -43,6 +45,7 @@ impl Case {
             Case::Crossed => CROSSED,
             Case::Behind => BEHIND,
             Case::Overrun => OVERRUN,
+            Case::Cut => CUT,
             Case::Full => FULL,
             Case::Met => MET,
         }
@@ -99,6 +102,24 @@ const OVERRUN: Script = Script {
     held: Some(Point::Sliced),
     held_acts: &[Act::PutMany(MANY), Act::Compact, Act::Look, Act::Compact],
     acts: &[Act::PurgeMany(MANY)],
+    last_acts: &[Act::Look],
+};
+
+const CUT: Script = Script {
+    name: "a lower limit of the log of purges while the first slice is held",
+    limits: Limits {
+        slice: 4096,
+        ..LIMITS
+    },
+    held: Some(Point::Sliced),
+    held_acts: &[
+        Act::Put('x'),
+        Act::Put('y'),
+        Act::Compact,
+        Act::Look,
+        Act::Compact,
+    ],
+    acts: &[Act::Purge('x'), Act::Purge('y'), Act::KeepPurges(1)],
     last_acts: &[Act::Look],
 };
 

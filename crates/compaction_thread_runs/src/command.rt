@@ -48,6 +48,7 @@ pub(crate) fn command_of(alloc: Global, act: Act) -> Option<Command> {
         Act::Purge(letter) => purge(alloc, id_of(alloc, letter)?, revision(Generation::First)?),
         Act::PutMany(count) => put_many(alloc, count),
         Act::PurgeMany(count) => purge_many(alloc, count),
+        Act::KeepPurges(limit) => Command::set_purged_limit(limit),
         Act::Compact | Act::Look | Act::Find(..) => None,
     }
 }

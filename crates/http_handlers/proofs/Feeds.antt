@@ -13,7 +13,7 @@ use Rattle.streams.specs.declared.traits.Failed.{Failed}
 use Rattle.model.specs.Query.{Row}
 use Rattle.model.specs.Database.{Database}
 use Rattle.model.specs.History.{IsLegal, now}
-use Rattle.model.specs.Changes.{every_id, last_seq_of, rows_since}
+use Rattle.model.specs.Changes.{last_seq_of, rows_since, wanted_by}
 use Rattle.model.specs.Told.{NoneFalls}
 use Rattle.http_response.specs.Feed.{feed_last_text}
 use Rattle.http_handlers.specs.Known.{Known, history_of}
@@ -151,14 +151,14 @@ gives_none k before after taken = record {
 
 -- the rows that a follower gave of what has been seen
 pub gives_rows : (k : Known) (before : Progress) {after : Progress} {rows : List Row} (most : ℕ)
-    → rows ≡ take most (rows_since every_id (now (history_of k)) before.follower.cursor before.follower.style)
+    → rows ≡ take most (rows_since (wanted_by before.follower.ids) (now (history_of k)) before.follower.cursor before.follower.style)
     → after.follower ≡ record before.follower { cursor = last_seq_of before.follower.cursor rows }
     → after.left + length rows ≡ before.left
     → GivesPiece k before (record { place = length k.seen; rows = rows }) after
 gives_rows k before most given moved left = record {
   within = omega arith;
   count = most;
-  rows = given ∙ ap (λ (d : Database). take most (rows_since every_id d before.follower.cursor before.follower.style)) (database_seen k);
+  rows = given ∙ ap (λ (d : Database). take most (rows_since (wanted_by before.follower.ids) d before.follower.cursor before.follower.style)) (database_seen k);
   follower = moved;
   left = left;
 }

@@ -3,7 +3,7 @@ use Rattle.std.proofs.Common.{◌≡◌, ℕ, suc, ◌+◌, ◌-◌, ◌<◌, �
 use Rattle.std.specs.Prelude.{IfErr, Result, cond}
 use Rattle.std.proofs.lemmas.List.{append-nil, append_cancel_left}
 use Rattle.model.specs.Map.{same_key}
-use Rattle.model.specs.Command.{Command, Edits, Merges, PutLocal, Purge, SetLimit, Compact, Entry, numbers}
+use Rattle.model.specs.Command.{Command, Edits, Merges, PutLocal, Purge, SetLimit, SetPurgedLimit, Compact, Entry, numbers}
 use Rattle.model.specs.History.{IsLegal, of_session}
 use Rattle.model.specs.World.{is_compact}
 use Rattle.model.proofs.ListLaws.{by_cases}
@@ -107,6 +107,7 @@ compacts (Merges merges) is = absurd (cc)
 compacts (PutLocal id named body) is = absurd (cc)
 compacts (Purge named) is = absurd (cc)
 compacts (SetLimit limit) is = absurd (cc)
+compacts (SetPurgedLimit limit) is = absurd (cc)
 
 pub fails_compaction : (command : Command) (r : Result ℕ CallFault) → is_compact command ≡ true → IfErr r (FailsFor CompactionFails) → IfErr r (FailsFor (CommandFails command))
 fails_compaction command r is fails = subst (λ (c : Command). IfErr r (FailsFor (CommandFails c))) (compacts command is) fails
@@ -118,6 +119,7 @@ fails_edit (Merges merges) r is fails = fails
 fails_edit (PutLocal id named body) r is fails = fails
 fails_edit (Purge named) r is fails = fails
 fails_edit (SetLimit limit) r is fails = fails
+fails_edit (SetPurgedLimit limit) r is fails = fails
 
 module _ (room : ℕ) (old new : KnownOfThreads) (legal : IsLegal opening_base (seen old)) (owns : SeesOwn old) where
   -- what is seen after a fault of a write

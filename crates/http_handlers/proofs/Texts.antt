@@ -1,8 +1,8 @@
 -- What is asked has a text: each reply to a command in a form in which it is asked, and each answer to a query.
 use Rattle.std.proofs.Common.{◌≡◌, ℕ, ◌-◌, [], ◌∷◌, Option, Some, None, refl, sym, subst}
 use Rattle.std.specs.Prelude.{IsSome, option_map}
-use Rattle.model.specs.Command.{Command, Edits, Merges, PutLocal, Purge, SetLimit, Compact, Reply, Entry}
-use Rattle.model.specs.Query.{Query, Get, OpenRevs, RevsDiff, Changes, AllDocuments, Info, GetLocal, RevsLimit, Answer}
+use Rattle.model.specs.Command.{Command, Edits, Merges, PutLocal, Purge, SetLimit, SetPurgedLimit, Compact, Reply, Entry}
+use Rattle.model.specs.Query.{Query, Get, OpenRevs, RevsDiff, Changes, AllDocuments, Info, GetLocal, RevsLimit, PurgedInfosLimit, Answer}
 use Rattle.model.specs.Database.{Database, reply_to}
 use Rattle.model.specs.History.{IsLegal}
 use Rattle.model.specs.Answers.{answer_to}
@@ -26,18 +26,21 @@ reply-told d form.Whole (Edits edits) fits = refl
 reply-told d form.Whole (Merges merges) fits = refl
 reply-told d form.Whole (Purge named) fits = refl
 reply-told d form.Whole (SetLimit limit) fits = refl
+reply-told d form.Whole (SetPurgedLimit limit) fits = refl
 reply-told d form.Whole Compact fits = refl
 reply-told d form.Put (Edits []) fits = absurd fits
 reply-told d form.Put (Edits (edit ∷ (more ∷ edits))) fits = absurd fits
 reply-told d form.Put (Merges merges) fits = absurd fits
 reply-told d form.Put (Purge named) fits = absurd fits
 reply-told d form.Put (SetLimit limit) fits = absurd fits
+reply-told d form.Put (SetPurgedLimit limit) fits = absurd fits
 reply-told d form.Put Compact fits = absurd fits
 reply-told d form.Delete (Edits []) fits = absurd fits
 reply-told d form.Delete (Edits (edit ∷ (more ∷ edits))) fits = absurd fits
 reply-told d form.Delete (Merges merges) fits = absurd fits
 reply-told d form.Delete (Purge named) fits = absurd fits
 reply-told d form.Delete (SetLimit limit) fits = absurd fits
+reply-told d form.Delete (SetPurgedLimit limit) fits = absurd fits
 reply-told d form.Delete Compact fits = absurd fits
 reply-told d form.Whole (PutLocal id named body) fits = absurd fits
 
@@ -47,11 +50,12 @@ unfolding answer_to
 answer-told d (Get id rev options) = refl
 answer-told d (OpenRevs id asked options) = refl
 answer-told d (RevsDiff named) = refl
-answer-told d (Changes since limit style) = refl
+answer-told d (Changes since limit style ids) = refl
 answer-told d AllDocuments = refl
 answer-told d Info = refl
 answer-told d (GetLocal id) = refl
 answer-told d RevsLimit = refl
+answer-told d PurgedInfosLimit = refl
 
 -- the reply of an entry of a legal history, whose command is asked for in this form
 pub entry-told : (k : Known) (place : ℕ) (entry : Entry) (form : Form) → IsLegal k.base k.seen → HasEntryAt k place entry → IsFormOf form entry.command → IsSome (reply_told form entry.command entry.reply)

@@ -4,7 +4,7 @@ use Rattle.std.specs.Prelude.{IfSome}
 use Rattle.std.specs.List.{FoldsTo, AllZip}
 use Rattle.std.proofs.lemmas.List.{append-nil}
 use Rattle.model.specs.Command.{Entry}
-use Rattle.model.specs.Changes.{every_id, rows_since}
+use Rattle.model.specs.Changes.{rows_since, wanted_by}
 use Rattle.model.specs.Database.{Database}
 use Rattle.model.specs.History.{IsLegal, of_session}
 use Rattle.model.specs.World.{WroteAt, Asked as AskedAt}
@@ -49,7 +49,7 @@ module _ (k : Known) (more : List Entry) where
   gives-append before piece after gives = record {
     within = omega (arith, gives.within, length-append k.seen more);
     count = gives.count;
-    rows = gives.rows ∙ ap (λ (d : Database). take gives.count (rows_since every_id d before.follower.cursor before.follower.style)) (database-more k more piece.place gives.within);
+    rows = gives.rows ∙ ap (λ (d : Database). take gives.count (rows_since (wanted_by before.follower.ids) d before.follower.cursor before.follower.style)) (database-more k more piece.place gives.within);
     follower = gives.follower;
     left = gives.left;
   }
@@ -61,7 +61,7 @@ module _ (k : Known) (more : List Entry) where
   pub ends-append : (after : Progress) (ending : Ending) → EndsFeed k after ending → EndsFeed (sees_more k more) after ending
   ends-append after ending ends = record {
     within = omega (arith, ends.within, length-append k.seen more);
-    counted = ends.counted ∙ ap (λ (d : Database). length (rows_since every_id d after.follower.cursor after.follower.style)) (database-more k more ending.place ends.within);
+    counted = ends.counted ∙ ap (λ (d : Database). length (rows_since (wanted_by after.follower.ids) d after.follower.cursor after.follower.style)) (database-more k more ending.place ends.within);
     all = ends.all;
   }
 

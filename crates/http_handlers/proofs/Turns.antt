@@ -3,7 +3,7 @@ use Rattle.std.proofs.Common.{◌≡◌, ℕ, ◌≤◌, Bool, List, [], ◌∷�
 use Rattle.std.proofs.lemmas.List.{append-nil, take_all}
 use Rattle.model.specs.Command.{Command, Entry}
 use Rattle.model.specs.Query.{Query}
-use Rattle.model.specs.Changes.{every_id, rows_since}
+use Rattle.model.specs.Changes.{rows_since, wanted_by}
 use Rattle.model.specs.Database.{Database}
 use Rattle.model.specs.History.{now, replay, of_session}
 use Rattle.model.specs.Answers.{answer_to}
@@ -209,20 +209,20 @@ answers_changes old new sent request closes closes_is looks changes query asks w
 
 -- where there was none, the changes are asked for before the look
 asks_before : (old new : Known) (request : Request) (changes : ChangesAsked) (query : Query) → Looks old new → decide request ≡ Ok (asked.Changes changes)
-    → changes.feed ≡ feed.LongPoll → rows_since every_id (now (history_of old)) (since_at (now (history_of old)) changes.since) changes.style ≡ []
+    → changes.feed ≡ feed.LongPoll → rows_since (wanted_by changes.ids) (now (history_of old)) (since_at (now (history_of old)) changes.since) changes.style ≡ []
     → query ≡ changes_query (now (history_of old)) changes → AsksQuery new (Requested request) (length old.seen) (length new.seen) query
 asks_before old new request changes query looks asks polls none query_is =
     inr (record {
       changes = changes;
       asked = asks;
       waits = subst (λ (f : Feed). MayWait f (database_at new (length old.seen)) changes (length old.seen) (length new.seen)) (sym polls)
-          (inr (subst (λ (d : Database). rows_since every_id d (since_at d changes.since) changes.style ≡ []) (database_before old new looks) none));
+          (inr (subst (λ (d : Database). rows_since (wanted_by changes.ids) d (since_at d changes.since) changes.style ≡ []) (database_before old new looks) none));
       query_is = query_is ∙ ap (λ (d : Database). changes_query d changes) (database_before old new looks);
     })
 
 pub answers_polled : (old new : Known) (sent : Sent) (request : Request) (closes : Bool) (closes_is : request.closes ≡ closes) → Looks old new
     → (changes : ChangesAsked) (query : Query) → decide request ≡ Ok (asked.Changes changes) → changes.feed ≡ feed.LongPoll
-    → rows_since every_id (now (history_of old)) (since_at (now (history_of old)) changes.since) changes.style ≡ []
+    → rows_since (wanted_by changes.ids) (now (history_of old)) (since_at (now (history_of old)) changes.since) changes.style ≡ []
     → query ≡ changes_query (now (history_of old)) changes
     → SendsDue (answer_text (length new.seen) (after_closing closes) query (answer_to (now (history_of new)) query)) closes (length new.seen) memory_for.Call sent
     → Answers old (turn_of (Requested request) sent) new

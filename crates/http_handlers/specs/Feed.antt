@@ -3,7 +3,7 @@ use Rattle.std.specs.Prelude.{◌≡◌, ◌⊎◌, ℕ, ◌+◌, ◌≤◌, Lis
 use Rattle.std.specs.List.{flat_map}
 use Rattle.model.specs.Query.{Row}
 use Rattle.model.specs.Database.{Database}
-use Rattle.model.specs.Changes.{every_id, last_seq_of, rows_since}
+use Rattle.model.specs.Changes.{last_seq_of, rows_since, wanted_by}
 use Rattle.changes_feed.specs.Followed.{Following}
 use Rattle.http_request.specs.declared.changes.ChangesAsked.{ChangesAsked}
 use Rattle.answer_json.specs.Changes.{feed_line}
@@ -42,15 +42,15 @@ ending_places (Some ending) = ending.place ∷ []
 abbrev pub feed_places : List Piece → Option Ending → List ℕ
 feed_places pieces ending = map (λ piece. piece.place) pieces ++ ending_places ending
 
--- it begins after the number that is asked for, with as many rows to give as are asked for
+-- it begins after the number that is asked for, with the documents and as many rows to give as are asked for
 abbrev pub feed_start : Database → ChangesAsked → Progress
-feed_start d changes = record { follower = record { cursor = since_at d changes.since; style = changes.style }; left = most_rows changes.limit }
+feed_start d changes = record { follower = record { cursor = since_at d changes.since; style = changes.style; ids = changes.ids }; left = most_rows changes.limit }
 
 -- by what a session knows
 module _ (k : Known) where
   -- the rows above the cursor at a place
   abbrev pub rows_at : ℕ → Following → List Row
-  rows_at place follower = rows_since every_id (database_at k place) follower.cursor follower.style
+  rows_at place follower = rows_since (wanted_by follower.ids) (database_at k place) follower.cursor follower.style
 
   -- A piece has the first rows above the cursor, some or all, and no more than are still to give.
   pub record GivesPiece (before : Progress) (piece : Piece) (after : Progress) : Type 0 where

@@ -1,5 +1,5 @@
 -- What a worker does with the session that it is lent.
-use Rattle.std.specs.Prelude.{◌≡◌, ℕ, ◌<◌, ◌≤◌, List, length}
+use Rattle.std.specs.Prelude.{ℕ, ◌<◌, ◌≤◌, List, length}
 use Rattle.std.specs.List.{FoldsTo}
 use Rattle.serving.specs.Served.{Streams}
 use Rattle.serving.specs.declared.outcome.Ended.{Ended}

@@ -63,7 +63,8 @@ pub trait Calls<X>: Viewer {
             → length (Self.known self.new).seen ≡ (Self.known self.new).room };
 
     /// Looks at most `turns` times, and once where that is 0, until what was seen has an update
-    /// number above `seq`, and says whether it has. It takes no memory.
+    /// number above `seq`, and says whether it has. It takes no memory. Calls of one turn, one after
+    /// another, last as long as one call of as many turns.
     ///
     /// # Errors
     ///

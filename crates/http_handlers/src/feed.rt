@@ -15,6 +15,7 @@ use crate::progress::{Progress, lines};
 use crate::reading::since_seen;
 use crate::response::send;
 use crate::setting::Setting;
+use crate::waiting::wait_for_changes;
 use http_request::{Asked, ChangesAsked, Feed, Since};
 use http_response::{feed_head, feed_last};
 use std::alloc::{AllocError, Global};
@@ -63,7 +64,7 @@ fn follow_seen<X, S: Calls<X>, W: Sink>(
         (W.failed_writes writer.new) result }
 {
     let since = since_seen(session, changes.since);
-    let start = Progress::new(since, changes.limit, changes.style);
+    let start = Progress::new(since, changes);
     let head = feed_head(session.place());
     let Ok(()) = write_all(writer, head.as_bytes()) else {
         return Err(Failed);
@@ -98,7 +99,7 @@ fn go_on<X, S: Calls<X>, W: Sink>(
         if progress.left == 0 {
             return finish(writer, &progress, pending);
         }
-        match has_more(session, setting, pending) {
+        match has_more(session, setting, &progress, pending) {
             Ok(true) => {}
             Ok(false) => return finish(writer, &progress, pending),
             Err(_) => return Ok(true),
@@ -107,10 +108,11 @@ fn go_on<X, S: Calls<X>, W: Sink>(
     Ok(true)
 }
 
-/// Whether there is more to look at: rows that are left, or updates that come within the wait.
+/// Whether there is more to look at: rows that are left, or changes that come within the wait.
 fn has_more<X, S: Calls<X>>(
     session: &mut S,
     setting: &Setting<'_, X>,
+    progress: &Progress,
     pending: u64,
 ) -> Result<bool, CallFault>
     ensures looks { Looks (S.known session.old) (S.known session.new) }
@@ -120,11 +122,9 @@ fn has_more<X, S: Calls<X>>(
     if pending > 0 {
         return Ok(true);
     }
-    session.wait_past(
-        setting.context,
-        since_seen(session, Since::Now),
-        setting.turns,
-    )
+    let seen = since_seen(session, Since::Now);
+    let follower = &progress.follower;
+    wait_for_changes(session, setting, seen, follower.cursor(), follower.ids())
 }
 
 /// Writes the next rows of what has been seen, and answers how many are left. Nothing where memory
@@ -146,8 +146,7 @@ fn give<S: Viewer, W: Sink>(
     let Ok(()) = write_all(writer, text.as_bytes()) else {
         return Err(Failed);
     };
-    let cursor = progress.follower.cursor();
-    Ok(Some(session.version().database().count_changed_since(cursor)))
+    Ok(Some(progress.follower.pending(session.version())))
 }
 
 /// The next rows of what has been seen, at most as many as are written at once.

@@ -16,6 +16,7 @@ mod response;
 mod session;
 mod setting;
 mod turn;
+mod waiting;
 mod writing;
 
 pub use calls::{CallFault, Calls, Viewer};

@@ -6,6 +6,8 @@ ghost use Rattle.http_handlers.specs.Changes.{most_rows};
 
 use answer_json::feed_line;
 use changes_feed::Follower;
+use document_id::DocIds;
+use http_request::ChangesAsked;
 use model::Style;
 use queries::Row;
 use std::alloc::{AllocError, Global};
@@ -21,18 +23,35 @@ pub(crate) struct Progress {
 }
 
 impl Progress {
-    /// Gives the rows above `since`, at most `limit` of them where there is a limit. A limit of 0
+    /// Gives the rows above `since` that are asked for, at most as many as the limit says where there is one. A limit of 0
     /// acts as 1.
-    pub(crate) fn new(since: u64, limit: Option<u64>, style: Style) -> Progress
+    pub(crate) fn new(since: u64, changes: ChangesAsked) -> Progress
         ensures { result ≡ record {
-          follower = record { cursor = since; style = style };
-          left = most_rows limit;
+          follower = record { cursor = since; style = changes.style; ids = changes.ids };
+          left = most_rows changes.limit;
         } }
     {
+        let ChangesAsked {
+            since: _,
+            limit,
+            style,
+            feed: _,
+            ids,
+        } = changes;
         Progress {
-            follower: Follower::new(since, style),
+            follower: follower_of(since, style, ids),
             left: most_rows(limit),
         }
+    }
+}
+
+/// A follower of the changes above `since`, of some documents where a set is given.
+fn follower_of(since: u64, style: Style, ids: Option<DocIds>) -> Follower
+    ensures { result ≡ record { cursor = since; style = style; ids = ids } }
+{
+    match ids {
+        Some(ids) => Follower::filtered(since, style, ids),
+        None => Follower::new(since, style),
     }
 }
 

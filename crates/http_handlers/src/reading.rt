@@ -1,5 +1,5 @@
 //! Queries, and their answers.
-ghost use Rattle.std.specs.Prelude.{◌≡◌, [], length, false, Ok, Some, IfOk, IsSome};
+ghost use Rattle.std.specs.Prelude.{◌≡◌, length, Ok, Some, IfOk, IsSome};
 ghost use Rattle.http_framing.specs.Input.{Requested};
 ghost use Rattle.http_framing.specs.Request as framing;
 ghost use Rattle.http_request.specs.Decide.{decide};
@@ -8,11 +8,10 @@ ghost use Rattle.http_response.specs.Told.{answer_told};
 ghost use Rattle.http_response.specs.declared.memory.MemoryFor.TheVariants as memory_for;
 ghost use Rattle.model.specs.History.{now};
 ghost use Rattle.model.specs.Answers.{answer_to};
-ghost use Rattle.model.specs.Changes.{every_id, rows_since};
-ghost use Rattle.model.specs.declared.style.Style.{Style};
+ghost use Rattle.model.specs.Query.{Changes};
 ghost use Rattle.http_handlers.specs.Answers.{Answers};
 ghost use Rattle.http_handlers.specs.Known.{history_of};
-ghost use Rattle.http_handlers.specs.Changes.{changes_query, since_at};
+ghost use Rattle.http_handlers.specs.Changes.{since_at};
 ghost use Rattle.http_handlers.specs.Outcome.{after_closing};
 ghost use Rattle.http_handlers.specs.Response.{SendsDue, turn_of};
 
@@ -20,6 +19,7 @@ use crate::calls::{Calls, Viewer};
 use crate::failing::fail;
 use crate::response::{Sent, connection_after};
 use crate::setting::Setting;
+use crate::waiting::{has_changes, wait_for_changes};
 use changes_feed::answer;
 use http_request::{Asked, ChangesAsked, Feed, Since};
 use http_response::{Connection, MemoryFor, Response};
@@ -54,8 +54,8 @@ pub(crate) fn read_changes<S: Viewer>(
 {
     match session.refresh() {
         Ok(()) => {
-            let query = changes_query(session, changes);
-            read_seen(session, alloc, &query, closes)
+            let since = since_seen(session, changes.since);
+            read_since(session, alloc, since, changes, closes)
         }
         Err(fault) => fail(session, fault, closes),
     }
@@ -95,22 +95,13 @@ fn poll_seen<X, S: Calls<X>>(
 {
     let _place = session.place();
     let since = since_seen(session, changes.since);
-    let query = changes_query(session, changes);
-    if has_changes(session, since) {
-        return read_seen(session, setting.alloc, &query, closes);
+    if has_changes(session, since, &changes.ids) {
+        return read_since(session, setting.alloc, since, changes, closes);
     }
-    match session.wait_past(setting.context, since, setting.turns) {
-        Ok(_past) => read_seen(session, setting.alloc, &query, closes),
+    match wait_for_changes(session, setting, since, since, &changes.ids) {
+        Ok(_found) => read_since(session, setting.alloc, since, changes, closes),
         Err(fault) => fail(session, fault, closes),
     }
-}
-
-/// Whether documents that have been seen have an update number above `since`.
-fn has_changes<S: Viewer>(session: &S, since: u64) -> bool
-    ensures { (style : Style) → result ≡ false
-        → rows_since every_id (now (history_of (S.known session.now))) since style ≡ [] }
-{
-    session.version().database().count_changed_since(since) > 0
 }
 
 /// The update number above which changes are asked for, at what has been seen.
@@ -123,14 +114,39 @@ pub(crate) fn since_seen<S: Viewer>(session: &S, since: Since) -> u64
     }
 }
 
-/// The query for the changes that are asked for, at what has been seen.
-fn changes_query<S: Viewer>(session: &S, changes: ChangesAsked) -> Query
-    ensures { result ≡ changes_query (now (history_of (S.known session.now))) changes }
+/// Answers which of the changes that are asked for have been seen above `since`.
+fn read_since<S: Viewer>(
+    session: &S,
+    alloc: Global,
+    since: u64,
+    changes: ChangesAsked,
+    closes: bool,
+) -> Sent
+    ensures { let query = Changes since changes.limit changes.style changes.ids in
+        SendsDue (answer_text (length (S.known session.now).seen) (after_closing closes)
+        query (answer_to (now (history_of (S.known session.now))) query))
+        closes (length (S.known session.now).seen) memory_for.Call result }
 {
+    let query = changes_query(since, changes);
+    read_seen(session, alloc, &query, closes)
+}
+
+/// The query for the changes that are asked for, above `since`.
+fn changes_query(since: u64, changes: ChangesAsked) -> Query
+    ensures { result ≡ Changes since changes.limit changes.style changes.ids }
+{
+    let ChangesAsked {
+        since: _,
+        limit,
+        style,
+        feed: _,
+        ids,
+    } = changes;
     Query::new(QueryKind::Changes {
-        since: since_seen(session, changes.since),
-        limit: changes.limit,
-        style: changes.style,
+        since,
+        limit,
+        style,
+        ids,
     })
 }
 

@@ -16,7 +16,7 @@ returns-in_default-clause-turn g c =
     let k = g.S.Viewer.known c.args.session.now in
     let changes = c.args.changes in
     let start = c.new-start.result in
-    let start_is : start ≡ feed_start (now (history_of k)) changes = c.new-start.ensures ∙ (λ i. record { follower = record { cursor = c.since_seen-since.ensures i; style = changes.style }; left = most_rows changes.limit }) in
+    let start_is : start ≡ feed_start (now (history_of k)) changes = c.new-start.ensures ∙ (λ i. record { follower = record { cursor = c.since_seen-since.ensures i; style = changes.style; ids = changes.ids }; left = most_rows changes.limit }) in
     let head : c.as_bytes.result.now ≡ feed_head_text (length k.seen) = c.as_bytes.ensures.value ∙ c.deref.ensures.0 ∙ c.feed_head-head.ensures.head ∙ ap feed_head_text c.place.ensures.place in
     writes_fed k k request changes asks c.requires start start_is [] (goes_cut (going-start k start c.place.ensures.legal)) _ _ _
     (tt, cut_as _ _ c.as_bytes.result.now (feed_head_text (length k.seen) ++ []) (head ∙ sym (append-nil (feed_head_text (length k.seen)))) c.in_default.ensures.written.1) tt
@@ -27,7 +27,7 @@ returns-clause-turn g c =
     let k = g.S.Viewer.known c.args.session.now in
     let changes = c.args.changes in
     let start = c.new-start.result in
-    let start_is : start ≡ feed_start (now (history_of k)) changes = c.new-start.ensures ∙ (λ i. record { follower = record { cursor = c.since_seen-since.ensures i; style = changes.style }; left = most_rows changes.limit }) in
+    let start_is : start ≡ feed_start (now (history_of k)) changes = c.new-start.ensures ∙ (λ i. record { follower = record { cursor = c.since_seen-since.ensures i; style = changes.style; ids = changes.ids }; left = most_rows changes.limit }) in
     let head : c.as_bytes.result.now ≡ feed_head_text (length k.seen) = c.as_bytes.ensures.value ∙ c.deref.ensures.0 ∙ c.feed_head-head.ensures.head ∙ ap feed_head_text c.place.ensures.place in
     let goes = c.go_on.ensures.goes_on in
     writes_fed k _ request changes asks c.requires start start_is goes.0 goes.1 _ _ _

@@ -2,7 +2,7 @@ use Rattle.std.proofs.Common.{List, length, take, refl, ap, ◌∙◌, arith}
 use Rattle.std.specs.List.{flat_map}
 use Rattle.model.specs.Query.{Row}
 use Rattle.model.specs.History.{Chronicle, now}
-use Rattle.model.specs.Changes.{every_id, rows_since}
+use Rattle.model.specs.Changes.{rows_since, wanted_by}
 use Rattle.answer_json.specs.Changes.{feed_line}
 use Rattle.http_handlers.proofs.Feeds.{few, gives_rows}
 use Rattle.http_handlers.proofs.feed.next_lines.Goals as goal
@@ -13,7 +13,7 @@ returns g c =
     let before = c.args.progress.now in
     let most = c.min-most.result in
     let fit = few most before.left _ c.in_ok-rows.ensures.rows (omega arith) in
-    let rows = c.in_ok-rows.ensures.rows ∙ ap (λ (h : Chronicle). take most (rows_since every_id (now h) before.follower.cursor before.follower.style)) c.version.ensures in (
+    let rows = c.in_ok-rows.ensures.rows ∙ ap (λ (h : Chronicle). take most (rows_since (wanted_by before.follower.ids) (now h) before.follower.cursor before.follower.style)) c.version.ensures in (
       record { place = length k.seen; rows = c.in_ok-rows.rows.items },
       gives_rows k before most rows c.in_ok-rows.ensures.cursor (omega (arith, fit, c.len.ensures)),
       refl,

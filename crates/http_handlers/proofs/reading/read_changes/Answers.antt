@@ -1,3 +1,5 @@
+use Rattle.std.proofs.Common.{ℕ, ap}
+use Rattle.model.specs.Query.{Changes}
 use Rattle.http_request.specs.declared.asked.Asked.TheVariants as asked
 use Rattle.http_handlers.proofs.Turns.{answers_changes, answers_fault, never_full, reads_at_once}
 use Rattle.http_handlers.proofs.reading.read_changes.Goals as goal
@@ -5,8 +7,9 @@ use Rattle.http_handlers.proofs.reading.read_changes.Goals as goal
 pub returns-in-Ok : goal.returns-in-Ok
 returns-in-Ok g c =
     λ request asks closes_is.
-    answers_changes _ _ _ request c.args.closes closes_is c.in-Ok.ensures.looks c.args.changes c.changes_query-query.result asks
-    (reads_at_once _ c.args.changes c.requires) c.changes_query-query.ensures c.read_seen.ensures
+    let changes = c.args.changes in
+    answers_changes _ _ _ request c.args.closes closes_is c.in-Ok.ensures.looks changes (Changes c.since_seen-since.result changes.limit changes.style changes.ids) asks
+    (reads_at_once _ changes c.requires) (ap (λ (n : ℕ). Changes n changes.limit changes.style changes.ids) c.since_seen-since.ensures) c.read_since.ensures
 
 pub returns-in-Err : goal.returns-in-Err
 returns-in-Err g c =

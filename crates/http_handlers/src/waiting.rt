@@ -1,0 +1,78 @@
+//! Waits for changes.
+ghost use Rattle.std.specs.Prelude.{◌≡◌, [], false, IfErr};
+ghost use Rattle.model.specs.History.{now};
+ghost use Rattle.model.specs.Changes.{rows_since, wanted_by};
+ghost use Rattle.model.specs.declared.style.Style.{Style};
+ghost use Rattle.http_handlers.specs.Calls.{FailsFor, LookFails, Looks};
+ghost use Rattle.http_handlers.specs.Known.{history_of};
+
+use crate::calls::{CallFault, Calls, Viewer};
+use crate::setting::Setting;
+use changes_feed::count_wanted;
+use document_id::DocIds;
+
+/// Whether documents that are wanted have been seen with an update number above `since`.
+pub(crate) fn has_changes<S: Viewer>(session: &S, since: u64, ids: &Option<DocIds>) -> bool
+    ensures { (style : Style) → result ≡ false
+        → rows_since (wanted_by ids.now) (now (history_of (S.known session.now))) since style ≡ [] }
+{
+    count_wanted(session.version(), since, ids) > 0
+}
+
+/// Waits until an update number above `past` has been seen. Where some documents alone are wanted, it waits until one of
+/// them has been seen with a number above `cursor`. It says whether that came while the wait lasted.
+pub(crate) fn wait_for_changes<X, S: Calls<X>>(
+    session: &mut S,
+    setting: &Setting<'_, X>,
+    past: u64,
+    cursor: u64,
+    ids: &Option<DocIds>,
+) -> Result<bool, CallFault>
+    ensures looks { Looks (S.known session.old) (S.known session.new) }
+    ensures fault { IfErr result (FailsFor LookFails) }
+{
+    match ids {
+        Some(_) => wait_for_some(session, setting, cursor, ids),
+        None => session.wait_past(setting.context, past, setting.turns),
+    }
+}
+
+/// Waits turn by turn, as often as a wait looks, until one of the documents has been seen with a number above `cursor`.
+fn wait_for_some<X, S: Calls<X>>(
+    session: &mut S,
+    setting: &Setting<'_, X>,
+    cursor: u64,
+    ids: &Option<DocIds>,
+) -> Result<bool, CallFault>
+    ensures looks { Looks (S.known session.old) (S.known session.new) }
+    ensures fault { IfErr result (FailsFor LookFails) }
+{
+    let _place = session.place();
+    for _turn in 0..setting.turns.max(1) {
+        match wait_a_turn(session, setting, cursor, ids) {
+            Ok(true) => return Ok(true),
+            Ok(false) => {}
+            Err(fault) => return Err(fault),
+        }
+    }
+    Ok(false)
+}
+
+/// Waits for one turn, and says whether one of the documents has a number above `cursor` among the updates that came with
+/// it: of those seen before none has.
+fn wait_a_turn<X, S: Calls<X>>(
+    session: &mut S,
+    setting: &Setting<'_, X>,
+    cursor: u64,
+    ids: &Option<DocIds>,
+) -> Result<bool, CallFault>
+    ensures looks { Looks (S.known session.old) (S.known session.new) }
+    ensures fault { IfErr result (FailsFor LookFails) }
+{
+    let seen = session.version().database().documents().update_seq();
+    match session.wait_past(setting.context, seen, 1) {
+        Ok(true) => Ok(has_changes(session, cursor.max(seen), ids)),
+        Ok(false) => Ok(false),
+        Err(fault) => Err(fault),
+    }
+}
