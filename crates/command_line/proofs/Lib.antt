@@ -2,3 +2,4 @@ pub mod Words
 pub mod Given
 pub mod Runs
 pub mod Built
+pub mod Lists

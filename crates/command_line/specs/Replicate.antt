@@ -1,21 +1,30 @@
 -- The words of `couchd replicate`.
-use Rattle.std.specs.Prelude.{◌≡◌, ◌≢◌, ◌≤◌, true, List, [], ◌∷◌, Option, Some, length, codes, string_bytes}
+use Rattle.std.specs.Prelude.{◌≡◌, ◌≢◌, ◌≤◌, true, List, [], ◌∷◌, map, Option, Some, None, option_map, length, codes, string_bytes}
 use Rattle.std.specs.Net.Grammar.{IsSocketText}
 use Rattle.std.specs.declared.net.socket_addr.SocketAddr.{SocketAddr}
 use Rattle.clap.specs.Words.{App, Row, Rule, Text, new_app, new_rule, with_rule, first_of}
+use Rattle.command_line.specs.DocIds.{ids_listed}
 use Rattle.command_line.specs.declared.replicate.Replicating.{Replicating}
 
 -- an option of this name, which has to be given
 abbrev pub text_option : Text → Rule
 text_option name = record (new_rule name) { long = Some name; value_names = 1; required = true }
 
--- `couchd replicate` with its options
-abbrev pub replicate : App
-replicate =
+-- an option of this name, which may be left out
+abbrev pub optional_text : Text → Rule
+optional_text name = record (new_rule name) { long = Some name; value_names = 1 }
+
+-- `couchd replicate` with the options that have to be given
+abbrev pub replicate_all : App
+replicate_all =
     with_rule (with_rule (with_rule (new_app (codes "replicate"))
     (text_option (codes "source")))
     (text_option (codes "target")))
     (text_option (codes "id"))
+
+-- `couchd replicate` with its options
+abbrev pub replicate : App
+replicate = with_rule replicate_all (optional_text (codes "doc-ids"))
 
 -- the text writes this address and port
 abbrev pub IsAddressOf : Option Text → SocketAddr → Type 0
@@ -30,8 +39,14 @@ BeginsPlain (byte ∷ rest) = byte ≢ 95
 abbrev pub IsIdOf : Option Text → Text → Type 0
 IsIdOf given id = (given ≡ Some id) × BeginsPlain id × (length id ≤ 512)
 
+-- the list has these ids, or none is given
+abbrev pub IsListOf : Option Text → Option (List Text) → Type 0
+IsListOf None ids = ids ≡ None
+IsListOf (Some list) ids = (listed : List Text) × (ids_listed list ≡ Some listed) × (ids ≡ Some listed)
+
 -- each is the one that the words give
 pub record IsReplicatingOf (given : List Row) (replicating : Replicating) : Type 0 where
   pub source : IsAddressOf (first_of (codes "source") given) replicating.source
   pub target : IsAddressOf (first_of (codes "target") given) replicating.target
   pub id : IsIdOf (first_of (codes "id") given) (string_bytes replicating.id)
+  pub doc_ids : IsListOf (first_of (codes "doc-ids") given) (option_map (λ texts. map string_bytes texts.items) replicating.doc_ids)

@@ -59,6 +59,10 @@ pub(crate) const NO_TARGET: &str = "the target is no numeric address with a port
 /// What is said of an id that is none.
 pub(crate) const NO_ID: &str = "the id has not 1 to 512 bytes, or begins with '_'";
 
+/// What is said of a list of documents that is none.
+pub(crate) const NO_DOC_IDS: &str =
+    "the list of documents has an id that is no text of 1 to 512 bytes";
+
 /// The fault that a parse ends with.
 pub(crate) fn fault(alloc: Global, error: &clap::Error) -> WordsFault
     ensures memory { kind_of error.now ≡ OutOfMemory → result ≡ WordsFault.Memory }

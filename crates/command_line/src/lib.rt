@@ -7,6 +7,7 @@ ghost use Rattle.clap.specs.declared.builder.command.Command.TheViews.{out-Comma
 ghost use Rattle.command_line.specs.Couchd.{couchd, IsRunOf, NamesNoRun};
 
 mod arguments;
+mod doc_ids;
 mod faults;
 mod lines;
 mod numbers;
@@ -21,7 +22,7 @@ use lines::{program, with_subcommand};
 pub use numbers::Serving;
 use numbers::{serve, serving_of};
 pub use replicate::Replicating;
-use replicate::{given_in, replicate};
+use replicate::{GivenFault, replicate, replicating_of};
 use std::alloc::{AllocError, Global};
 use std::convert::AsStr;
 
@@ -102,9 +103,10 @@ pub fn read_words<S: AsStr>(alloc: Global, words: &[S]) -> Result<Run, WordsFaul
             Some(serving) => Ok(Run::Serve(serving)),
             None => Err(refuse(alloc, couchd(alloc), OUT_OF_RANGE)),
         },
-        "replicate" => match given_in(options) {
-            Ok(given) => Ok(Run::Replicate(given.into_replicating(alloc)?)),
-            Err(reason) => Err(refuse(alloc, couchd(alloc), reason)),
+        "replicate" => match replicating_of(alloc, options) {
+            Ok(replicating) => Ok(Run::Replicate(replicating)),
+            Err(GivenFault::Words(reason)) => Err(refuse(alloc, couchd(alloc), reason)),
+            Err(GivenFault::Memory) => Err(WordsFault::Memory),
         },
         _ => unreachable!(),
     }

@@ -1,11 +1,13 @@
 //! The words of `couchd replicate`.
-ghost use Rattle.std.specs.Prelude.{◌≡◌, ◌≤◌, ◌↔◌, false, length, IfOk, IfErr, IfSome, IfNone, IsTrue, codes, string_bytes};
+ghost use Rattle.std.specs.Prelude.{◌≡◌, ◌≤◌, ◌↔◌, false, List, length, Err, IfOk, IfSome, IfNone, IsTrue, Option, map, option_map, string_bytes, codes};
 ghost use Rattle.std.specs.declared.net.socket_addr.SocketAddr.{SocketAddr};
 ghost use Rattle.clap.specs.Words.{Text, app_of, first_of, found_of, rows_of, rule_of};
 ghost use Rattle.clap.specs.declared.builder.command.Command.TheViews.{out-Command as fields_of};
-ghost use Rattle.command_line.specs.Replicate.{replicate, text_option, BeginsPlain, IsAddressOf, IsIdOf, IsReplicatingOf};
+ghost use Rattle.command_line.specs.declared.replicate.GivenFault.TheVariants.{Memory};
+ghost use Rattle.command_line.specs.Replicate.{replicate, replicate_all, optional_text, text_option, BeginsPlain, IsAddressOf, IsIdOf, IsListOf, IsReplicatingOf};
 
-use crate::faults::{NO_ID, NO_SOURCE, NO_TARGET};
+use crate::doc_ids::ids_listed;
+use crate::faults::{NO_DOC_IDS, NO_ID, NO_SOURCE, NO_TARGET};
 use crate::numbers::with_option;
 use clap::{Arg, ArgMatches, Command};
 use std::alloc::{AllocError, Global};
@@ -22,13 +24,24 @@ pub struct Replicating {
     /// Where the database is that they are brought to.
     pub target: SocketAddr,
     /// The id of the checkpoints, of 1 to 512 bytes, of which the first is not `_`. It is to belong to
-    /// this source and this target alone.
+    /// this source, this target and these documents alone.
     pub id: String,
+    /// The ids of the documents that are brought, each of 1 to 512 bytes; all documents are where no
+    /// list was given.
+    pub doc_ids: Option<Vec<String>>,
 }
 
 /// The subcommand, as `clap` takes it.
 pub(crate) fn replicate<'a>(alloc: Global) -> Result<Command<'a>, AllocError>
     ensures app { IfOk result (λ c. app_of c ≡ replicate) }
+    ensures local { IfOk result (λ c. (fields_of c).has_globals ≡ false) }
+{
+    with_option(replicate_all(alloc)?, doc_ids(alloc))
+}
+
+/// The subcommand with the options that have to be given.
+fn replicate_all<'a>(alloc: Global) -> Result<Command<'a>, AllocError>
+    ensures app { IfOk result (λ c. app_of c ≡ replicate_all) }
     ensures local { IfOk result (λ c. (fields_of c).has_globals ≡ false) }
 {
     let source = text_option(alloc, "source", "HOST:PORT").help(
@@ -46,6 +59,19 @@ pub(crate) fn replicate<'a>(alloc: Global) -> Result<Command<'a>, AllocError>
     with_option(replicate, id)
 }
 
+/// The option for a list of documents.
+fn doc_ids<'a>(alloc: Global) -> Arg<'a>
+    ensures rule { rule_of result ≡ optional_text (codes "doc-ids") }
+    ensures local { result.global ≡ false }
+{
+    Arg::new(alloc, "doc-ids")
+        .long("doc-ids")
+        .value_name("IDS")
+        .help(
+            "Brings these documents alone: ids between commas, a comma or '%' in one escaped as in a path; an ID goes with one list",
+        )
+}
+
 /// An option that has to be given.
 fn text_option<'a>(alloc: Global, name: &'a str, value_name: &'a str) -> Arg<'a>
     ensures rule { rule_of result ≡ text_option name.entry.now }
@@ -57,47 +83,48 @@ fn text_option<'a>(alloc: Global, name: &'a str, value_name: &'a str) -> Arg<'a>
         .required(true)
 }
 
-/// What the words of the subcommand give, as they give it.
+/// Why the words of the subcommand name no replication.
 #[derive(Clone, Copy)]
-pub(crate) struct Given<'a> {
-    source: SocketAddr,
-    target: SocketAddr,
-    id: &'a str,
+pub(crate) enum GivenFault {
+    /// Memory was refused.
+    Memory,
+    /// One of them can't be read: what is said of the first.
+    Words(&'static str),
 }
 
-impl<'a> Given<'a> {
-    /// The same, with an id of its own.
-    pub(crate) fn into_replicating(self, alloc: Global) -> Result<Replicating, AllocError>
-        ensures source { IfOk result (λ replicating. replicating.source ≡ self.entry.source) }
-        ensures target { IfOk result (λ replicating. replicating.target ≡ self.entry.target) }
-        ensures id { IfOk result (λ replicating. string_bytes replicating.id ≡ self.entry.id.now) }
-    {
-        Ok(Replicating {
-            source: self.source,
-            target: self.target,
-            id: String::from_str(alloc, self.id)?,
-        })
+impl From<AllocError> for GivenFault {
+    ghost from_gives = { λ _ fault. fault ≡ Memory };
+
+    fn from(_refused: AllocError) -> GivenFault {
+        GivenFault::Memory
     }
 }
 
-/// What the words of the subcommand give, or what is said of the first of them that can't be read.
-pub(crate) fn given_in<'a>(options: &ArgMatches<'a>) -> Result<Given<'a>, &'static str>
-    ensures source { IfOk result (λ given. IsAddressOf (first_of (codes "source") (rows_of (found_of options.now))) given.source) }
-    ensures target { IfOk result (λ given. IsAddressOf (first_of (codes "target") (rows_of (found_of options.now))) given.target) }
-    ensures id { IfOk result (λ given. IsIdOf (first_of (codes "id") (rows_of (found_of options.now))) given.id.now) }
-    ensures none { IfErr result (λ _. (replicating : Replicating)
-        → IsReplicatingOf (rows_of (found_of options.now)) replicating → ⊥) }
+/// What the words of the subcommand give.
+pub(crate) fn replicating_of(
+    alloc: Global,
+    options: &ArgMatches<'_>,
+) -> Result<Replicating, GivenFault>
+    ensures given { IfOk result (IsReplicatingOf (rows_of (found_of options.now))) }
+    ensures none { (reason : _) → result ≡ Err (GivenFault.Words reason)
+        → (replicating : Replicating) → IsReplicatingOf (rows_of (found_of options.now)) replicating → ⊥ }
 {
     let Some(source) = address_of(options, "source") else {
-        return Err(NO_SOURCE);
+        return Err(GivenFault::Words(NO_SOURCE));
     };
     let Some(target) = address_of(options, "target") else {
-        return Err(NO_TARGET);
+        return Err(GivenFault::Words(NO_TARGET));
     };
     let Some(id) = id_of(options) else {
-        return Err(NO_ID);
+        return Err(GivenFault::Words(NO_ID));
     };
-    Ok(Given { source, target, id })
+    let doc_ids = read_list(alloc, list_of(options))?;
+    Ok(Replicating {
+        source,
+        target,
+        id: String::from_str(alloc, id)?,
+        doc_ids,
+    })
 }
 
 /// The address that was given under this name; nothing where the text is none.
@@ -139,4 +166,28 @@ fn is_id(bytes: &[u8]) -> bool
         [] => false,
         [first, ..] => *first != b'_' && bytes.len() <= MAX_ID,
     }
+}
+
+/// The list of documents that was given.
+fn list_of<'a>(options: &ArgMatches<'a>) -> Option<&'a str>
+    ensures { option_map (λ list. list.now) result
+        ≡ first_of (codes "doc-ids") (rows_of (found_of options.now)) }
+{
+    options.get_str("doc-ids")
+}
+
+/// The documents of a list, if there is one.
+fn read_list(alloc: Global, list: Option<&str>) -> Result<Option<Vec<String>>, GivenFault>
+    ensures given { IfOk result (λ ids. IsListOf (option_map (λ l. l.now) list.entry)
+        (option_map (λ texts. map string_bytes texts.items) ids)) }
+    ensures none { (reason : _) → result ≡ Err (GivenFault.Words reason)
+        → (ids : Option (List Text)) → IsListOf (option_map (λ l. l.now) list.entry) ids → ⊥ }
+{
+    let Some(list) = list else {
+        return Ok(None);
+    };
+    let Some(ids) = ids_listed(alloc, list)? else {
+        return Err(GivenFault::Words(NO_DOC_IDS));
+    };
+    Ok(Some(ids))
 }

@@ -1,8 +1,9 @@
 //! `couchd replicate`: the changes of one database are brought to another over two connections.
 
 use command_line::Replicating;
-use document_id::DocId;
+use document_id::{DocId, DocIds};
 use replicating::{Watch, run_replication};
+use std::alloc::{AllocError, Global};
 use std::io;
 use std::io::IsTerminal;
 use std::net::{SocketAddr, TcpStream};
@@ -33,6 +34,10 @@ pub(crate) fn replicate(rt: &HostRuntime, replicating: &Replicating) -> io::Resu
         let _printed = eprintln!(rt; "couchd: no memory");
         return Ok(ExitCode::FAILURE);
     };
+    let Ok(ids) = listed(rt.alloc(), &replicating.doc_ids) else {
+        let _printed = eprintln!(rt; "couchd: no memory");
+        return Ok(ExitCode::FAILURE);
+    };
     let Some(source) = connect(rt, "source", replicating.source) else {
         return Ok(ExitCode::FAILURE);
     };
@@ -46,6 +51,7 @@ pub(crate) fn replicate(rt: &HostRuntime, replicating: &Replicating) -> io::Resu
     let report = run_replication(
         rt.alloc(),
         id,
+        ids,
         (Stream::new(&source), Stream::new(&source)),
         (Stream::new(&target), Stream::new(&target)),
         lines,
@@ -57,6 +63,15 @@ pub(crate) fn replicate(rt: &HostRuntime, replicating: &Replicating) -> io::Resu
         report.ending()
     )?;
     Ok(ExitCode::from(report.exit_status()))
+}
+
+/// The documents of the list, if one was given.
+fn listed(alloc: Global, ids: &Option<Vec<String>>) -> Result<Option<DocIds>, AllocError> {
+    let Some(ids) = ids else {
+        return Ok(None);
+    };
+    let texts: Vec<&str> = ids.iter().map(|id| id.as_str()).collect(alloc)?;
+    Ok(Some(DocIds::named(alloc, &texts)?))
 }
 
 /// A connection to one end; nothing where it can't be reached, which is said.

@@ -15,6 +15,12 @@ is_unreserved byte = is_ascii_alphanumeric byte || byte == 45 || byte == 46 || b
 abbrev pub changes_target : ℕ → ℕ → List ℕ
 changes_target since limit = codes "/db/_changes?style=all_docs&since=" ++ (decimal since ++ (codes "&limit=" ++ decimal limit))
 
+-- the changes of the documents that the body lists, above a number, at most so many rows, with all leaves of each
+-- CouchDB: POST /{db}/_changes, "filter", "since", "limit", "style"
+abbrev pub filtered_changes_target : ℕ → ℕ → List ℕ
+filtered_changes_target since limit =
+    codes "/db/_changes?style=all_docs&filter=_doc_ids&since=" ++ (decimal since ++ (codes "&limit=" ++ decimal limit))
+
 -- a local document
 -- CouchDB: GET /{db}/_local/{docid}
 abbrev pub local_target : AsciiSet → List ℕ → List ℕ

@@ -2,7 +2,8 @@
 //! come back.
 //!
 //! A request is one text: [`request_text`] makes it of a method, a target and a body, and
-//! [`changes_target`], [`open_revs_target`] and [`local_target`] make the targets. Responses come one
+//! [`changes_target`], [`filtered_changes_target`], [`open_revs_target`] and [`local_target`] make the
+//! targets. Responses come one
 //! after another from a source into an [`Incoming`], which reads each byte once and keeps what has come
 //! of the next.
 #![tactic(auto)]
@@ -17,4 +18,6 @@ mod target;
 pub use front::ResponseSpans;
 pub use incoming::{Incoming, ResponseFault};
 pub use request::request_text;
-pub use target::{SEGMENT, changes_target, local_target, open_revs_target};
+pub use target::{
+    SEGMENT, changes_target, filtered_changes_target, local_target, open_revs_target,
+};

@@ -1,7 +1,7 @@
 //! The targets of requests.
 ghost use Rattle.std.specs.Prelude.{◌≡◌, IfOk, string_bytes};
 ghost use Rattle.percent_encoding.specs.Percent.{percent_encode};
-ghost use Rattle.http_client.specs.Target.{changes_target, local_target, open_revs_query, open_revs_target};
+ghost use Rattle.http_client.specs.Target.{changes_target, filtered_changes_target, local_target, open_revs_query, open_revs_target};
 
 use form_urlencoded::Serializer;
 use percent_encoding::{AsciiSet, NON_ALPHANUMERIC, ascii_set, percent_encode};
@@ -26,6 +26,18 @@ pub fn changes_target(alloc: Global, since: u64, limit: u64) -> Result<String, A
     ensures target { IfOk result (λ text. string_bytes text ≡ changes_target since limit) }
 {
     format!(in alloc; "/db/_changes?style=all_docs&since={since}&limit={limit}")
+}
+
+/// The target of at most so many changes above a number, of the documents that the request's body
+/// lists, with all leaves of each.
+///
+/// # Errors
+///
+/// Memory may be refused.
+pub fn filtered_changes_target(alloc: Global, since: u64, limit: u64) -> Result<String, AllocError>
+    ensures target { IfOk result (λ text. string_bytes text ≡ filtered_changes_target since limit) }
+{
+    format!(in alloc; "/db/_changes?style=all_docs&filter=_doc_ids&since={since}&limit={limit}")
 }
 
 /// The target of a local document.

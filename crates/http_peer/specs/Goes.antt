@@ -2,7 +2,7 @@
 use Rattle.std.specs.Prelude.{◌≡◌, ℕ, List, Err}
 use Rattle.http_client.specs.Response.{Response}
 use Rattle.http_client.specs.declared.target.TheConstants.{SEGMENT}
-use Rattle.peer_requests.specs.Requests.{bulk_request, changes_request, diff_request, local_get_request, local_put_request, open_revs_request}
+use Rattle.peer_requests.specs.Requests.{bulk_request, changes_request_of, diff_request, local_get_request, local_put_request, open_revs_request}
 use Rattle.replicator.specs.Call.{Call, Changes, Diff, OpenRevs, Bulk, LocalGet, LocalPut}
 use Rattle.replicator.specs.declared.fault.PeerFault.TheVariants as fault
 use Rattle.http_peer.specs.Asked.{fault_of}
@@ -12,7 +12,7 @@ use Rattle.http_peer.specs.Told.{Answers, Told, bulk_told, checkpoint_told, coun
 -- the request of a call
 -- CouchDB: "CouchDB Replication Protocol", "Replication Protocol Algorithm"
 abbrev pub request_of : Call → List ℕ
-request_of (Changes since limit answer) = changes_request since limit
+request_of (Changes ids since limit answer) = changes_request_of ids since limit
 request_of (Diff asked answer) = diff_request asked
 request_of (OpenRevs id revs answer) = open_revs_request SEGMENT id revs
 request_of (Bulk documents answer) = bulk_request documents
@@ -29,7 +29,7 @@ IsAnswerTo (Answered response behind) told answer = Answers answer (told respons
 
 -- the call has its answer from the exchange
 abbrev pub Tells : Exchange → Call → Type 0
-Tells exchange (Changes since limit answer) = IsAnswerTo exchange page_told answer
+Tells exchange (Changes ids since limit answer) = IsAnswerTo exchange page_told answer
 Tells exchange (Diff asked answer) = IsAnswerTo exchange differences_told answer
 Tells exchange (OpenRevs id revs answer) = IsAnswerTo exchange opened_told answer
 Tells exchange (Bulk documents answer) = IsAnswerTo exchange bulk_told answer

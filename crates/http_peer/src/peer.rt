@@ -13,11 +13,11 @@ use crate::told::{
     bulk_told, checkpoint_told, counter_told, differences_told, opened_told, page_told,
 };
 use commands::{Merge, NamedRevisions};
-use document_id::DocId;
+use document_id::{DocId, DocIds};
 use http_client::{Incoming, ResponseFault, ResponseSpans};
 use peer_requests::{
-    bulk_request, changes_request, diff_request, local_get_request, local_put_request,
-    open_revs_request,
+    bulk_request, changes_request, diff_request, filtered_changes_request, local_get_request,
+    local_put_request, open_revs_request,
 };
 use queries::{ChangesPage, Differences};
 use replicator::{Checkpoint, Opened, Peer, PeerFault};
@@ -159,6 +159,22 @@ impl<R: Source, W: Sink> Peer for HttpPeer<R, W> {
 
     fn changes(&mut self, alloc: Global, since: u64, limit: u64) -> Result<ChangesPage, PeerFault> {
         let request = changes_request(alloc, since, limit)?;
+        let response = self.ask(request.as_str())?;
+        let page = page_told(alloc, response.status, self.body(response));
+        self.take(response);
+        page
+    }
+
+    /// One request has the whole list. A server that takes no body so large refuses it, which is
+    /// [`PeerFault::Unreadable`].
+    fn changes_of(
+        &mut self,
+        alloc: Global,
+        ids: &DocIds,
+        since: u64,
+        limit: u64,
+    ) -> Result<ChangesPage, PeerFault> {
+        let request = filtered_changes_request(alloc, ids, since, limit)?;
         let response = self.ask(request.as_str())?;
         let page = page_told(alloc, response.status, self.body(response));
         self.take(response);

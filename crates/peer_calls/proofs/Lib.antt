@@ -3,6 +3,7 @@ mod Bytes
 mod Checkpoints
 mod Decided
 mod Differing
+mod Filtered
 mod Heads
 mod Lists
 mod Merging

@@ -1,5 +1,5 @@
 -- The calls that read, as they are taken.
-use Rattle.std.proofs.Common.{◌≡◌, ◌≢◌, ℕ, ◌^◌, ◌<◌, ◌≤◌, Bool, true, false, List, [], ◌∷◌, ◌++◌, length, decimal, Option, Some, Ok, refl, sym, ap, ◌∙◌, arith, All, lit<, lit≤, true≢false}
+use Rattle.std.proofs.Common.{◌≡◌, ◌≢◌, ℕ, ◌^◌, ◌<◌, ◌≤◌, Bool, true, false, List, [], ◌∷◌, ◌++◌, length, decimal, Option, Some, None, Ok, refl, sym, ap, ◌∙◌, arith, All, lit<, lit≤, true≢false}
 use Rattle.std.specs.Prelude.{codes, unwrap_or, if◌then◌else◌}
 use Rattle.std.specs.Char.{is_ascii_digit}
 use Rattle.std.specs.List.{AllPass}
@@ -67,7 +67,7 @@ number_read n low =
       (decimal_is_IsNumeral n small).1,
     ) refl
 
-no_word : (ds : List ℕ) → AllPass is_ascii_digit ds → bytes_eq (codes "now") ds ≡ false
+pub no_word : (ds : List ℕ) → AllPass is_ascii_digit ds → bytes_eq (codes "now") ds ≡ false
 no_word [] h = refl
 no_word (d ∷ ds) h = rw (ne_eqb 110 d (λ e. other d (sym e) (All-head (λ b. is_ascii_digit b ≡ true) d ds h))) refl
   where
@@ -81,20 +81,20 @@ abbrev asks : Bool → Option ℕ → Option ℕ → Checked Asked
 asks now limit since =
     and_then (and_then (or_refused limit reason.Parameter) (λ n. Ok (Some n))) (λ limit.
     and_then (if now then Ok Now else and_then (and_then (or_refused since reason.Parameter) (λ n. Ok (Some n))) (λ since. Ok (Number (unwrap_or since 0)))) (λ since.
-    Ok (asked.Changes (record { since = since; limit = limit; style = AllDocs; feed = Normal }))))
+    Ok (asked.Changes (record { since = since; limit = limit; style = AllDocs; feed = Normal; ids = None }))))
 
-changes_asked : (since limit : ℕ) → changes_of (changes_pairs since limit) ≡ asks (bytes_eq (codes "now") (decimal since)) (number (decimal limit)) (number (decimal since))
+changes_asked : (since limit : ℕ) → changes_of method.Get (changes_pairs since limit) [] ≡ asks (bytes_eq (codes "now") (decimal since)) (number (decimal limit)) (number (decimal since))
 changes_asked since limit = refl
 
 pub changes_taken : (since limit : ℕ) → since < 10 ^ 18 → limit < 10 ^ 18
-    → IsTakenAs (changes_request since limit) (asked.Changes (record { since = Number since; limit = Some limit; style = AllDocs; feed = Normal }))
+    → IsTakenAs (changes_request since limit) (asked.Changes (record { since = Number since; limit = Some limit; style = AllDocs; feed = Normal; ids = None }))
 changes_taken since limit p q =
     let p64 : since < 2 ^ 64 = omega arith in
     let q64 : limit < 2 ^ 64 = omega arith in
     let request = request_with (codes "GET") (changes_target since limit) [] in
     taken (codes "GET") (changes_target since limit) [] _ is_get (is_changes_target since limit p64 q64) (lit≤ tt)
     (found request (codes "/db/_changes") route.Changes method.Get (changes_path since limit) changes_route refl
-    ∙ ap (λ parameters. decided (changes_of parameters)) (changes_read since limit p64 q64)
+    ∙ ap (λ parameters. decided (changes_of method.Get parameters [])) (changes_read since limit p64 q64)
     ∙ ap decided (changes_asked since limit)
     ∙ ap (λ now. decided (asks now (number (decimal limit)) (number (decimal since)))) (no_word (decimal since) (digits since p64))
     ∙ ap (λ n. decided (asks false n (number (decimal since)))) (number_read limit q)

@@ -28,21 +28,21 @@ use Rattle.peer_calls.proofs.Queries.{AreTexts, read_pairs}
 in_range : (b : ℕ) → (nat_le 33 b && nat_le b 126) ≡ true → IsInk b
 in_range b h = let parts = and_parts _ _ h in (leb-true 33 b parts.0, leb-true b 126 parts.1)
 
-ink : (bs : List ℕ) → list_all (λ b. nat_le 33 b && nat_le b 126) bs ≡ true → All IsInk bs
+pub ink : (bs : List ℕ) → list_all (λ b. nat_le 33 b && nat_le b 126) bs ≡ true → All IsInk bs
 ink bs h = All-weaker (λ b. (nat_le 33 b && nat_le b 126) ≡ true) IsInk in_range bs (AllPass-from_list_all (λ b. nat_le 33 b && nat_le b 126) bs h)
 
 digit_ink : (b : ℕ) → is_ascii_digit b ≡ true → IsInk b
 digit_ink b h = (grind (arith, nat_tests), grind (arith, nat_tests))
 
-decimal_ink : (n : ℕ) → n < 2 ^ 64 → All IsInk (decimal n)
+pub decimal_ink : (n : ℕ) → n < 2 ^ 64 → All IsInk (decimal n)
 decimal_ink n small = All-weaker (λ b. is_ascii_digit b ≡ true) IsInk digit_ink (decimal n) (digits n small)
 
 -- ---- texts
 
-ascii : (bs : List ℕ) → list_all (λ b. nat_lt b 128) bs ≡ true → IsUtf8 bs
+pub ascii : (bs : List ℕ) → list_all (λ b. nat_lt b 128) bs ≡ true → IsUtf8 bs
 ascii bs h = IsUtf8-from_ascii bs (IsAscii-from_all bs (All-weaker (λ b. nat_lt b 128 ≡ true) (λ b. b < 128) (λ b t. ltb-true b 128 t) bs (AllPass-from_list_all (λ b. nat_lt b 128) bs h)))
 
-decimal_text : (n : ℕ) → n < 2 ^ 64 → IsUtf8 (decimal n)
+pub decimal_text : (n : ℕ) → n < 2 ^ 64 → IsUtf8 (decimal n)
 decimal_text n small = IsUtf8-from_ascii (decimal n) (IsAscii-decimal n small)
 
 -- ---- the changes
@@ -50,7 +50,7 @@ decimal_text n small = IsUtf8-from_ascii (decimal n) (IsAscii-decimal n small)
 abbrev pub changes_pairs : ℕ → ℕ → List (List ℕ × List ℕ)
 changes_pairs since limit = (codes "style", codes "all_docs") ∷ (codes "since", decimal since) ∷ (codes "limit", decimal limit) ∷ []
 
-unchanged : (bs : List ℕ) → AllPass is_ascii_digit bs → byte_serialize bs ≡ bs
+pub unchanged : (bs : List ℕ) → AllPass is_ascii_digit bs → byte_serialize bs ≡ bs
 unchanged [] h = byte_serialize-nil
 unchanged (b ∷ bs) h =
     byte_serialize-cons b bs
@@ -60,7 +60,7 @@ unchanged (b ∷ bs) h =
     kept : (d : ℕ) → is_ascii_digit d ≡ true → is_unchanged d ≡ true
     kept d digit = grind (arith, nat_tests)
 
-joined : (form : List ℕ) → 0 < length form → separator form ≡ 38 ∷ []
+pub joined : (form : List ℕ) → 0 < length form → separator form ≡ 38 ∷ []
 joined form some = cond-true _ _ _ (lt-ltb 0 _ some)
 
 written : (s l : List ℕ) → extend_pairs [] ((codes "style", codes "all_docs") ∷ (codes "since", s) ∷ (codes "limit", l) ∷ [])

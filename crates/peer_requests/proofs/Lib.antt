@@ -1,1 +1,2 @@
 mod BulkTexts
+mod DocIdsTexts

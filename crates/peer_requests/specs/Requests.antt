@@ -11,12 +11,29 @@ use Rattle.document_json.specs.Written.{counter_text, merge_data, revs_data}
 use Rattle.answer_json.specs.Objects.{members_from}
 use Rattle.answer_json.specs.Purge.{named_leaves}
 use Rattle.http_client.specs.Request.{request_text}
-use Rattle.http_client.specs.Target.{changes_target, local_target, open_revs_target}
+use Rattle.http_client.specs.Target.{changes_target, filtered_changes_target, local_target, open_revs_target}
 
 -- the changes above a number, at most so many rows
 -- CouchDB: GET /{db}/_changes
 abbrev pub changes_request : ℕ → ℕ → List ℕ
 changes_request since limit = request_text (codes "GET") (changes_target since limit) []
+
+-- `{"doc_ids":[i,..]}`
+-- CouchDB: POST /{db}/_changes, "doc_ids"
+abbrev pub doc_ids_data : List Id → Data
+doc_ids_data ids = object (member (codes "doc_ids") (array (items_of (map string ids))) no_members)
+
+-- the changes of these documents above a number, at most so many rows
+-- CouchDB: POST /{db}/_changes, "filter"
+abbrev pub filtered_changes_request : List Id → ℕ → ℕ → List ℕ
+filtered_changes_request ids since limit =
+    request_text (codes "POST") (filtered_changes_target since limit) (compact_text (doc_ids_data ids))
+
+-- the changes of all documents, or of some where they are named
+-- CouchDB: GET and POST /{db}/_changes
+abbrev pub changes_request_of : Option (List Id) → ℕ → ℕ → List ℕ
+changes_request_of None since limit = changes_request since limit
+changes_request_of (Some ids) since limit = filtered_changes_request ids since limit
 
 -- revisions of a document, whose id has these bytes escaped
 -- CouchDB: GET /{db}/{docid}, "open_revs"

@@ -1,5 +1,5 @@
 -- What is told of a whole replication.
-use Rattle.std.specs.Prelude.{◌≡◌, ℕ, ◌^◌, ◌-◌, List, nat_lt, if◌then◌else◌, Result, Ok, Err, codes}
+use Rattle.std.specs.Prelude.{◌≡◌, ℕ, ◌^◌, ◌-◌, List, Option, nat_lt, if◌then◌else◌, Result, Ok, Err, codes}
 use Rattle.model.specs.Command.{Id}
 use Rattle.replicator.specs.declared.fault.PeerFault.{PeerFault}
 use Rattle.replicator.specs.declared.fault.PeerFault.TheVariants as fault
@@ -19,18 +19,18 @@ batch = 100
 abbrev pub most_steps : ℕ
 most_steps = 2 ^ 64 - 1
 
--- a worker that has asked nothing
-abbrev pub fresh : Id → Known
-fresh id = record { id = id; batch = batch; stage = Unread }
+-- a worker that has asked nothing, with checkpoints of this id, for these documents or for all
+abbrev pub fresh : Id → Option (List Id) → Known
+fresh id ids = record { job = record { id = id; batch = batch; ids = ids }; stage = Unread }
 
 -- The run of one worker between two ends, from the beginning on: the documents that the source gave and those of the
 -- bulks that the target took are counted, how it ended is told, and the calls of each end that failed.
-pub record Replicates {S T : Type 0} (source_goes : S → Call → S → Type 0) (target_goes : T → Call → T → Type 0) (source_failures : S → ℕ) (target_failures : T → ℕ) (id : Id) (source : S) (target : T) (report : Report) : Type 0 where
+pub record Replicates {S T : Type 0} (source_goes : S → Call → S → Type 0) (target_goes : T → Call → T → Type 0) (source_failures : S → ℕ) (target_failures : T → ℕ) (id : Id) (ids : Option (List Id)) (source : S) (target : T) (report : Report) : Type 0 where
   pub worker : Known
   pub source_after : S
   pub target_after : T
   pub run : IsRun (Counts source_goes) (Counts target_goes)
-      (record { worker = fresh id; source = uncounted source; target = uncounted target })
+      (record { worker = fresh id ids; source = uncounted source; target = uncounted target })
       most_steps report.ended
       (record {
         worker = worker;

@@ -5,7 +5,7 @@ ghost use Rattle.replicating.specs.Counted.{Counts, and_more};
 
 use crate::watch::Watch;
 use commands::{Merge, NamedRevisions};
-use document_id::DocId;
+use document_id::{DocId, DocIds};
 use queries::{ChangesPage, Differences};
 use replicator::{Checkpoint, Opened, Peer, PeerFault};
 use revision_id::RevId;
@@ -84,6 +84,16 @@ impl<P: Peer, W: Watch> Peer for Counted<P, W> {
 
     fn changes(&mut self, alloc: Global, since: u64, limit: u64) -> Result<ChangesPage, PeerFault> {
         self.peer.changes(alloc, since, limit)
+    }
+
+    fn changes_of(
+        &mut self,
+        alloc: Global,
+        ids: &DocIds,
+        since: u64,
+        limit: u64,
+    ) -> Result<ChangesPage, PeerFault> {
+        self.peer.changes_of(alloc, ids, since, limit)
     }
 
     fn diff(&mut self, alloc: Global, asked: &NamedRevisions) -> Result<Differences, PeerFault> {

@@ -1,34 +1,34 @@
 //! A replication from its beginning to its end.
-ghost use Rattle.std.specs.Prelude.{◌≡◌, [], true};
+ghost use Rattle.std.specs.Prelude.{◌≡◌, [], None, Some, true};
 ghost use Rattle.http_peer.specs.Connection.{Connection};
 ghost use Rattle.http_peer.specs.Goes.{Goes};
-ghost use Rattle.replicating.specs.Report.{Replicates};
+ghost use Rattle.replicating.specs.Report.{Replicates, fresh};
 
 use crate::counted::Counted;
 use crate::report::Report;
 use crate::watch::{Unwatched, Watch};
-use document_id::DocId;
+use document_id::{DocId, DocIds};
 use http_peer::HttpPeer;
 use replicator::{MAX_BATCH, Peer, Worker};
 use std::alloc::Global;
 use streams::{Sink, Source};
 
-/// Brings all changes of a source to a target, with checkpoints of this id, and tells of each batch.
-/// It ends where there are no more changes, or at the first fault.
+/// Brings the changes of a source to a target, those of some documents alone where they are named, with
+/// checkpoints of this id, and tells of each batch. It ends where there are no more changes, or at the
+/// first fault.
 pub(crate) fn replicate<S: Peer + Drop, T: Peer + Drop, W: Watch + Drop>(
     alloc: Global,
     id: DocId,
+    ids: Option<DocIds>,
     source: S,
     target: T,
     watch: W,
 ) -> Report
-    ensures { Replicates S.goes T.goes S.failed_calls T.failed_calls id source target result }
+    ensures { Replicates S.goes T.goes S.failed_calls T.failed_calls id ids source target result }
 {
     let mut source = Counted::new(source, watch);
     let mut target = Counted::new(target, Unwatched);
-    let Some(mut worker) = Worker::new(id, MAX_BATCH) else {
-        unreachable!()
-    };
+    let mut worker = worker_of(id, ids);
     let ended = worker.run(alloc, &mut source, &mut target, u64::MAX);
     Report {
         documents_read: source.passed(),
@@ -39,16 +39,48 @@ pub(crate) fn replicate<S: Peer + Drop, T: Peer + Drop, W: Watch + Drop>(
     }
 }
 
-/// Brings all changes of one database to another, each reached over a connection: requests go to its
-/// sink, and answers come from its source.
+/// A worker that has asked nothing, for these documents or for all.
+fn worker_of(id: DocId, ids: Option<DocIds>) -> Worker
+    ensures { result ≡ fresh id ids }
+{
+    match ids {
+        Some(ids) => worker_for_some(id, ids),
+        None => worker_for_all(id),
+    }
+}
+
+fn worker_for_some(id: DocId, ids: DocIds) -> Worker
+    ensures { result ≡ fresh id (Some ids) }
+{
+    let Some(worker) = Worker::filtered(id, MAX_BATCH, ids) else {
+        unreachable!()
+    };
+    worker
+}
+
+fn worker_for_all(id: DocId) -> Worker
+    ensures { result ≡ fresh id None }
+{
+    let Some(worker) = Worker::new(id, MAX_BATCH) else {
+        unreachable!()
+    };
+    worker
+}
+
+/// Brings the changes of one database to another, those of some documents alone where they are named.
+/// Each database is reached over a connection: requests go to its sink, and answers come from its
+/// source.
+///
+/// The id is to belong to this source, this target and these documents alone, as that of a
+/// [`Worker`].
 pub fn run_replication<
     A: Source + Drop,
     B: Sink + Drop,
     C: Source + Drop,
     D: Sink + Drop,
     W: Watch + Drop,
->(alloc: Global, id: DocId, source: (A, B), target: (C, D), watch: W) -> Report
-    ensures { Replicates Goes Goes (λ c. c.failed_calls) (λ c. c.failed_calls) id
+>(alloc: Global, id: DocId, ids: Option<DocIds>, source: (A, B), target: (C, D), watch: W) -> Report
+    ensures { Replicates Goes Goes (λ c. c.failed_calls) (λ c. c.failed_calls) id ids
         (record {
           left = A.left source.0;
           failed_reads = A.failed_reads source.0;
@@ -71,5 +103,5 @@ pub fn run_replication<
 {
     let source = HttpPeer::new(alloc, source.0, source.1);
     let target = HttpPeer::new(alloc, target.0, target.1);
-    replicate(alloc, id, source, target, watch)
+    replicate(alloc, id, ids, source, target, watch)
 }

@@ -1,6 +1,6 @@
 //! The cases.
 
-use crate::conflict::LOSER;
+use crate::documents::{Documents, LOSER};
 use crate::flaw::Flaw;
 
 /// Which worker makes the second run.
@@ -12,10 +12,11 @@ pub(crate) enum Second {
     IfRefusedMemory,
 }
 
-/// The ends of the first run, and the second one.
+/// What the source has, the ends of the first run, and the second one.
 #[derive(Clone, Copy)]
 pub(crate) struct Script {
     pub(crate) name: &'static str,
+    pub(crate) documents: Documents,
     pub(crate) source: Flaw,
     pub(crate) target: Flaw,
     pub(crate) second: Second,
@@ -29,17 +30,20 @@ pub(crate) enum Case {
     SourceFails,
     LeftOut,
     Refused,
+    /// Of three documents one is brought.
+    Filtered,
     /// One run, and a second one only where memory was refused.
     Retried,
 }
 
 /// The cases that are told with no words.
-pub(crate) const CASES: [Case; 5] = [
+pub(crate) const CASES: [Case; 6] = [
     Case::Plain,
     Case::TargetFails,
     Case::SourceFails,
     Case::LeftOut,
     Case::Refused,
+    Case::Filtered,
 ];
 
 impl Case {
@@ -50,6 +54,7 @@ impl Case {
             Case::SourceFails => SOURCE_FAILS,
             Case::LeftOut => LEFT_OUT,
             Case::Refused => REFUSED,
+            Case::Filtered => FILTERED,
             Case::Retried => RETRIED,
         }
     }
@@ -57,6 +62,15 @@ impl Case {
 
 const PLAIN: Script = Script {
     name: "two leaves come to an empty target",
+    documents: Documents::Conflict,
+    source: Flaw::None,
+    target: Flaw::None,
+    second: Second::SameWorker,
+};
+
+const FILTERED: Script = Script {
+    name: "one document of three comes to an empty target",
+    documents: Documents::Three,
     source: Flaw::None,
     target: Flaw::None,
     second: Second::SameWorker,
@@ -64,6 +78,7 @@ const PLAIN: Script = Script {
 
 const TARGET_FAILS: Script = Script {
     name: "the target takes the bulk and fails",
+    documents: Documents::Conflict,
     source: Flaw::None,
     target: Flaw::FailsAfterBulk,
     second: Second::NewWorker,
@@ -71,6 +86,7 @@ const TARGET_FAILS: Script = Script {
 
 const SOURCE_FAILS: Script = Script {
     name: "the source fails at its checkpoint",
+    documents: Documents::Conflict,
     source: Flaw::FailsAtCheckpoint,
     target: Flaw::None,
     second: Second::NewWorker,
@@ -78,6 +94,7 @@ const SOURCE_FAILS: Script = Script {
 
 const LEFT_OUT: Script = Script {
     name: "the source leaves a revision out",
+    documents: Documents::Conflict,
     source: Flaw::LeavesOut(LOSER),
     target: Flaw::None,
     second: Second::NewWorker,
@@ -85,6 +102,7 @@ const LEFT_OUT: Script = Script {
 
 const REFUSED: Script = Script {
     name: "the target refuses a document",
+    documents: Documents::Conflict,
     source: Flaw::None,
     target: Flaw::RefusesBulk,
     second: Second::NewWorker,
@@ -92,6 +110,7 @@ const REFUSED: Script = Script {
 
 const RETRIED: Script = Script {
     name: "again where memory is refused",
+    documents: Documents::Conflict,
     source: Flaw::None,
     target: Flaw::None,
     second: Second::IfRefusedMemory,

@@ -2,7 +2,7 @@
 ghost use Rattle.std.specs.Prelude.{◌≡◌};
 
 use crate::case::Case;
-use crate::conflict::{Ids, both_leaves};
+use crate::documents::{Documents, Ids};
 use crate::run::tell_runs;
 use commands::{Config, Limits};
 use history_lock::{Opened, open};
@@ -77,7 +77,7 @@ fn tell_between<
     tell_sessions(rt, rt.alloc(), case, source, session)
 }
 
-/// Has the source take both leaves, and goes through a case from one session to the other.
+/// Has the source take its documents, and goes through a case from one session to the other.
 fn tell_sessions<X: Print + Drop, S: Calls<X> + Drop, T: Calls<X> + Drop>(
     rt: &X,
     alloc: Global,
@@ -85,16 +85,22 @@ fn tell_sessions<X: Print + Drop, S: Calls<X> + Drop, T: Calls<X> + Drop>(
     mut source: S,
     target: T,
 ) -> io::Result<()> {
-    let ids = Ids::new(alloc).ok_or(AllocError)?;
-    write_leaves(rt, alloc, &mut source)?;
+    let documents = case.script().documents;
+    let ids = Ids::new(alloc, documents).ok_or(AllocError)?;
+    write_documents(rt, alloc, documents, &mut source)?;
     let source = SessionPeer::new(source, rt);
     let target = SessionPeer::new(target, rt);
     tell_runs(rt, alloc, case, &ids, source, target)
 }
 
-/// Writes both leaves. A session that is alone is refused nothing but memory.
-fn write_leaves<X, S: Calls<X>>(rt: &X, alloc: Global, session: &mut S) -> Result<(), AllocError> {
-    let command = both_leaves(alloc).ok_or(AllocError)?;
+/// Writes the documents. A session that is alone is refused nothing but memory.
+fn write_documents<X, S: Calls<X>>(
+    rt: &X,
+    alloc: Global,
+    documents: Documents,
+    session: &mut S,
+) -> Result<(), AllocError> {
+    let command = documents.command(alloc).ok_or(AllocError)?;
     match session.write(rt, command) {
         Ok(_place) => Ok(()),
         Err(_fault) => Err(AllocError),

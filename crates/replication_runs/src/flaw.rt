@@ -3,7 +3,7 @@ ghost use Rattle.std.specs.Prelude.{◌≡◌, ⊤, Err};
 ghost use Rattle.replicator.specs.Call.{CountsFailed, OnlyReads};
 
 use commands::{Merge, NamedRevisions};
-use document_id::DocId;
+use document_id::{DocId, DocIds};
 use queries::{ChangesPage, Differences};
 use replicator::{Checkpoint, Opened, Peer, PeerFault};
 use revision_id::RevId;
@@ -152,6 +152,20 @@ impl<P: Peer> Peer for Flawed<P> {
     fn changes(&mut self, alloc: Global, since: u64, limit: u64) -> Result<ChangesPage, PeerFault> {
         self.since = self.since.or(Some(since));
         match self.peer.changes(alloc, since, limit) {
+            Ok(page) => Ok(page),
+            Err(fault) => Err(self.noted(fault)),
+        }
+    }
+
+    fn changes_of(
+        &mut self,
+        alloc: Global,
+        ids: &DocIds,
+        since: u64,
+        limit: u64,
+    ) -> Result<ChangesPage, PeerFault> {
+        self.since = self.since.or(Some(since));
+        match self.peer.changes_of(alloc, ids, since, limit) {
             Ok(page) => Ok(page),
             Err(fault) => Err(self.noted(fault)),
         }

@@ -1,15 +1,16 @@
 //! Replications between sessions of two databases, of which an end may fail or lie.
 //!
-//! With no words the program goes through the cases. In each a source has a document with two leaves, a
-//! target is empty, and a worker brings the one to the other; then comes a second run, between ends that
-//! do as they should. Of each run is printed how it ended, and what both databases then have.
+//! With no words the program goes through the cases. In each a source has a document with two leaves, or
+//! three documents of which one is to be brought; a target is empty, and a worker brings the one to the
+//! other. Then comes a second run, between ends that do as they should. Of each run is printed how it
+//! ended, and what both databases then have.
 //! `replication_runs replicate` makes one replication, and one more by a new worker where memory was
 //! refused. The status is 1 where memory was refused outside of a replication, and 2 for other words.
 #![tactic(auto)]
 
 mod case;
-mod conflict;
 mod databases;
+mod documents;
 mod end;
 mod flaw;
 mod print;

@@ -1,6 +1,6 @@
 //! What is printed of a run.
 
-use crate::conflict::Ids;
+use crate::documents::{Documents, Ids};
 use crate::run::Told;
 use replicator::{PeerFault, Progress};
 use revision_id::RevId;
@@ -58,6 +58,25 @@ pub(crate) fn print_leaves(
         Some(record) => print_tree(rt, name, record.tree()),
         None => println!(rt; "{name} has no document"),
     }
+}
+
+/// Prints the ids of all documents of the target, where one of several was to come.
+pub(crate) fn print_documents(
+    rt: &impl Print,
+    documents: Documents,
+    version: &Version,
+) -> io::Result<()> {
+    match documents {
+        Documents::Conflict => Ok(()),
+        Documents::Three => print_ids(rt, version),
+    }
+}
+
+fn print_ids(rt: &impl Print, version: &Version) -> io::Result<()> {
+    for (id, _) in version.database().documents().iter() {
+        println!(rt; "target has the document {}", id.as_str())?;
+    }
+    Ok(())
 }
 
 fn print_tree(rt: &impl Print, name: &str, tree: &RevTree) -> io::Result<()> {

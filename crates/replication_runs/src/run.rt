@@ -1,10 +1,11 @@
 //! The runs of a case.
 
-use crate::case::{Case, Second};
-use crate::conflict::Ids;
+use crate::case::{Case, Script, Second};
+use crate::documents::{Documents, Ids};
 use crate::end::End;
 use crate::flaw::Flawed;
-use crate::print::{print_end, print_leaves, print_told};
+use crate::print::{print_documents, print_end, print_leaves, print_told};
+use document_id::{DocId, DocIds};
 use replicator::{MAX_BATCH, Peer, PeerFault, Progress, Worker};
 use std::alloc::{AllocError, Global};
 use std::io;
@@ -34,55 +35,92 @@ pub(crate) fn tell_runs<S: End + Drop, T: End + Drop>(
     let script = case.script();
     let mut source = Flawed::new(source, script.source);
     let mut target = Flawed::new(target, script.target);
-    let mut worker = new_worker(ids)?;
+    let mut worker = new_worker(alloc, script.documents, ids)?;
     println!(rt; "{}:", script.name)?;
-    let first = tell_run(rt, alloc, ids, &mut worker, &mut source, &mut target)?;
-    let Some(worker) = second_worker(script.second, first, worker, ids)? else {
+    let documents = script.documents;
+    let first = tell_run(
+        rt,
+        alloc,
+        documents,
+        ids,
+        &mut worker,
+        &mut source,
+        &mut target,
+    )?;
+    let Some(worker) = second_worker(alloc, script, first, worker, ids)? else {
         return Ok(());
     };
-    tell_last(rt, alloc, ids, worker, source.mended(), target.mended())
+    let (source, target) = (source.mended(), target.mended());
+    tell_last(rt, alloc, script.documents, ids, worker, source, target)
 }
 
 fn tell_last<S: End + Drop, T: End + Drop>(
     rt: &impl Print,
     alloc: Global,
+    documents: Documents,
     ids: &Ids,
     mut worker: Worker,
     mut source: Flawed<S>,
     mut target: Flawed<T>,
 ) -> io::Result<()> {
-    let _last = tell_run(rt, alloc, ids, &mut worker, &mut source, &mut target)?;
+    let _last = tell_run(
+        rt,
+        alloc,
+        documents,
+        ids,
+        &mut worker,
+        &mut source,
+        &mut target,
+    )?;
     Ok(())
 }
 
 /// The worker of the second run, if there is to be one after the first.
 fn second_worker(
-    second: Second,
+    alloc: Global,
+    script: Script,
     first: Told,
     worker: Worker,
     ids: &Ids,
 ) -> Result<Option<Worker>, AllocError> {
-    match second {
+    match script.second {
         Second::SameWorker => Ok(Some(worker)),
-        Second::NewWorker => Ok(Some(new_worker(ids)?)),
+        Second::NewWorker => Ok(Some(new_worker(alloc, script.documents, ids)?)),
         Second::IfRefusedMemory if first.ended == Err(PeerFault::Memory) => {
-            Ok(Some(new_worker(ids)?))
+            Ok(Some(new_worker(alloc, script.documents, ids)?))
         }
         Second::IfRefusedMemory => Ok(None),
     }
 }
 
-fn new_worker(ids: &Ids) -> Result<Worker, AllocError> {
-    let Some(worker) = Worker::new(ids.checkpoint.share()?, MAX_BATCH) else {
+/// A worker for all documents, or for the one that is to be brought alone.
+fn new_worker(alloc: Global, documents: Documents, ids: &Ids) -> Result<Worker, AllocError> {
+    let checkpoint = ids.checkpoint.share()?;
+    match documents {
+        Documents::Conflict => Ok(worker_for_all(checkpoint)),
+        Documents::Three => Ok(worker_for(checkpoint, ids.listed(alloc)?)),
+    }
+}
+
+fn worker_for_all(checkpoint: DocId) -> Worker {
+    let Some(worker) = Worker::new(checkpoint, MAX_BATCH) else {
         unreachable!()
     };
-    Ok(worker)
+    worker
+}
+
+fn worker_for(checkpoint: DocId, listed: DocIds) -> Worker {
+    let Some(worker) = Worker::filtered(checkpoint, MAX_BATCH, listed) else {
+        unreachable!()
+    };
+    worker
 }
 
 /// Runs the worker until it ends, and prints what that came to.
 fn tell_run<S: End, T: End>(
     rt: &impl Print,
     alloc: Global,
+    documents: Documents,
     ids: &Ids,
     worker: &mut Worker,
     source: &mut Flawed<S>,
@@ -93,6 +131,7 @@ fn tell_run<S: End, T: End>(
     print_end(rt, "source", ids, source.peer().version())?;
     print_end(rt, "target", ids, target.peer().version())?;
     print_leaves(rt, "target", ids, target.peer().version())?;
+    print_documents(rt, documents, target.peer().version())?;
     Ok(told)
 }
 

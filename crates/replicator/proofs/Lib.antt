@@ -5,4 +5,6 @@ pub mod Passes
 pub mod Turns
 pub mod Runs
 pub mod Searched
+pub mod OfWanted
+pub mod Told
 pub mod Logs

@@ -12,8 +12,8 @@ use Rattle.replicator.specs.declared.fault.PeerFault.TheVariants as fault
 -- a call of one end, with its answer
 -- CouchDB: "CouchDB Replication Protocol", "Replication Protocol Algorithm"
 pub data Call : Type 0 where
-  -- the changes of all leaves after a number, at most so many rows
-  Changes : ℕ → ℕ → Result ChangesPage PeerFault → Call
+  -- the changes of all leaves after a number, at most so many rows, of these documents where it is not of all
+  Changes : Option (List Id) → ℕ → ℕ → Result ChangesPage PeerFault → Call
   -- which of these revisions are not known
   Diff : Map names (List Rev) → Result (Map names Difference) PeerFault → Call
   -- these revisions, or newer ones in their place, each with its path, or as missing
@@ -39,7 +39,7 @@ OnlyReads result = result ≢ Err fault.Refused
 
 -- an end refuses nothing but what is written to it
 abbrev pub OnlyWritesRefused : Call → Type 0
-OnlyWritesRefused (Changes since limit answer) = OnlyReads answer
+OnlyWritesRefused (Changes ids since limit answer) = OnlyReads answer
 OnlyWritesRefused (Diff asked answer) = OnlyReads answer
 OnlyWritesRefused (OpenRevs id revs answer) = OnlyReads answer
 OnlyWritesRefused (LocalGet id answer) = OnlyReads answer

@@ -4,6 +4,7 @@ use Rattle.model.specs.Map.{entries}
 use Rattle.model.specs.Command.{Id, Merge}
 use Rattle.model.specs.Revision.{Rev}
 use Rattle.replicator.specs.declared.ends.Ends.{Ends}
+use Rattle.replicator.specs.declared.job.Job.{Job}
 use Rattle.replicator.specs.Asked.{asked_in}
 use Rattle.replicator.specs.Bulk.{IsBulkLen}
 use Rattle.replicator.specs.Call.{Call, Changes, Diff, OpenRevs, Bulk, LocalGet, LocalPut}
@@ -40,15 +41,15 @@ pub record MarksNext (p : Pass) (side : Side) (named : Option ℕ) (last_seq : �
 
 -- the call is due of this end
 -- CouchDB: "CouchDB Replication Protocol", "Replication Protocol Algorithm"
-abbrev pub IsDueAt : Id → ℕ → Stage → Side → Call → Type 0
-IsDueAt id batch Unread side (LocalGet read answer) = (side ≡ Source) × (read ≡ id)
-IsDueAt id batch (SourceRead source) side (LocalGet read answer) = (side ≡ Target) × (read ≡ id)
-IsDueAt id batch (Ready ends) side (Changes since limit answer) = (side ≡ Source) × (since ≡ ends.since) × (limit ≡ batch)
-IsDueAt id batch (Paged ends page) side (Diff asked answer) = (side ≡ Target) × (asked ≡ asked_in page.rows)
-IsDueAt id batch (Passing p) side (OpenRevs of revs answer) = (side ≡ Source) × AsksNext p of revs
-IsDueAt id batch (Passing p) side (Bulk documents answer) = (side ≡ Target) × SendsNext p documents
-IsDueAt id batch (Passing p) side (LocalPut written named last_seq answer) = (written ≡ id) × MarksNext p side named last_seq
-IsDueAt id batch stage side call = ⊥
+abbrev pub IsDueAt : Job → Stage → Side → Call → Type 0
+IsDueAt job Unread side (LocalGet read answer) = (side ≡ Source) × (read ≡ job.id)
+IsDueAt job (SourceRead source) side (LocalGet read answer) = (side ≡ Target) × (read ≡ job.id)
+IsDueAt job (Ready ends) side (Changes ids since limit answer) = (side ≡ Source) × (ids ≡ job.ids) × (since ≡ ends.since) × (limit ≡ job.batch)
+IsDueAt job (Paged ends page) side (Diff asked answer) = (side ≡ Target) × (asked ≡ asked_in page.rows)
+IsDueAt job (Passing p) side (OpenRevs of revs answer) = (side ≡ Source) × AsksNext p of revs
+IsDueAt job (Passing p) side (Bulk documents answer) = (side ≡ Target) × SendsNext p documents
+IsDueAt job (Passing p) side (LocalPut written named last_seq answer) = (written ≡ job.id) × MarksNext p side named last_seq
+IsDueAt job stage side call = ⊥
 
 abbrev pub IsDue : Known → Side → Call → Type 0
-IsDue k side call = IsDueAt k.id k.batch k.stage side call
+IsDue k side call = IsDueAt k.job k.stage side call

@@ -54,7 +54,7 @@ fault_in (Err f) = f
 
 -- the fault that was answered
 abbrev pub fault_of : Call → PeerFault
-fault_of (Changes since limit answer) = fault_in answer
+fault_of (Changes ids since limit answer) = fault_in answer
 fault_of (Diff asked answer) = fault_in answer
 fault_of (OpenRevs id revs answer) = fault_in answer
 fault_of (Bulk documents answer) = fault_in answer
@@ -64,7 +64,8 @@ fault_of (LocalPut id named last_seq answer) = fault_in answer
 abbrev pub learnt : Stage → Call → Learned
 learnt Unread (LocalGet id (Ok source)) = goes_on (SourceRead source)
 learnt (SourceRead source) (LocalGet id (Ok target)) = goes_on (Ready (ends_of source target))
-learnt (Ready ends) (Changes since limit (Ok page)) = if is_readable_page since limit page then learnt_of_page ends page else Err fault.Unreadable
+learnt (Ready ends) (Changes ids since limit (Ok page)) =
+    if is_readable_page ids since limit page then learnt_of_page ends page else Err fault.Unreadable
 learnt (Paged ends page) (Diff asked (Ok differences)) =
     if is_readable_difference asked differences then goes_on (Passing (first_pass ends page differences)) else Err fault.Unreadable
 learnt (Passing p) (OpenRevs id revs (Ok opened)) =

@@ -1,11 +1,13 @@
 -- What the calls of a replication tell by themselves, with no word of what a worker knows.
-use Rattle.std.specs.Prelude.{◌≡◌, ◌⊎◌, ℕ, List, [], ◌∷◌, ◌++◌, All, Contains, Option, Some, option_to_list, Ok, ⊤}
+use Rattle.std.specs.Prelude.{◌≡◌, ◌⊎◌, ℕ, true, List, [], ◌∷◌, ◌++◌, All, Contains, Option, Some, option_to_list, Ok, ⊤}
 use Rattle.std.specs.List.{flat_map}
 use Rattle.model.specs.Map.{Map, entries}
+use Rattle.model.specs.Changes.{wanted_by}
 use Rattle.model.specs.Command.{Id, Merge, names}
 use Rattle.model.specs.Query.{ChangesPage, Difference}
 use Rattle.model.specs.Revision.{Rev}
 use Rattle.replicator.specs.declared.checkpoint.Checkpoint.{Checkpoint}
+use Rattle.replicator.specs.declared.job.Job.{Job}
 use Rattle.replicator.specs.Asked.{asked_in}
 use Rattle.replicator.specs.Call.{Call, Changes, Diff, OpenRevs, Bulk, LocalGet, LocalPut}
 use Rattle.replicator.specs.Due.{Side, Source, Target}
@@ -69,19 +71,20 @@ abbrev pub IsStart : Id → List Exchange → ℕ → Type 0
 IsStart id log since = IsRead id log since ⊎ IsMarked id log since
 
 -- after some calls the source gave changes, and the target told what it lacks of them; these calls followed
-pub record IsPass (id : Id) (batch : ℕ) (log : List Exchange) (since : ℕ) (page : ChangesPage) (differences : Map names Difference) (calls : List Exchange) : Type 0 where
+pub record IsPass (job : Job) (log : List Exchange) (since : ℕ) (page : ChangesPage) (differences : Map names Difference) (calls : List Exchange) : Type 0 where
   pub before : List Exchange
-  pub start : IsStart id before since
-  pub log_is : log ≡ before ++ called Source (Changes since batch (Ok page)) ∷ called Target (Diff (asked_in page.rows) (Ok differences)) ∷ calls
+  pub start : IsStart job.id before since
+  pub log_is : log ≡ before ++ called Source (Changes job.ids since job.batch (Ok page)) ∷ called Target (Diff (asked_in page.rows) (Ok differences)) ∷ calls
 
--- each of the documents stood in an answer of the source in the pass
-pub record SendsGiven (id : Id) (batch : ℕ) (log : List Exchange) (documents : List Merge) : Type 0 where
+-- each of the documents stood in an answer of the source in the pass, and is one of those that are wanted
+pub record SendsGiven (job : Job) (log : List Exchange) (documents : List Merge) : Type 0 where
   pub since : ℕ
   pub page : ChangesPage
   pub differences : Map names Difference
   pub calls : List Exchange
-  pub pass : IsPass id batch log since page differences calls
+  pub pass : IsPass job log since page differences calls
   pub given : All (Contains (given_in_log calls)) documents
+  pub wanted : All (λ document. wanted_by job.ids document.id ≡ true) documents
 
 -- the target took the checkpoint at this number
 abbrev pub IsMarkedAtTarget : Id → List Exchange → ℕ → Type 0
@@ -94,31 +97,31 @@ IsMarkedBefore Source id calls last_seq = IsMarkedAtTarget id calls last_seq
 IsMarkedBefore Target id calls last_seq = ⊤
 
 -- a checkpoint is written at the end of a page, and all from its start up to there is covered by the calls of the pass
-pub record MarksCovered (side : Side) (id : Id) (batch : ℕ) (log : List Exchange) (last_seq : ℕ) : Type 0 where
+pub record MarksCovered (side : Side) (job : Job) (log : List Exchange) (last_seq : ℕ) : Type 0 where
   pub since : ℕ
   pub page : ChangesPage
   pub differences : Map names Difference
   pub calls : List Exchange
-  pub pass : IsPass id batch log since page differences calls
+  pub pass : IsPass job log since page differences calls
   pub covers : Covers since page (entries differences) (taken_in_log calls) (absent_in_log calls)
   pub end : last_seq ≡ page.last_seq
-  pub marked : IsMarkedBefore side id calls last_seq
+  pub marked : IsMarkedBefore side job.id calls last_seq
 
 -- ---- what holds of each call, after those before it
 
 -- CouchDB: "CouchDB Replication Protocol", "Replication Protocol Algorithm"
-abbrev pub IsSound : Id → ℕ → List Exchange → Side → Call → Type 0
-IsSound id batch log side (LocalGet read answer) = read ≡ id
-IsSound id batch log side (Changes since limit answer) = (side ≡ Source) × IsStart id log since × (limit ≡ batch)
-IsSound id batch log side (Diff asked answer) = side ≡ Target
-IsSound id batch log side (OpenRevs of revs answer) = side ≡ Source
-IsSound id batch log side (Bulk documents answer) = (side ≡ Target) × SendsGiven id batch log documents
-IsSound id batch log side (LocalPut written named last_seq answer) = (written ≡ id) × MarksCovered side id batch log last_seq
+abbrev pub IsSound : Job → List Exchange → Side → Call → Type 0
+IsSound job log side (LocalGet read answer) = read ≡ job.id
+IsSound job log side (Changes ids since limit answer) = (side ≡ Source) × IsStart job.id log since × (ids ≡ job.ids) × (limit ≡ job.batch)
+IsSound job log side (Diff asked answer) = side ≡ Target
+IsSound job log side (OpenRevs of revs answer) = side ≡ Source
+IsSound job log side (Bulk documents answer) = (side ≡ Target) × SendsGiven job log documents
+IsSound job log side (LocalPut written named last_seq answer) = (written ≡ job.id) × MarksCovered side job log last_seq
 
 -- the source gave no changes from where the replication starts or goes on
-pub record EndsWithoutChanges (id : Id) (batch : ℕ) (log : List Exchange) (step : Step) : Type 0 where
+pub record EndsWithoutChanges (job : Job) (log : List Exchange) (step : Step) : Type 0 where
   pub since : ℕ
   pub page : ChangesPage
-  pub start : IsStart id log since
+  pub start : IsStart job.id log since
   pub none : page.rows ≡ []
-  pub asks : step.exchange ≡ Some (called Source (Changes since batch (Ok page)))
+  pub asks : step.exchange ≡ Some (called Source (Changes job.ids since job.batch (Ok page)))

@@ -1,7 +1,8 @@
 -- Which answers can be read.
-use Rattle.std.specs.Prelude.{ℕ, Bool, true, ◌&&◌, List, [], ◌∷◌, length, unwrap_or, Result, Ok, Err, nat_lt, nat_le}
+use Rattle.std.specs.Prelude.{ℕ, Bool, true, ◌&&◌, List, [], ◌∷◌, length, Option, unwrap_or, Result, Ok, Err, nat_lt, nat_le}
 use Rattle.std.specs.List.{list_all, list_any}
 use Rattle.model.specs.Map.{Map, entries, get, same_key}
+use Rattle.model.specs.Changes.{wanted_by}
 use Rattle.model.specs.Command.{Id, Merge, names}
 use Rattle.model.specs.Query.{ChangesPage, Difference, Row}
 use Rattle.model.specs.Revision.{Rev, same_rev}
@@ -16,10 +17,15 @@ abbrev pub last_number : ℕ → List Row → ℕ
 last_number since [] = since
 last_number since (row ∷ rows) = last_number row.seq rows
 
--- the rows rise from above the number that was given, at most so many, and the page ends at the last one or later
-abbrev pub is_readable_page : ℕ → ℕ → ChangesPage → Bool
-is_readable_page since limit page =
-    rises_above since page.rows && nat_le (length page.rows) limit && nat_le (last_number since page.rows) page.last_seq
+-- whether each row is of a document that was asked for
+abbrev pub are_wanted : Option (List Id) → List Row → Bool
+are_wanted ids rows = list_all (λ row. wanted_by ids row.id) rows
+
+-- the rows rise from above the number that was given, at most so many and all of documents that were asked for, and the
+-- page ends at the last one or later
+abbrev pub is_readable_page : Option (List Id) → ℕ → ℕ → ChangesPage → Bool
+is_readable_page ids since limit page =
+    rises_above since page.rows && nat_le (length page.rows) limit && nat_le (last_number since page.rows) page.last_seq && are_wanted ids page.rows
 
 -- the revisions that were asked about under an id, and none where it was not named
 abbrev pub asked_about : Map names (List Rev) → Id → List Rev

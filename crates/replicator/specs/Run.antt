@@ -4,13 +4,13 @@ use Rattle.std.specs.List.{FoldsTo, fold}
 use Rattle.streams.specs.Counts.{CountRose}
 use Rattle.replicator.specs.declared.fault.PeerFault.{PeerFault}
 use Rattle.replicator.specs.declared.fault.PeerFault.TheVariants as fault
+use Rattle.replicator.specs.declared.job.Job.{Job}
 use Rattle.replicator.specs.declared.progress.Progress.{Progress}
 use Rattle.replicator.specs.declared.progress.Progress.TheVariants as progress
 use Rattle.replicator.specs.Call.{Call, OnlyWritesRefused}
 use Rattle.replicator.specs.Due.{Side, Source, Target, IsDueAt}
 use Rattle.replicator.specs.Learned.{Learned, learnt}
 use Rattle.replicator.specs.Stage.{Known, Stage, Unread}
-use Rattle.model.specs.Command.{Id}
 
 -- a call of one end, with its answer
 pub record Exchange : Type 0 where
@@ -18,15 +18,15 @@ pub record Exchange : Type 0 where
   pub call : Call
 
 -- the call is due, and its answer is learnt, unless memory is wanting
-pub record IsTurn (id : Id) (batch : ℕ) (stage : Stage) (side : Side) (call : Call) (learned : Learned) : Type 0 where
-  pub due : IsDueAt id batch stage side call
+pub record IsTurn (job : Job) (stage : Stage) (side : Side) (call : Call) (learned : Learned) : Type 0 where
+  pub due : IsDueAt job stage side call
   pub refused : OnlyWritesRefused call
   pub told : (learned ≡ learnt stage call) ⊎ (learned ≡ Err fault.Memory)
 
 -- an end was called, unless memory was wanting before
-abbrev pub Called : {S : Type 0} → (S → Call → S → Type 0) → S → S → Id → ℕ → Stage → Side → Learned → Type 0
-Called goes old new id batch stage side learned =
-    ((call : Call) × goes old call new × IsTurn id batch stage side call learned) ⊎ ((new ≡ old) × (learned ≡ Err fault.Memory))
+abbrev pub Called : {S : Type 0} → (S → Call → S → Type 0) → S → S → Job → Stage → Side → Learned → Type 0
+Called goes old new job stage side learned =
+    ((call : Call) × goes old call new × IsTurn job stage side call learned) ⊎ ((new ≡ old) × (learned ≡ Err fault.Memory))
 
 -- what a step called, which is nothing only for want of memory, and what it told
 pub record Step : Type 0 where
@@ -39,9 +39,9 @@ module _ {S T : Type 0} (source_goes : S → Call → S → Type 0) (target_goes
   Moves e s t s' t' = elim e.side [ Source ↦ source_goes s e.call s' × (t' ≡ t) | Target ↦ target_goes t e.call t' × (s' ≡ s) ]
 
   -- one of the ends was called, unless memory was wanting before
-  abbrev pub Exchanges : Id → ℕ → Stage → S → T → S → T → Option Exchange → Learned → Type 0
-  Exchanges id batch stage s t s' t' None learned = (s' ≡ s) × (t' ≡ t) × (learned ≡ Err fault.Memory)
-  Exchanges id batch stage s t s' t' (Some e) learned = Moves e s t s' t' × IsTurn id batch stage e.side e.call learned
+  abbrev pub Exchanges : Job → Stage → S → T → S → T → Option Exchange → Learned → Type 0
+  Exchanges job stage s t s' t' None learned = (s' ≡ s) × (t' ≡ t) × (learned ≡ Err fault.Memory)
+  Exchanges job stage s t s' t' (Some e) learned = Moves e s t s' t' × IsTurn job stage e.side e.call learned
 
 -- what a step tells of what was learnt
 abbrev pub told_of : Learned → Result Progress PeerFault
@@ -63,7 +63,7 @@ pub record Party (S T : Type 0) : Type 0 where
 -- none only for want of memory.
 pub record IsStep {S T : Type 0} (source_goes : S → Call → S → Type 0) (target_goes : T → Call → T → Type 0) (old : Party S T) (step : Step) (new : Party S T) : Type 0 where
   pub learned : Learned
-  pub exchanges : Exchanges source_goes target_goes old.worker.id old.worker.batch old.worker.stage old.source old.target new.source new.target step.exchange learned
+  pub exchanges : Exchanges source_goes target_goes old.worker.job old.worker.stage old.source old.target new.source new.target step.exchange learned
   pub told : step.result ≡ told_of learned
   pub knows : new.worker ≡ record old.worker { stage = stage_after learned }
 

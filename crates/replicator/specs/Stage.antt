@@ -7,6 +7,7 @@ use Rattle.model.specs.Query.{ChangesPage, Difference}
 use Rattle.model.specs.Revision.{Rev}
 use Rattle.replicator.specs.declared.checkpoint.Checkpoint.{Checkpoint}
 use Rattle.replicator.specs.declared.ends.Ends.{Ends}
+use Rattle.replicator.specs.declared.job.Job.{Job}
 use Rattle.replicator.specs.Wanted.{IsIn}
 
 -- What a worker knows of the changes after a number: the page of the source, what the target lacks of it, how many of
@@ -47,10 +48,9 @@ pub data Stage : Type 0 where
   -- the target told what it lacks of them
   Passing : Pass → Stage
 
--- a worker: the id of its checkpoints, how many changes it asks for at once, and how far it has come
+-- a worker: what it is to do, which stays, and how far it has come
 pub record Known : Type 0 where
-  pub id : Id
-  pub batch : ℕ
+  pub job : Job
   pub stage : Stage
 
 -- where a replication starts: at the smaller checkpoint, or at 0 where one is lacking

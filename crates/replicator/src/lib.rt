@@ -9,6 +9,7 @@ mod checkpoint;
 mod due;
 mod ends;
 mod fault;
+mod job;
 mod laws;
 mod pass;
 mod peer;

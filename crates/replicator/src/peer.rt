@@ -1,12 +1,12 @@
 //! One end of a replication.
-ghost use Rattle.std.specs.Prelude.{◌≡◌, ℕ};
+ghost use Rattle.std.specs.Prelude.{◌≡◌, ℕ, None, Some};
 ghost use Rattle.replicator.specs.Call as call;
 ghost use Rattle.replicator.specs.Call.{Call, CountsFailed, OnlyReads};
 
 use crate::checkpoint::Checkpoint;
 use crate::fault::PeerFault;
 use commands::{Merge, NamedRevisions};
-use document_id::DocId;
+use document_id::{DocId, DocIds};
 use queries::{ChangesPage, Differences};
 use revision_id::RevId;
 use std::alloc::Global;
@@ -52,7 +52,19 @@ pub trait Peer {
 
     /// The changes after a number, with all leaves of each document, at most `limit` rows.
     fn changes(&mut self, alloc: Global, since: u64, limit: u64) -> Result<ChangesPage, PeerFault>
-        ensures goes { goes self.old (call.Changes since limit result) self.new }
+        ensures goes { goes self.old (call.Changes None since limit result) self.new }
+        ensures failures { CountsFailed (failed_calls self.old) (failed_calls self.new) result }
+        ensures reads { OnlyReads result };
+
+    /// The changes of these documents after a number, with all leaves of each, at most `limit` rows.
+    fn changes_of(
+        &mut self,
+        alloc: Global,
+        ids: &DocIds,
+        since: u64,
+        limit: u64,
+    ) -> Result<ChangesPage, PeerFault>
+        ensures goes { goes self.old (call.Changes (Some ids.now) since limit result) self.new }
         ensures failures { CountsFailed (failed_calls self.old) (failed_calls self.new) result }
         ensures reads { OnlyReads result };
 

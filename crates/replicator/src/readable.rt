@@ -1,21 +1,44 @@
 //! Which answers can be read.
-ghost use Rattle.std.specs.Prelude.{◌≡◌};
+ghost use Rattle.std.specs.Prelude.{◌≡◌, Some};
 ghost use Rattle.std.specs.List.{list_all, list_any};
-ghost use Rattle.replicator.specs.Readable.{asked_about, is_among, is_of, is_readable_difference, is_readable_opened, is_readable_page, last_number, path_of, rises_above, tells_of};
+ghost use Rattle.replicator.specs.Readable.{are_wanted, asked_about, is_among, is_of, is_readable_difference, is_readable_opened, is_readable_page, last_number, path_of, rises_above, tells_of};
 
 use crate::peer::Opened;
 use commands::{Merge, NamedRevisions};
-use document_id::DocId;
+use document_id::{DocId, DocIds};
 use queries::{ChangesPage, Differences, Row};
 use revision_id::RevId;
 
-/// Whether a page of at most `limit` rows can follow this number.
-pub(crate) fn is_readable_page(since: u64, limit: u64, page: &ChangesPage) -> bool
-    ensures { result ≡ is_readable_page since limit page.now }
+/// Whether a page of at most `limit` rows can follow this number, where these documents were asked for.
+pub(crate) fn is_readable_page(
+    ids: &Option<DocIds>,
+    since: u64,
+    limit: u64,
+    page: &ChangesPage,
+) -> bool
+    ensures { result ≡ is_readable_page ids.now since limit page.now }
 {
     rises_above(since, &page.rows)
         && page.rows.len() as u64 <= limit
         && last_number(since, &page.rows) <= page.last_seq
+        && are_wanted(ids, &page.rows)
+}
+
+/// Whether each row is of one of these documents, or of any where none are named.
+fn are_wanted(ids: &Option<DocIds>, rows: &[Row]) -> bool
+    ensures { result ≡ are_wanted ids.now rows.now }
+{
+    match ids {
+        Some(ids) => are_named(ids, rows),
+        None => true,
+    }
+}
+
+/// Whether each row is of one of these documents.
+fn are_named(ids: &DocIds, rows: &[Row]) -> bool
+    ensures { result ≡ are_wanted (Some ids.now) rows.now }
+{
+    rows.iter().all(|row| ids.contains(&row.id))
 }
 
 /// Whether the numbers of the rows rise, from above this one.

@@ -1,7 +1,8 @@
 //! What a worker does at each stage: one call of one end.
 ghost use Rattle.std.specs.Prelude.{◌≡◌, true, false};
 ghost use Rattle.replicator.specs.declared.due.Due.TheVariants as due;
-ghost use Rattle.replicator.specs.Call.{CountsFailed};
+ghost use Rattle.replicator.specs.Call as call;
+ghost use Rattle.replicator.specs.Call.{CountsFailed, OnlyReads};
 ghost use Rattle.replicator.specs.Due.{Source, Target};
 ghost use Rattle.replicator.specs.Passing.{IsDuePart};
 ghost use Rattle.replicator.specs.Run.{Called};
@@ -12,41 +13,39 @@ use crate::asking::asked_of;
 use crate::checkpoint::Checkpoint;
 use crate::ends::Ends;
 use crate::fault::PeerFault;
+use crate::job::Job;
 use crate::pass::Pass;
 use crate::peer::Peer;
 use crate::progress::Progress;
 use crate::readable::{is_readable_difference, is_readable_opened, is_readable_page};
 use crate::stage::Stage;
-use document_id::DocId;
 use queries::ChangesPage;
 use std::alloc::Global;
 
 /// Reads the source's checkpoint.
 pub(crate) fn read_source<S: Peer>(
     alloc: Global,
-    id: &DocId,
-    batch: u64,
+    job: &Job,
     source: &mut S,
 ) -> Result<(Stage, Progress), PeerFault>
-    ensures called { Called S.goes source.old source.new id.now batch stage.Unread Source (learned_of result) }
+    ensures called { Called S.goes source.old source.new job.now stage.Unread Source (learned_of result) }
     ensures failures { CountsFailed (S.failed_calls source.old) (S.failed_calls source.new) result }
 {
-    let checkpoint = source.local_get(alloc, id)?;
+    let checkpoint = source.local_get(alloc, &job.id)?;
     Ok((Stage::SourceRead(checkpoint), Progress::Going))
 }
 
 /// Reads the target's checkpoint.
 pub(crate) fn read_target<T: Peer>(
     alloc: Global,
-    id: &DocId,
-    batch: u64,
+    job: &Job,
     of_source: Option<Checkpoint>,
     target: &mut T,
 ) -> Result<(Stage, Progress), PeerFault>
-    ensures called { Called T.goes target.old target.new id.now batch (stage.SourceRead of_source) Target (learned_of result) }
+    ensures called { Called T.goes target.old target.new job.now (stage.SourceRead of_source) Target (learned_of result) }
     ensures failures { CountsFailed (T.failed_calls target.old) (T.failed_calls target.new) result }
 {
-    let of_target = target.local_get(alloc, id)?;
+    let of_target = target.local_get(alloc, &job.id)?;
     let ends = ends_of(of_source, of_target);
     Ok((Stage::Ready(ends), Progress::Going))
 }
@@ -80,16 +79,15 @@ fn counter_of(checkpoint: Option<Checkpoint>) -> Option<u32>
 /// Asks the source for changes.
 pub(crate) fn ask_changes<S: Peer>(
     alloc: Global,
-    id: &DocId,
-    batch: u64,
+    job: &Job,
     ends: Ends,
     source: &mut S,
 ) -> Result<(Stage, Progress), PeerFault>
-    ensures called { Called S.goes source.old source.new id.now batch (stage.Ready ends) Source (learned_of result) }
+    ensures called { Called S.goes source.old source.new job.now (stage.Ready ends) Source (learned_of result) }
     ensures failures { CountsFailed (S.failed_calls source.old) (S.failed_calls source.new) result }
 {
-    let page = source.changes(alloc, ends.since, batch)?;
-    if !is_readable_page(ends.since, batch, &page) {
+    let page = changes_after(alloc, job, ends.since, source)?;
+    if !is_readable_page(&job.ids, ends.since, job.batch, &page) {
         return Err(PeerFault::Unreadable);
     }
     if page.rows.is_empty() {
@@ -98,16 +96,32 @@ pub(crate) fn ask_changes<S: Peer>(
     Ok((Stage::Paged(ends, page), Progress::Going))
 }
 
+/// The changes of the job's documents after a number.
+fn changes_after<S: Peer>(
+    alloc: Global,
+    job: &Job,
+    since: u64,
+    source: &mut S,
+) -> Result<ChangesPage, PeerFault>
+    ensures goes { S.goes source.old (call.Changes job.now.ids since job.now.batch result) source.new }
+    ensures failures { CountsFailed (S.failed_calls source.old) (S.failed_calls source.new) result }
+    ensures reads { OnlyReads result }
+{
+    match &job.ids {
+        Some(ids) => source.changes_of(alloc, ids, since, job.batch),
+        None => source.changes(alloc, since, job.batch),
+    }
+}
+
 /// Asks the target what it lacks of the changes.
 pub(crate) fn ask_difference<T: Peer>(
     alloc: Global,
-    id: &DocId,
-    batch: u64,
+    job: &Job,
     ends: Ends,
     page: ChangesPage,
     target: &mut T,
 ) -> Result<(Stage, Progress), PeerFault>
-    ensures called { Called T.goes target.old target.new id.now batch (stage.Paged ends page) Target (learned_of result) }
+    ensures called { Called T.goes target.old target.new job.now (stage.Paged ends page) Target (learned_of result) }
     ensures failures { CountsFailed (T.failed_calls target.old) (T.failed_calls target.new) result }
 {
     let asked = asked_of(alloc, &page.rows)?;
@@ -122,13 +136,12 @@ pub(crate) fn ask_difference<T: Peer>(
 /// Asks the source for revisions that the target lacks.
 pub(crate) fn open<S: Peer>(
     alloc: Global,
-    id: &DocId,
-    batch: u64,
+    job: &Job,
     pass: Pass,
     source: &mut S,
 ) -> Result<(Stage, Progress), PeerFault>
     requires { IsDuePart due.Open pass }
-    ensures called { Called S.goes source.old source.new id.now batch (stage.Passing pass) Source (learned_of result) }
+    ensures called { Called S.goes source.old source.new job.now (stage.Passing pass) Source (learned_of result) }
     ensures failures { CountsFailed (S.failed_calls source.old) (S.failed_calls source.new) result }
 {
     let asked = pass.next_asked(alloc)?;
@@ -143,13 +156,12 @@ pub(crate) fn open<S: Peer>(
 /// Sends documents to the target.
 pub(crate) fn send<T: Peer>(
     alloc: Global,
-    id: &DocId,
-    batch: u64,
+    job: &Job,
     pass: Pass,
     target: &mut T,
 ) -> Result<(Stage, Progress), PeerFault>
     requires { IsDuePart due.Send pass }
-    ensures called { Called T.goes target.old target.new id.now batch (stage.Passing pass) Target (learned_of result) }
+    ensures called { Called T.goes target.old target.new job.now (stage.Passing pass) Target (learned_of result) }
     ensures failures { CountsFailed (T.failed_calls target.old) (T.failed_calls target.new) result }
 {
     let documents = pass.next_sent(alloc)?;
@@ -162,17 +174,16 @@ pub(crate) fn send<T: Peer>(
 /// Writes the target's checkpoint.
 pub(crate) fn mark_target<T: Peer>(
     alloc: Global,
-    id: &DocId,
-    batch: u64,
+    job: &Job,
     pass: Pass,
     target: &mut T,
 ) -> Result<(Stage, Progress), PeerFault>
     requires { IsDuePart due.MarkTarget pass }
-    ensures called { Called T.goes target.old target.new id.now batch (stage.Passing pass) Target (learned_of result) }
+    ensures called { Called T.goes target.old target.new job.now (stage.Passing pass) Target (learned_of result) }
     ensures failures { CountsFailed (T.failed_calls target.old) (T.failed_calls target.new) result }
 {
     let named = pass.ends().target;
-    let counter = target.local_put(alloc, id, named, pass.last_seq())?;
+    let counter = target.local_put(alloc, &job.id, named, pass.last_seq())?;
     let pass = pass.with_mark(counter);
     Ok((Stage::Passing(pass), Progress::Going))
 }
@@ -180,18 +191,17 @@ pub(crate) fn mark_target<T: Peer>(
 /// Writes the source's checkpoint.
 pub(crate) fn mark_source<S: Peer>(
     alloc: Global,
-    id: &DocId,
-    batch: u64,
+    job: &Job,
     pass: &Pass,
     source: &mut S,
 ) -> Result<(Stage, Progress), PeerFault>
     requires { IsDuePart due.MarkSource pass.now }
-    ensures called { Called S.goes source.old source.new id.now batch (stage.Passing pass.now) Source (learned_of result) }
+    ensures called { Called S.goes source.old source.new job.now (stage.Passing pass.now) Source (learned_of result) }
     ensures failures { CountsFailed (S.failed_calls source.old) (S.failed_calls source.new) result }
 {
     let ends = pass.ends();
     let last_seq = pass.last_seq();
-    let counter = source.local_put(alloc, id, ends.source, last_seq)?;
+    let counter = source.local_put(alloc, &job.id, ends.source, last_seq)?;
     let ends = Ends {
         since: last_seq,
         source: Some(counter),

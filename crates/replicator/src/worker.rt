@@ -1,11 +1,12 @@
 //! The worker.
-ghost use Rattle.std.specs.Prelude.{◌≡◌, ◌↔◌, ◌<◌, ◌≤◌, Option, IsSome, IfSome, IsTrue, IsFalse};
+ghost use Rattle.std.specs.Prelude.{◌≡◌, ◌↔◌, ◌<◌, ◌≤◌, Option, None, Some, IsSome, IfSome, IsTrue, IsFalse};
 ghost use Rattle.replicator.specs.Run.{CountsEither, Ends, Exchange, Exchanges, GoesOn, IsRun, IsStep};
 ghost use Rattle.replicator.specs.Stage.{Passing, Unread};
 ghost use Rattle.replicator.specs.Stages.{learned_of, stage_of};
 
 use crate::due::Due;
 use crate::fault::PeerFault;
+use crate::job::Job;
 use crate::pass::Pass;
 use crate::peer::Peer;
 use crate::progress::Progress;
@@ -13,7 +14,7 @@ use crate::stage::Stage;
 use crate::stages::{
     ask_changes, ask_difference, mark_source, mark_target, open, read_source, read_target, send,
 };
-use document_id::DocId;
+use document_id::{DocId, DocIds};
 use std::alloc::Global;
 use std::marker::Model;
 use std::mem::replace;
@@ -23,18 +24,13 @@ pub const MAX_BATCH: u64 = 100;
 
 /// Brings the changes of a source to a target. Clauses see what it knows.
 pub struct Worker {
-    id: DocId,
-    batch: u64,
+    job: Job,
     stage: Stage,
 }
 
 impl Drop for Worker {
     fn drop(self) {
-        let Worker {
-            id: _,
-            batch: _,
-            stage: _,
-        } = self;
+        let Worker { job: _, stage: _ } = self;
     }
 }
 
@@ -48,7 +44,7 @@ impl Model for Worker {
 
     ghost coded = { Prim.hlevel (codes, coded_members) };
 
-    ghost view = { λ w. record { id = w.id; batch = w.batch; stage = stage_of w.stage } };
+    ghost view = { λ w. record { job = w.job; stage = stage_of w.stage } };
 }
 
 impl Worker {
@@ -59,14 +55,47 @@ impl Worker {
     /// are asked for are told by whatever checkpoints stand under it.
     pub fn new(id: DocId, batch: u64) -> Option<Worker>
         ensures in_range { IsSome result ↔ ((0 < batch) × (batch ≤ 100)) }
-        ensures unread { IfSome result (λ worker. worker ≡ record { id = id; batch = batch; stage = Unread }) }
+        ensures unread { IfSome result (λ worker. worker
+            ≡ record { job = record { id = id; batch = batch; ids = None }; stage = Unread }) }
     {
-        if batch == 0 || batch > MAX_BATCH {
+        Worker::of(Job {
+            id,
+            batch,
+            ids: None,
+        })
+    }
+
+    /// A worker for these documents alone, and else as [`Worker::new`] makes one. It sends no other
+    /// document, whatever its ends answer.
+    ///
+    /// The id is to belong to this source, this target and this list of ids alone: a checkpoint tells
+    /// how far the documents of the list have come, and a worker with another list under the same id
+    /// would begin there too, past older changes of its documents.
+    ///
+    /// # Sources
+    /// CouchDB: `POST /_replicate`, `doc_ids`.
+    pub fn filtered(id: DocId, batch: u64, ids: DocIds) -> Option<Worker>
+        ensures in_range { IsSome result ↔ ((0 < batch) × (batch ≤ 100)) }
+        ensures unread { IfSome result (λ worker. worker
+            ≡ record { job = record { id = id; batch = batch; ids = Some ids }; stage = Unread }) }
+    {
+        Worker::of(Job {
+            id,
+            batch,
+            ids: Some(ids),
+        })
+    }
+
+    /// A worker that has asked nothing; nothing for a batch that is out of its range.
+    fn of(job: Job) -> Option<Worker>
+        ensures in_range { IsSome result ↔ ((0 < job.batch) × (job.batch ≤ 100)) }
+        ensures unread { IfSome result (λ worker. worker ≡ record { job = job; stage = Unread }) }
+    {
+        if job.batch == 0 || job.batch > MAX_BATCH {
             return None;
         }
         Some(Worker {
-            id,
-            batch,
+            job,
             stage: Stage::Unread,
         })
     }
@@ -92,7 +121,7 @@ impl Worker {
             (S.failed_calls source.new) (T.failed_calls target.new) }
     {
         let stage = replace(&mut self.stage, Stage::Unread);
-        match advance(alloc, &self.id, self.batch, stage, source, target) {
+        match advance(alloc, &self.job, stage, source, target) {
             Ok((stage, progress)) => {
                 self.stage = stage;
                 Ok(progress)
@@ -149,44 +178,42 @@ fn ends(told: &Result<Progress, PeerFault>) -> bool
 /// Does what is due at a stage.
 fn advance<S: Peer, T: Peer>(
     alloc: Global,
-    id: &DocId,
-    batch: u64,
+    job: &Job,
     stage: Stage,
     source: &mut S,
     target: &mut T,
 ) -> Result<(Stage, Progress), PeerFault>
-    ensures exchanges { (exchange : Option Exchange) × Exchanges S.goes T.goes id.now batch (stage_of stage)
+    ensures exchanges { (exchange : Option Exchange) × Exchanges S.goes T.goes job.now (stage_of stage)
         source.old target.old source.new target.new exchange (learned_of result) }
     ensures failures { CountsEither result (S.failed_calls source.old) (T.failed_calls target.old)
         (S.failed_calls source.new) (T.failed_calls target.new) }
 {
     match stage {
-        Stage::Unread => read_source(alloc, id, batch, source),
-        Stage::SourceRead(of_source) => read_target(alloc, id, batch, of_source, target),
-        Stage::Ready(ends) => ask_changes(alloc, id, batch, ends, source),
-        Stage::Paged(ends, page) => ask_difference(alloc, id, batch, ends, page, target),
-        Stage::Passing(pass) => pass_on(alloc, id, batch, pass, source, target),
+        Stage::Unread => read_source(alloc, job, source),
+        Stage::SourceRead(of_source) => read_target(alloc, job, of_source, target),
+        Stage::Ready(ends) => ask_changes(alloc, job, ends, source),
+        Stage::Paged(ends, page) => ask_difference(alloc, job, ends, page, target),
+        Stage::Passing(pass) => pass_on(alloc, job, pass, source, target),
     }
 }
 
 /// Does what is due in a pass.
 fn pass_on<S: Peer, T: Peer>(
     alloc: Global,
-    id: &DocId,
-    batch: u64,
+    job: &Job,
     pass: Pass,
     source: &mut S,
     target: &mut T,
 ) -> Result<(Stage, Progress), PeerFault>
-    ensures exchanges { (exchange : Option Exchange) × Exchanges S.goes T.goes id.now batch (Passing pass)
+    ensures exchanges { (exchange : Option Exchange) × Exchanges S.goes T.goes job.now (Passing pass)
         source.old target.old source.new target.new exchange (learned_of result) }
     ensures failures { CountsEither result (S.failed_calls source.old) (T.failed_calls target.old)
         (S.failed_calls source.new) (T.failed_calls target.new) }
 {
     match pass.due() {
-        Due::Open => open(alloc, id, batch, pass, source),
-        Due::Send => send(alloc, id, batch, pass, target),
-        Due::MarkTarget => mark_target(alloc, id, batch, pass, target),
-        Due::MarkSource => mark_source(alloc, id, batch, &pass, source),
+        Due::Open => open(alloc, job, pass, source),
+        Due::Send => send(alloc, job, pass, target),
+        Due::MarkTarget => mark_target(alloc, job, pass, target),
+        Due::MarkSource => mark_source(alloc, job, &pass, source),
     }
 }

@@ -3,7 +3,7 @@ use Rattle.std.proofs.Common.{◌≡◌, ℕ, List, Option, Some, None, ap, sym,
 use Rattle.model.specs.Map.{Map, get}
 use Rattle.model.specs.Answers.{answer_to}
 use Rattle.model.specs.Body.{Body}
-use Rattle.model.specs.Changes.{changes_page, every_id}
+use Rattle.model.specs.Changes.{changes_page, wanted_by}
 use Rattle.model.specs.Command.{Id, names}
 use Rattle.model.specs.Documents.{differences, opened}
 use Rattle.model.specs.History.{Chronicle, now}
@@ -18,10 +18,11 @@ use Rattle.session_peer.specs.Shown.{with_paths}
 
 -- of the version that is seen
 module _ (old new : Known) (looks : Looks old new) (seen : Chronicle) (is : seen ≡ history_of new) where
-  pub reads-changes : (since limit : ℕ) (page : ChangesPage) → page ≡ changes_page every_id (now seen) since (Some limit) AllDocs
-      → Reads old (Changes since (Some limit) AllDocs) (Changed page) new
+  pub reads-changes : (ids : Option (List Id)) (since limit : ℕ) (page : ChangesPage) → page ≡ changes_page (wanted_by ids) (now seen) since (Some limit) AllDocs
+      → Reads old (Changes since (Some limit) AllDocs ids) (Changed page) new
   unfolding answer_to
-  reads-changes since limit page e = record { looks = looks; answers = ap Changed (e ∙ ap (λ (h : Chronicle). changes_page every_id (now h) since (Some limit) AllDocs) is) }
+  reads-changes ids since limit page e =
+      record { looks = looks; answers = ap Changed (e ∙ ap (λ (h : Chronicle). changes_page (wanted_by ids) (now h) since (Some limit) AllDocs) is) }
 
   pub reads-differences : (asked : Map names (List Rev)) (lacking : Map names Difference) → lacking ≡ differences (now seen) asked
       → Reads old (RevsDiff asked) (Differences lacking) new

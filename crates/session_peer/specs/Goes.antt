@@ -47,9 +47,9 @@ fault_of (refused.Unavailable reason) = fault.Failed
 abbrev pub Fails : Known → PeerFault → Known → Type 0
 Fails old f new = IsFailure f × Looks old new
 
-abbrev pub GivesChanges : Known → ℕ → ℕ → Result ChangesPage PeerFault → Known → Type 0
-GivesChanges old since limit (Ok page) new = Reads old (Changes since (Some limit) AllDocs) (Changed page) new
-GivesChanges old since limit (Err f) new = Fails old f new
+abbrev pub GivesChanges : Known → Option (List Id) → ℕ → ℕ → Result ChangesPage PeerFault → Known → Type 0
+GivesChanges old ids since limit (Ok page) new = Reads old (Changes since (Some limit) AllDocs ids) (Changed page) new
+GivesChanges old ids since limit (Err f) new = Fails old f new
 
 abbrev pub GivesDifferences : Known → Map names (List Rev) → Result (Map names Difference) PeerFault → Known → Type 0
 GivesDifferences old asked (Ok differences) new = Reads old (RevsDiff asked) (Differences differences) new
@@ -96,7 +96,7 @@ TakesCheckpoint old id named last_seq (Err fault.Unreadable) new = ⊥
 -- A call of an end is one look, or one write, of its session; the answer is the database's at what the session has then
 -- seen, which goes on from what it had seen.
 abbrev pub Goes : Known → call.Call → Known → Type 0
-Goes old (call.Changes since limit result) new = GivesChanges old since limit result new
+Goes old (call.Changes ids since limit result) new = GivesChanges old ids since limit result new
 Goes old (call.Diff asked result) new = GivesDifferences old asked result new
 Goes old (call.OpenRevs id revs result) new = GivesRevisions old id revs result new
 Goes old (call.Bulk documents result) new = TakesBulk old documents result new

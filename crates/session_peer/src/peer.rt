@@ -9,9 +9,9 @@ ghost use Rattle.session_peer.specs.Goes.{Fails, Goes, IsFailure, fault_of};
 use crate::checkpoints::checkpoint_of;
 use crate::shown::revisions;
 use crate::written::{are_taken, bulk_of, counter_in, put_of};
-use changes_feed::{changes, local_get, revs_diff};
+use changes_feed::{changes, changes_among, local_get, revs_diff};
 use commands::{Command, Merge, NamedRevisions, Reply};
-use document_id::DocId;
+use document_id::{DocId, DocIds};
 use http_handlers::{CallFault, Calls, Viewer};
 use model::Style;
 use queries::{ChangesPage, Differences};
@@ -133,6 +133,19 @@ impl<'c, X, S: Calls<X>> Peer for SessionPeer<'c, X, S> {
         self.look()?;
         let version = self.session.version();
         Ok(changes(alloc, version, since, Some(limit), Style::AllDocs)?)
+    }
+
+    fn changes_of(
+        &mut self,
+        alloc: Global,
+        ids: &DocIds,
+        since: u64,
+        limit: u64,
+    ) -> Result<ChangesPage, PeerFault> {
+        self.look()?;
+        let version = self.session.version();
+        let style = Style::AllDocs;
+        Ok(changes_among(alloc, version, since, Some(limit), style, ids)?)
     }
 
     fn diff(&mut self, alloc: Global, asked: &NamedRevisions) -> Result<Differences, PeerFault> {

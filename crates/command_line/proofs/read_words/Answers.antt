@@ -1,9 +1,9 @@
-use Rattle.std.proofs.Common.{◌∙◌, List, sym, map, ap, subst, inl, inr, codes, Some, option_map}
+use Rattle.std.proofs.Common.{◌∙◌, Err, List, sym, map, ap, subst, inl, inr, codes, Some, option_map}
 use Rattle.command_line.specs.Serve.{IsServingOf}
 use Rattle.command_line.specs.declared.numbers.Serving.{Serving}
-use Rattle.command_line.specs.Replicate.{IsAddressOf, IsIdOf, IsReplicatingOf}
+use Rattle.command_line.specs.Replicate.{IsReplicatingOf}
 use Rattle.command_line.specs.declared.replicate.Replicating.{Replicating}
-use Rattle.clap.specs.Words.{App, Row, is_simple_and_free, fault_of, first_of, found_of, rows_of}
+use Rattle.clap.specs.Words.{App, Row, is_simple_and_free, fault_of, found_of, rows_of}
 use Rattle.command_line.proofs.Words.{mapped_some, meets_one, names, rows_held, couchd_is_simple, couchd_is_simple_and_free}
 use Rattle.command_line.proofs.Runs.{of_memory, no_run, no_replication}
 use Rattle.command_line.proofs.read_words.Goals as goal
@@ -66,32 +66,25 @@ returns-in-serve-clause-faulty g c = λ none.
     let held = rows_held _ couchd_is_simple _ _ _ app c.in-Ok.ensures.matches (λ p. rows_of (found_of p.1.now)) c.subcommand.result c.unwrap.result c.subcommand.ensures.rows c.unwrap.ensures (codes "serve") given.0 given.1 in
     inr (no_run (map g.S.AsStr.text c.args.words.now) given.0 given.1 (subst (λ (rows : List Row). (serving : Serving) → IsServingOf rows serving → ⊥) (sym held) c.in-None.ensures.no_number))
 
-pub returns-in-Ok-given_in-clause-faultless : goal.returns-in-Ok-given_in-clause-faultless
-returns-in-Ok-given_in-clause-faultless g c =
+pub returns-in-Ok-replicating_of-clause-faultless : goal.returns-in-Ok-replicating_of-clause-faultless
+returns-in-Ok-replicating_of-clause-faultless g c =
     let app = c.in_ok-couchd.ensures.app in
     let h = c.in-Ok.ensures.kinds (ap is_simple_and_free app ∙ couchd_is_simple_and_free) in
     ap (λ (a : App). fault_of a (map g.S.AsStr.text c.args.words.now)) (sym app) ∙ h
 
-pub returns-in-Ok-given_in-clause-run : goal.returns-in-Ok-given_in-clause-run
-returns-in-Ok-given_in-clause-run g c =
+pub returns-in-Ok-replicating_of-clause-run : goal.returns-in-Ok-replicating_of-clause-run
+returns-in-Ok-replicating_of-clause-run g c =
     let app = c.in_ok-couchd.ensures.app in
     let name = sym c.subcommand.ensures.name ∙ ap (option_map (λ p. p.0.now)) c.unwrap.ensures ∙ ap Some c.in-replicate.is in
     let given = names _ couchd_is_simple _ _ _ app c.in-Ok.ensures.matches (codes "replicate") name in
     let held = rows_held _ couchd_is_simple _ _ _ app c.in-Ok.ensures.matches (λ p. rows_of (found_of p.1.now)) c.subcommand.result c.unwrap.result c.subcommand.ensures.rows c.unwrap.ensures (codes "replicate") given.0 given.1 in
-    let rows = rows_of (found_of c.unwrap.result.1.now) in
-    let words = c.in-Ok-given_in.ensures in
-    let made = c.in_ok-into_replicating-in-Ok-given_in in
-    let is : IsReplicatingOf rows made.field-0 = record {
-      source = subst (IsAddressOf (first_of (codes "source") rows)) (sym made.ensures.source) words.source;
-      target = subst (IsAddressOf (first_of (codes "target") rows)) (sym made.ensures.target) words.target;
-      id = subst (IsIdOf (first_of (codes "id") rows)) (sym made.ensures.id) words.id;
-    } in
-    (given.0, given.1, subst (λ (rows : List Row). IsReplicatingOf rows made.field-0) (sym held) is)
+    (given.0, given.1, subst (λ (rows : List Row). IsReplicatingOf rows c.in-Ok-replicating_of.replicating) (sym held) c.in-Ok-replicating_of.ensures.given)
 
-pub returns-in-replicate-clause-faulty : goal.returns-in-replicate-clause-faulty
-returns-in-replicate-clause-faulty g c = λ none.
+pub returns-in-Err-Words-clause-faulty : goal.returns-in-Err-Words-clause-faulty
+returns-in-Err-Words-clause-faulty g c = λ none.
     let app = c.in_ok-couchd.ensures.app in
     let name = sym c.subcommand.ensures.name ∙ ap (option_map (λ p. p.0.now)) c.unwrap.ensures ∙ ap Some c.in-replicate.is in
     let given = names _ couchd_is_simple _ _ _ app c.in-Ok.ensures.matches (codes "replicate") name in
     let held = rows_held _ couchd_is_simple _ _ _ app c.in-Ok.ensures.matches (λ p. rows_of (found_of p.1.now)) c.subcommand.result c.unwrap.result c.subcommand.ensures.rows c.unwrap.ensures (codes "replicate") given.0 given.1 in
-    inr (no_replication (map g.S.AsStr.text c.args.words.now) given.0 given.1 (subst (λ (rows : List Row). (replicating : Replicating) → IsReplicatingOf rows replicating → ⊥) (sym held) c.in-Err-given_in.ensures.none))
+    let refused = c.in-Err-Words.ensures.none _ (ap Err c.in-Err-Words.field-0-is) in
+    inr (no_replication (map g.S.AsStr.text c.args.words.now) given.0 given.1 (subst (λ (rows : List Row). (replicating : Replicating) → IsReplicatingOf rows replicating → ⊥) (sym held) refused))

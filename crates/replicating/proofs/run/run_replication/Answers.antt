@@ -4,4 +4,4 @@ use Rattle.replicating.proofs.run.run_replication.Goals as goal
 
 pub returns : goal.returns
 returns g c =
-    replicates-from Goes Goes (λ c. c.failed_calls) (λ c. c.failed_calls) c.args.id c.replicate.result _ _ _ _ c.new-source.ensures c.new-target.ensures c.replicate.ensures
+    replicates-from Goes Goes (λ c. c.failed_calls) (λ c. c.failed_calls) c.args.id c.args.ids c.replicate.result _ _ _ _ c.new-source.ensures c.new-target.ensures c.replicate.ensures

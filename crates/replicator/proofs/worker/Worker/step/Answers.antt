@@ -15,10 +15,10 @@ returns-in-Ok-clause-steps g c =
     let t = c.args.target.now in
     let s' = c.advance.new.source in
     let t' = c.advance.new.target in
-    let old : Known = record { id = w.id; batch = w.batch; stage = stage_of w.stage } in
-    let new : Known = record { id = w.id; batch = w.batch; stage = stage_of c.in-Ok.stage } in
+    let old : Known = record { job = w.job; stage = stage_of w.stage } in
+    let new : Known = record { job = w.job; stage = stage_of c.in-Ok.stage } in
     let learned = learned_of (Ok (c.in-Ok.stage, c.in-Ok.progress)) in
-    let made = subst (λ (st : StageKind). (e : Option Exchange) × Exchanges sg tg w.id w.batch (stage_of st) s t s' t' e learned) c.replace-stage.ensures.value c.in-Ok.ensures.exchanges in
+    let made = subst (λ (st : StageKind). (e : Option Exchange) × Exchanges sg tg w.job (stage_of st) s t s' t' e learned) c.replace-stage.ensures.value c.in-Ok.ensures.exchanges in
     subst (λ (k : Known). (e : Option Exchange) × IsStep sg tg (record { worker = k; source = s; target = t }) (record { exchange = e; result = Ok c.in-Ok.progress }) (record { worker = new; source = s'; target = t' }))
     c.self.view_is (stepped sg tg old new s s' t t' learned (Ok c.in-Ok.progress) made refl refl)
 
@@ -31,10 +31,10 @@ returns-in-Err-clause-steps g c =
     let t = c.args.target.now in
     let s' = c.advance.new.source in
     let t' = c.advance.new.target in
-    let old : Known = record { id = w.id; batch = w.batch; stage = stage_of w.stage } in
-    let new : Known = record { id = w.id; batch = w.batch; stage = stage_of c.replace-stage.new.dest } in
+    let old : Known = record { job = w.job; stage = stage_of w.stage } in
+    let new : Known = record { job = w.job; stage = stage_of c.replace-stage.new.dest } in
     let learned = learned_of (Err c.in-Err.fault) in
-    let made = subst (λ (st : StageKind). (e : Option Exchange) × Exchanges sg tg w.id w.batch (stage_of st) s t s' t' e learned) c.replace-stage.ensures.value c.in-Err.ensures.exchanges in
+    let made = subst (λ (st : StageKind). (e : Option Exchange) × Exchanges sg tg w.job (stage_of st) s t s' t' e learned) c.replace-stage.ensures.value c.in-Err.ensures.exchanges in
     subst (λ (k : Known). (e : Option Exchange) × IsStep sg tg (record { worker = k; source = s; target = t }) (record { exchange = e; result = Err c.in-Err.fault }) (record { worker = new; source = s'; target = t' }))
     c.self.view_is (stepped sg tg old new s s' t t' learned (Err c.in-Err.fault) made refl
-    (ap (λ (st : StageKind). record { id = w.id; batch = w.batch; stage = stage_of st }) c.replace-stage.ensures.after))
+    (ap (λ (st : StageKind). record { job = w.job; stage = stage_of st }) c.replace-stage.ensures.after))
