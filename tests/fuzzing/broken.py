@@ -13,6 +13,7 @@ MEMBERS = {
     "_local_seq": [1, [[]]],
     "_attachments": [{}],
     "docs": [1, None, {}, [1], [{}], [[]], [{"_id": 1}]],
+    "doc_ids": [1, None, {}, "a", True, [1], [None], [[]], [{}], ["a", 1], ["a", 1.5], [], ["a", "a", ""]],
     "new_edits": [1, None, "false", False, True],
     "n": [1.5, -0.0, 2 ** 63, 2 ** 64, -(2 ** 63)],
 }
@@ -20,9 +21,11 @@ PARAMETERS = [
     "rev", "rev=", "rev=x", "rev=1-" + "A" * 32, "rev=%31-" + "a" * 32, "rev=0-1", "rev=0-0", "new_edits=false", "new_edits=true", "conflicts=1", "conflicts", "revs=x", "revs=true",
     "latest=", "latest=true", "open_revs=", "open_revs=all", "open_revs=[1]", "open_revs=[%22x%22]", "open_revs=[]", "since=x", "since=-1", "since=1234567890123456789", "since=now",
     "limit=", "limit=1", "limit=0000000000000000000", "style=x", "feed=x", "feed=longpoll", "include_docs=true", "include_docs=false", "descending=true", "filter=x", "view", "key=1", "skip=0",
+    "filter=_doc_ids", "filter=", "filter=_doc_id", "filter=_view", "doc_ids=[%22a%22]",
     "%", "&&", "=", "+=+", "%ff=%ff", "x=1", "re%76=x",
 ]
-PATHS = ["/db/_x", "/db/", "/db", "/db//", "/x", "/db/a/b", "/db/_local/", "/db/_local", "/db/_local/_x", "/db/%ff", "/db/" + "y" * 513, "*", "/db/_changes/", "/db/_purge", "/db/_compact"]
+PATHS = ["/db/_x", "/db/", "/db", "/db//", "/x", "/db/a/b", "/db/_local/", "/db/_local", "/db/_local/_x", "/db/%ff", "/db/" + "y" * 513, "*", "/db/_changes/", "/db/_purge", "/db/_compact", "/db/_purged_infos_limit", "/db/_purged_infos"]
+LIMITS = [0, -1, 1, 2 ** 32 - 1, 2 ** 32, 2 ** 63, 1.5, True, "1", [1]]
 METHODS = ["GET", "PUT", "POST", "DELETE", "HEAD", "put", "PATCH"]
 HEADERS = [
     "Content-Length: 1", "Content-Length: x", "Content-Length:", "Content-Length: 99999999999999999999999", "Content-Length: 1048577", "Transfer-Encoding: chunked", "Connection: close",
@@ -45,7 +48,10 @@ def change_bytes(random, data):
 
 
 def change_member(random, value):
-    """The value with a member that may not be there, in the object or in one of its documents."""
+    """The value with a member that may not be there, in the object or in one of its documents; in the place of a limit one that
+    may be out of range."""
+    if isinstance(value, int):
+        return random.choice(LIMITS)
     if not isinstance(value, dict):
         return random.choice([value, [], {}, None, "x"])
     documents = value.get("docs")
@@ -54,7 +60,7 @@ def change_member(random, value):
         at = random.randrange(len(documents))
         documents[at] = change_member(random, documents[at])
         return dict(value, docs=documents)
-    name = random.choice(sorted(MEMBERS))
+    name = "doc_ids" if "doc_ids" in value and random.random() < 0.6 else random.choice(sorted(MEMBERS))
     if name in value and random.random() < 0.3:
         return {k: v for k, v in value.items() if k != name}
     return dict(value, **{name: random.choice(MEMBERS[name])})

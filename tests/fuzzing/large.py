@@ -60,4 +60,20 @@ def inputs():
     yield "the largest purge", bulk(7000, 1) + request("POST", "/db/_purge", known) + request("GET", "/db") + request("GET", "/db/_changes")
     yield "a compaction of many", bulk(7000, 2) + edits(1100) + request("POST", "/db/_compact") + request("GET", "/db/e?revs_info=true") + request("GET", "/db")
     yield "many changes", bulk(7000, 1) + request("GET", "/db/_changes") + request("GET", "/db/_all_docs") + request("GET", "/db/_changes?since=3500&limit=10")
+    some = json.dumps({"doc_ids": ["d%d" % n for n in range(13999, -1, -2)] * 2}, separators=(",", ":"))
+    yield "changes of many documents", bulk(7000, 1) + b"".join(request("POST", "/db/_changes?filter=_doc_ids" + more, some) for more in ["", "&limit=10&since=3500", "&feed=continuous"])
+    few = request("PUT", "/db/a", {}) + request("PUT", "/db/b", {})
+    for name, body in [
+        ("the longest list of ids", filled(b'{"doc_ids":["b"', b',""', b"]}")),
+        ("one id many times", filled(b'{"doc_ids":["b"', b',"a"', b"]}")),
+        ("many ids of the most bytes", filled(b'{"doc_ids":["b"', b',"' + b"x" * 512 + b'"', b"]}")),
+        ("the longest text in the place of an id", filled(b'{"doc_ids":["b","', b"x", b'"]}')),
+        ("the deepest list of ids", filled(b'{"doc_ids":', b"[", b"")),
+    ]:
+        yield name, few + request("POST", "/db/_changes?filter=_doc_ids", body) + request("GET", "/db")
+    unknown = json.dumps({"doc_ids": ["n%d" % n for n in range(100000)] + ["a"]}, separators=(",", ":"))
+    yield "changes of many that are unknown", few + request("POST", "/db/_changes?filter=_doc_ids", unknown) + request("POST", "/db/_changes?filter=_doc_ids&feed=continuous", unknown)
+    limits = [request("PUT", "/db/_purged_infos_limit", limit) for limit in (4294967295, 1, 1000)]
+    purge = request("POST", "/db/_purge", known)
+    yield "a cut of a long log", bulk(7000, 1) + limits[0] + purge + limits[1] + bulk(7000, 1) + purge + limits[2] + bulk(10, 1) + purge + request("POST", "/db/_compact") + request("GET", "/db") + request("GET", "/db/_purged_infos_limit")
     yield "a long path shown", edits(20) + request("GET", "/db/e?revs=true&revs_info=true") + bulk(1, 1000) + request("GET", "/db/d0?revs=true&revs_info=true&open_revs=all")

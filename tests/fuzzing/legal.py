@@ -7,6 +7,7 @@ from reference.json_profile import Body
 
 IDS = ["a", "b", "c", "é", "x/y z"]
 LOCAL_IDS = ["r", "s"]
+OTHER_TEXTS = ["zz", "", "_x", "_local/r", "x" * 513]  # that are no document's id
 BODIES = [{}, {}, {"n": 1}, {"n": 2}, {"t": 'é"\n\u0001'}, {"m": {"b": [], "a": [1, {}]}}]
 DIGITS = "abc"
 TRUTH = ["true", "true", "false"]
@@ -20,15 +21,19 @@ class Maker:
         self.database = database
         self.kinds = [
             (self.put, 6), (self.get, 6), (self.root, 1),
-            (self.delete, 3), (self.bulk, 4), (self.merge, 6), (self.diff, 3), (self.limit, 2),
+            (self.delete, 3), (self.bulk, 4), (self.merge, 6), (self.diff, 3), (self.limit, 3),
             (self.purge, 3), (self.compact, 1),
-            (self.info, 1), (self.changes, 4), (self.all_docs, 1), (self.local, 4),
+            (self.info, 1), (self.changes, 6), (self.all_docs, 1), (self.local, 4),
         ]
 
     def one(self):
         """A method, a target and a body, which may be None."""
         kinds, weights = zip(*self.kinds)
         return self.random.choices(kinds, weights)[0]()
+
+    def last(self):
+        """As `one`, or a feed that goes on, after which the connection closes."""
+        return self.feed() if self.maybe(0.3) else self.one()
 
     # ---- parts
 
@@ -152,9 +157,10 @@ class Maker:
         return "POST", "/db/_compact", self.random.choice([None, "", "{}", "{"])
 
     def limit(self):
+        target = self.random.choice(["/db/_revs_limit", "/db/_revs_limit", "/db/_purged_infos_limit"])
         if self.maybe(0.2):
-            return "GET", "/db/_revs_limit", None
-        return "PUT", "/db/_revs_limit", self.random.choice([1, 2, 2, 3, 1000, 4294967295])
+            return "GET", target, None
+        return "PUT", target, self.random.choice([1, 2, 2, 3, 1000, 4294967295])
 
     # ---- the whole database
 
@@ -165,17 +171,35 @@ class Maker:
         return "GET", "/db/_all_docs", None
 
     def changes(self):
+        return self.asked_changes(self.some(["feed=" + self.random.choice(["normal", "longpoll"])], 0.6))
+
+    def feed(self):
+        return self.asked_changes(["feed=continuous"])
+
+    def asked_changes(self, parameters):
+        """By GET, or by POST of some documents or of all."""
         top = self.database.update_seq
-        parameters = self.some(
+        parameters += self.some(
             [
                 "since=" + self.random.choice(["now", "0", str(self.random.randint(0, top + 1))]),
                 "limit=%d" % self.random.randint(0, 6),
                 "style=" + self.random.choice(["main_only", "all_docs"]),
-                "feed=" + self.random.choice(["normal", "longpoll"]),
             ],
             0.6,
         )
-        return "GET", "/db/_changes" + ("?" + "&".join(parameters) if parameters else ""), None
+        method, body = "GET", None
+        if self.maybe(0.6):
+            method, body = "POST", {"doc_ids": self.wanted()}
+            if self.maybe(0.8):
+                parameters.append("filter=_doc_ids")
+            elif self.maybe(0.5):
+                body = self.random.choice([None, "", "{", "[]"])
+        self.random.shuffle(parameters)
+        return method, "/db/_changes" + ("?" + "&".join(parameters) if parameters else ""), body
+
+    def wanted(self):
+        """Ids, some of them again, and texts that are no document's."""
+        return [self.random.choice(IDS if self.maybe(0.8) else OTHER_TEXTS) for _ in range(self.random.randint(0, 5))]
 
     def local(self):
         id = self.random.choice(LOCAL_IDS)

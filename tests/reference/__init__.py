@@ -8,7 +8,8 @@ indexes.
     json_profile   JSON values, bodies, their compact texts
     revisions      identities of revisions
     trees          a document's revisions: leaves, winner, graft, stem, cut, strip
-    database       commands: edits, merges, local documents, purges, the revision limit, compactions
+    database       commands: edits, merges, local documents, purges, both limits, compactions
+    compactions    a compaction in slices, beside which the database goes on
     queries        answers: documents, open revisions, changes, differences, counts
     framing        bytes of a connection cut into requests
     targets        routes, ids and parameters of a request

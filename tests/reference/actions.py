@@ -104,6 +104,15 @@ def put_limit(asked):
     return Answer(200, {"ok": True})
 
 
+def get_purged_infos_limit(asked):
+    return Answer(200, asked.database.purged_infos_limit)
+
+
+def put_purged_infos_limit(asked):
+    asked.session.set_purged_infos_limit(bodies.limit(asked.body))
+    return Answer(200, {"ok": True})
+
+
 # ---- local documents
 
 
@@ -129,19 +138,30 @@ def local_written(asked, rev, body, status):
 # ---- the whole database
 
 
-def changes(asked):
+def get_changes(asked):
+    asked.parameters.refuse(["filter"])
+    return changes(asked, False)
+
+
+def post_changes(asked):
+    """Without a filter as GET: the body is not read."""
+    return changes(asked, asked.parameters.word("filter", [None, "_doc_ids"], None) is not None)
+
+
+def changes(asked, is_filtered):
     parameters = asked.parameters
     parameters.refuse(["include_docs", "descending"], ["true"])
-    parameters.refuse(["filter", "view"])
+    parameters.refuse(["view"])
     # with one session there is nothing that a long poll or a feed could wait for
     goes_on = parameters.word("feed", ["normal", "longpoll", "continuous"], "normal") == "continuous"
     style = parameters.word("style", ["main_only", "all_docs"], "main_only")
     now = parameters.get("since") == "now"
     since = asked.database.update_seq if now else parameters.number("since") or 0
     limit = parameters.number("limit")
+    ids = bodies.doc_ids(asked.body) if is_filtered else None
     if goes_on:
-        return Feed(queries.feed(asked.database, since, limit, style == "all_docs"))
-    return Answer(200, queries.changes(asked.database, since, limit, style == "all_docs"))
+        return Feed(queries.feed(asked.database, since, limit, style == "all_docs", ids))
+    return Answer(200, queries.changes(asked.database, since, limit, style == "all_docs", ids))
 
 
 def all_docs(asked):
@@ -159,7 +179,10 @@ ACTIONS = {
     ("compact", "POST"): compact,
     ("revs_limit", "GET"): get_limit,
     ("revs_limit", "PUT"): put_limit,
-    ("changes", "GET"): changes,
+    ("purged_infos_limit", "GET"): get_purged_infos_limit,
+    ("purged_infos_limit", "PUT"): put_purged_infos_limit,
+    ("changes", "GET"): get_changes,
+    ("changes", "POST"): post_changes,
     ("all_docs", "GET"): all_docs,
     ("local", "GET"): get_local,
     ("local", "PUT"): put_local,

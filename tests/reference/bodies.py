@@ -162,6 +162,14 @@ def asked_revisions(data):
     return {id: [read_revision(text) for text in revs] for id, revs in value.items()}
 
 
+def doc_ids(data):
+    """The texts of the member `doc_ids`; the other members are ignored."""
+    value = read_json(data)
+    listed = value.get("doc_ids") if isinstance(value, dict) else None
+    need(isinstance(listed, list) and all(isinstance(text, str) for text in listed), "shape")
+    return listed
+
+
 def limit(data):
     value = read_json(data)
     need(is_number(value) and 1 <= value <= revisions.LAST_GENERATION, "shape")

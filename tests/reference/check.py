@@ -11,7 +11,7 @@ import sys
 TESTS = os.path.dirname(os.path.dirname(os.path.abspath(__file__)))
 sys.path.insert(0, TESTS)
 
-from reference import json_profile, once, queries, revisions, trees  # noqa: E402
+from reference import json_profile, once, queries, revisions, trees, worked  # noqa: E402
 from reference.database import Database, Merge  # noqa: E402
 
 STATUS = {200: "200 OK", 201: "201 Created", 202: "202 Accepted", 400: "400 Bad Request", 404: "404 Not Found", 405: "405 Method Not Allowed", 409: "409 Conflict"}
@@ -40,6 +40,8 @@ DELETED = '{"error":"not_found","reason":"deleted"}'
 NUMBER = '{"error":"bad_request","reason":"number"}'
 DEPTH = '{"error":"bad_request","reason":"depth"}'
 JSON = '{"error":"bad_request","reason":"json"}'
+SHAPE = '{"error":"bad_request","reason":"shape"}'
+PARAMETER = '{"error":"bad_request","reason":"parameter"}'
 MEMBER = '{"error":"bad_request","reason":"member"}'
 METHOD = '{"error":"method_not_allowed","reason":"Method not allowed."}'
 DONE = '{"ok":true}'
@@ -76,6 +78,7 @@ def row(id, seq, rev, deleted=""):
     return '{"changes":[{"rev":"%s"}],%s"id":"%s","seq":%d}' % (rev, deleted, id, seq)
 
 
+ROWS = [row(id, at + 1, A1) for at, id in enumerate("abc")]
 ROW_A = row("a", 4, X2, '"deleted":true,')
 ROW_B = row("b", 2, A1)
 ROW_C = row("c", 3, A1)
@@ -85,6 +88,10 @@ PATH_C = path(revision("2-c*"), revision("1-a*"))
 OPEN_B = '{"ok":{"_id":"d","_rev":"%s",%s}}' % (revision("2-b*"), PATH_B)
 OPEN_C = '{"ok":{"_id":"d","_rev":"%s",%s}}' % (revision("2-c*"), PATH_C)
 ROW_D = '{"changes":[{"rev":"%s"},{"rev":"%s"}],"id":"d","seq":2}' % (revision("2-c*"), revision("2-b*"))
+
+# what three documents are answered when they are put
+THREE = [(201, at + 1, written(id, A1)) for at, id in enumerate("abc")]
+THREE_AND_A_DELETION = THREE + [(200, 4, written("a", X2))]
 
 # of each transcript its responses: status, place, body, and further lines of the head
 WORKED = {
@@ -340,6 +347,95 @@ WORKED = {
         (200, 4, changes(4, 0)),
         (200, 4, changes(4, 0, ROW_B, ROW_C, ROW_A)),
     ],
+    "queries/changes-of-some": THREE + [(200, 3, changes(3, 0, ROWS[0], ROWS[2])), (200, 3, changes(2, 1, ROWS[1]))],
+    "queries/changes-of-some-followed": THREE + [(200, 3, changes(2, 1, ROWS[1])), (200, 3, changes(3, 0, ROWS[2])), (200, 3, changes(3, 0))],
+    "queries/changes-of-some-limits": THREE_AND_A_DELETION + [(200, 4, changes(3, 1, ROW_C))] * 2 + [(200, 4, changes(4, 0, ROW_C, ROW_A))] * 3,
+    "queries/changes-of-some-since": THREE_AND_A_DELETION
+    + [(200, 4, changes(4, 0, ROW_C, ROW_A))] * 2
+    + [(200, 4, changes(4, 0, ROW_A))]
+    + [(200, 4, changes(4, 0))] * 3
+    + [(200, 4, changes(4, 0, ROW_A))],
+    "queries/changes-of-some-go-on-from-the-update-number": THREE
+    + [(200, 3, changes(3, 0, ROWS[0]))] * 2
+    + [(200, 3, changes(1, 1, ROWS[0])), (200, 3, changes(3, 0))],
+    "queries/changes-of-none": [(200, 0, changes(0, 0))] + THREE + [(200, 3, changes(3, 0))] * 3,
+    "queries/changes-of-unknown-documents": [(200, 0, changes(0, 0))] + THREE + [(200, 3, changes(3, 0))] * 2,
+    "queries/changes-of-texts-that-are-no-ids": [
+        (201, 1, written("x" * 512, A1)),
+        (201, 2, written("é" * 256, A1)),
+        (201, 3, written("_local/r", "0-1")),
+        (201, 4, written("r", A1)),
+        (200, 4, changes(3, 0)),
+        (200, 4, changes(3, 0, row("x" * 512, 1, A1))),
+        (200, 4, changes(3, 0)),
+        (200, 4, changes(3, 0)),
+        (200, 4, changes(3, 0, row("é" * 256, 2, A1))),
+        *[(200, 4, changes(3, 0))] * 5,
+        (200, 4, changes(3, 0, row("x" * 512, 1, A1), row("r", 3, A1))),
+    ],
+    "queries/changes-of-a-purged-document": THREE
+    + [
+        (201, 4, purged(1, b=[A1])),
+        (200, 4, changes(3, 0, ROWS[0])),
+        (201, 5, written("b", A1)),
+        (200, 5, changes(4, 0, ROWS[0], row("b", 4, A1))),
+        (202, 6, DONE),
+        (200, 6, changes(4, 0, ROWS[0], row("b", 4, A1))),
+    ],
+    "queries/changes-by-post-body-not-read": THREE + [(200, 3, changes(3, 0, *ROWS))] * 8 + [(200, 3, changes(3, 0, ROWS[2]))],
+    "queries/filter-body-no-json": THREE + [(400, 3, JSON)] * 13,
+    "queries/filter-body-number": [(400, 0, NUMBER)] * 6,
+    "queries/filter-body-depth": [(200, 0, changes(0, 0))] * 2 + [(400, 0, DEPTH)] * 2 + [(400, 0, SHAPE), (400, 0, DEPTH)] * 2,
+    "queries/filter-body-shape": [(400, 0, SHAPE)] * 22,
+    "queries/filter-body-other-members-ignored": THREE + [(200, 3, changes(3, 0, ROWS[1]))] * 4,
+    "queries/filter-refused": [(400, 0, PARAMETER)] * 15,
+    "queries/filter-taken": THREE + [(200, 3, changes(3, 0, ROWS[1]))] * 7,
+    "queries/filter-by-get": THREE + [(400, 3, PARAMETER)] * 6 + [(200, 3, changes(3, 0, *ROWS))] * 2,
+    "queries/filter-parameter-before-body": [(400, 0, PARAMETER)] * 11,
+    "queries/method-of-changes": [(200, 0, changes(0, 0)), (405, 0, METHOD, "Allow: GET, POST\r\n")],
+    "queries/methods-of-changes": [(405, 0, METHOD, "Allow: GET, POST\r\n")] * 10,
+    "purges/purged-limit": [(200, 0, "1000"), (200, 1, DONE), (200, 1, "1"), (400, 1, SHAPE)],
+    "purges/purged-limit-ends": [
+        (200, 1, DONE),
+        (200, 1, "1"),
+        (200, 2, DONE),
+        (200, 2, "4294967295"),
+        *[(400, 2, SHAPE)] * 6,
+        (200, 2, "4294967295"),
+        (200, 3, DONE),
+        (200, 3, "1000"),
+    ],
+    "purges/purged-limit-body": [(400, 0, JSON)] * 11
+    + [(400, 0, NUMBER)] * 6
+    + [(400, 0, DEPTH)]
+    + [(400, 0, JSON)] * 2
+    + [(400, 0, SHAPE)] * 10
+    + [(200, 0, "1000"), (400, 0, JSON)],
+    "purges/purged-limit-takes-no-number": [
+        (201, 1, written("a", A1)),
+        (200, 2, DONE),
+        (200, 2, info(1, 0, 1)),
+        (200, 2, changes(1, 0, ROWS[0])),
+        (201, 3, written("b", A1)),
+        (200, 3, info(2, 0, 2)),
+        (200, 3, changes(2, 0, ROWS[1])),
+    ],
+    "purges/purged-limit-cuts": THREE
+    + [
+        (201, 4, written("d", A1)),
+        (201, 5, purged(2, a=[A1], b=[A1])),
+        (200, 6, DONE),
+        (200, 6, info(2, 0, 4, 2)),
+        (201, 7, purged(3, c=[A1])),
+        (200, 8, DONE),
+        (200, 8, "1000"),
+        (201, 9, purged(4, a=[], d=[A1])),
+        (200, 9, info(0, 0, 4, 4)),
+        (200, 9, changes(4, 0)),
+        (201, 10, written("a", A1)),
+        (200, 10, info(1, 0, 5, 4)),
+    ],
+    "purges/method-of-purged-limit": [(405, 0, METHOD, "Allow: GET, PUT\r\n")] * 5 + [(200, 0, "1000")],
     "queries/number-below-i64": [
         (201, 1, written("a", LOWEST)),
         (200, 1, '{"_id":"a","_rev":"%s","n":-9223372036854775808}' % LOWEST),
@@ -411,7 +507,7 @@ AT_ENDS = {
     "revisions-malformed": bad(*["revision"] * 13) + [(404, 0, MISSING)] * 2 + bad("shape", "shape"),
     "targets-of-no-route": [(404, 0, MISSING)] * 11,
     "targets-of-routes": [(405, 0, METHOD, "Allow: %s\r\n" % methods) for methods in [
-        "GET", "GET, PUT, DELETE", "GET", "GET", "GET, PUT", "GET", "POST", "GET", "POST", "POST", "GET, PUT, DELETE", "POST", "GET, PUT, DELETE", "GET, PUT, DELETE",
+        "GET", "GET, PUT, DELETE", "GET", "GET", "GET, PUT", "GET", "POST", "GET, POST", "POST", "POST", "GET, PUT, DELETE", "POST", "GET, PUT, DELETE", "GET, PUT, DELETE",
     ]],
     "targets-and-methods": [(404, 0, MISSING)] * 2
     + [(405, 0, METHOD, "Allow: %s\r\n" % methods) for methods in ["GET, PUT"] + ["POST"] * 4 + ["GET, PUT, DELETE"]]
@@ -527,24 +623,34 @@ AT_ENDS_OF_FEEDS = {"feed-that-goes-on-from-none", "feed-of-one-that-was-put", "
 
 def feeds():
     """Feeds, each behind the writes of its documents."""
-    three = b"".join(response(201, at + 1, written(id, A1)) for at, id in enumerate("abc"))
-    deletion = three + response(200, 4, written("a", X2))
-    first = [row(id, at + 1, A1) for at, id in enumerate("abc")]
+    three = b"".join(response(*parts) for parts in THREE)
+    deletion = b"".join(response(*parts) for parts in THREE_AND_A_DELETION)
     one = response(201, 1, written("a", A1))
     bulk = response(201, 1, "[%s]" % ",".join(written(id, A1) for id in "abc"))
     for name, wanted in [
         ("feed-of-none", fed(0, '{"last_seq":0,"pending":0}')),
-        ("feed-limited", three + fed(3, first[0], first[1], '{"last_seq":2,"pending":1}')),
+        ("feed-limited", three + fed(3, ROWS[0], ROWS[1], '{"last_seq":2,"pending":1}')),
         ("feed-whole", deletion + fed(4, ROW_B, ROW_C, ROW_A, '{"last_seq":4,"pending":0}')),
-        ("feed-limit-of-0", three + fed(3, first[0], '{"last_seq":1,"pending":2}')),
-        ("feed-limit-reached-at-the-end", three + fed(3, *first, '{"last_seq":3,"pending":0}')),
+        ("feed-limit-of-0", three + fed(3, ROWS[0], '{"last_seq":1,"pending":2}')),
+        ("feed-limit-reached-at-the-end", three + fed(3, *ROWS, '{"last_seq":3,"pending":0}')),
         ("feed-since", deletion + fed(4, ROW_A, '{"last_seq":4,"pending":0}')),
         ("feed-since-now", three + fed(3, '{"last_seq":3,"pending":0}')),
         ("feed-since-later", three + fed(3, '{"last_seq":9,"pending":0}')),
         ("feed-that-goes-on-from-none", fed(0, '{"last_seq":0,"pending":0}')),
-        ("feed-of-one-that-was-put", one + fed(1, first[0], '{"last_seq":1,"pending":0}')),
-        ("feed-of-one-of-three", bulk + fed(1, first[1], '{"last_seq":2,"pending":1}')),
+        ("feed-of-one-that-was-put", one + fed(1, ROWS[0], '{"last_seq":1,"pending":0}')),
+        ("feed-of-one-of-three", bulk + fed(1, ROWS[1], '{"last_seq":2,"pending":1}')),
         ("feed-of-one-from-now", one + fed(1, '{"last_seq":1,"pending":0}')),
+        ("feed-of-some", deletion + fed(4, ROW_C, ROW_A, '{"last_seq":4,"pending":0}')),
+        ("feed-of-some-limited", deletion + fed(4, ROW_C, '{"last_seq":3,"pending":1}')),
+        ("feed-of-some-limit-of-0", three + fed(3, ROWS[0], '{"last_seq":1,"pending":1}')),
+        ("feed-of-some-limit-reached-at-the-end", three + fed(3, ROWS[0], ROWS[1], '{"last_seq":2,"pending":0}')),
+        ("feed-of-some-since", deletion + fed(4, ROW_A, '{"last_seq":4,"pending":0}')),
+        ("feed-of-some-since-now", three + fed(3, '{"last_seq":3,"pending":0}')),
+        ("feed-of-some-since-later", three + fed(3, '{"last_seq":9,"pending":0}')),
+        ("feed-of-no-documents", three + fed(3, '{"last_seq":0,"pending":0}')),
+        ("feed-of-unknown-documents", three + fed(3, '{"last_seq":1,"pending":0}')),
+        ("feed-by-post", three + fed(3, ROWS[0], ROWS[1], '{"last_seq":2,"pending":1}')),
+        ("feed-by-post-body-not-read", three + fed(3, *ROWS, '{"last_seq":3,"pending":0}')),
     ]:
         name = ("wire-edges/" if name in AT_ENDS_OF_FEEDS else "queries/") + name
         yield name, stored(name, ".expected") == wanted and once.run(stored(name, ".http"))[0] == wanted
@@ -634,7 +740,7 @@ def stems():
 
 def main():
     passed = failed = 0
-    for checks in [transcripts, feeds, broken, literal, digests, nestings, follower, stems]:
+    for checks in [transcripts, feeds, broken, literal, digests, nestings, follower, stems, *worked.CHECKS]:
         for name, holds in checks():
             passed += holds
             failed += not holds

@@ -50,7 +50,13 @@ class Local:
     body: Body
 
 
-LOGGED = 1000  # purges that the log keeps
+@dataclass
+class PurgedInfo:
+    """The leaves that a document lost, under the number of this purge."""
+
+    seq: int
+    id: str
+    leaves: list
 
 
 class Database:
@@ -59,8 +65,9 @@ class Database:
         self.locals = {}
         self.update_seq = 0
         self.purge_seq = 0
-        self.purges = []  # the newest, each with its number and its document
         self.revs_limit = 1000
+        self.purged_infos = []  # the log of purges: the newest of them, in the order of their numbers
+        self.purged_infos_limit = 1000
 
     def tree(self, id):
         return self.docs[id].tree if id in self.docs else None
@@ -131,14 +138,27 @@ class Database:
         removed, left = trees.cut(self.tree(id) or {}, named)
         if removed:
             self.purge_seq += 1
-            self.purges.append((self.purge_seq, id))
-            del self.purges[:-LOGGED]
+            self.purged_infos.append(PurgedInfo(self.purge_seq, id, removed))
+            self.cut_log()
             if left:
                 self.update_seq += 1
                 self.docs[id] = Record(left, self.update_seq)
             else:
                 del self.docs[id]
         return removed
+
+    def set_purged_infos_limit(self, limit):
+        """The log is cut at once, and under a higher limit gets nothing back. Takes no number."""
+        self.purged_infos_limit = limit
+        self.cut_log()
+
+    def cut_log(self):
+        del self.purged_infos[: -self.purged_infos_limit]
+
+    def is_overrun(self, mark):
+        """Whether a purge number above the mark was given and is no longer in the log."""
+        kept = {info.seq for info in self.purged_infos}
+        return any(number not in kept for number in range(mark + 1, self.purge_seq + 1))
 
     def compact(self):
         """Takes no number."""
@@ -182,6 +202,10 @@ class Session:
     def set_limit(self, limit):
         self.place += 1
         self.database.revs_limit = limit
+
+    def set_purged_infos_limit(self, limit):
+        self.place += 1
+        self.database.set_purged_infos_limit(limit)
 
     def purge(self, asked):
         """Of each document asked for, the leaves removed."""

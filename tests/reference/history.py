@@ -7,7 +7,7 @@ from .queries import texts
 
 FIRST_LINE = b'{"couch_history":1}\n'
 LAST_PLACE = 4294967295
-LAST_COUNTER = 4294967295  # of local documents
+LAST_COUNTER = 4294967295  # of local documents, and of both limits
 MOST_WRITES = 1048576  # of a bulk, and documents of a purge
 SESSIONS = 64
 
@@ -51,6 +51,8 @@ def reply_to(database, command):
         return purged(database, database.purge(asked))
     if "limit" in command:
         database.revs_limit = command["limit"]
+    elif "purged_limit" in command:
+        database.set_purged_infos_limit(command["purged_limit"])
     else:
         database.compact()
     return True
@@ -97,6 +99,10 @@ class Recorder(Session):
     def set_limit(self, limit):
         super().set_limit(limit)
         self.record({"limit": limit}, True)
+
+    def set_purged_infos_limit(self, limit):
+        super().set_purged_infos_limit(limit)
+        self.record({"purged_limit": limit}, True)
 
     def purge(self, asked):
         removed = super().purge(asked)
@@ -207,6 +213,8 @@ def check_command(command):
         expect(is_object(command, {"purge"}) and is_revs_by_id(command["purge"]) and len(command["purge"]) <= MOST_WRITES)
     elif "limit" in command:
         expect(is_object(command, {"limit"}) and within(command["limit"], 1, LAST_COUNTER))
+    elif "purged_limit" in command:
+        expect(is_object(command, {"purged_limit"}) and within(command["purged_limit"], 1, LAST_COUNTER))
     else:
         expect(command == {"compact": True})
 

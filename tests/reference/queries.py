@@ -120,9 +120,11 @@ def row(id, record, all_leaves):
     return found
 
 
-def changes(database, since, limit, all_leaves):
-    """Each document once, at its last update; `limit` is None for no limit, and 0 acts as 1."""
-    above = sorted((record.seq, id) for id, record in database.docs.items() if record.seq > since)
+def changes(database, since, limit, all_leaves, ids=None):
+    """Each document once, at its last update; `limit` is None for no limit, and 0 acts as 1. Where `ids` is a list, of the
+    documents that it names alone: their order and repeats mean nothing, and a text that is no document's id names none."""
+    wanted = set(database.docs if ids is None else ids)
+    above = sorted((record.seq, id) for id, record in database.docs.items() if record.seq > since and id in wanted)
     given = above if limit is None else above[: max(limit, 1)]
     left = len(above) - len(given)
     return {
@@ -135,20 +137,21 @@ def changes(database, since, limit, all_leaves):
 class Follower:
     """Goes on from the last row that it gave."""
 
-    def __init__(self, since, all_leaves):
+    def __init__(self, since, all_leaves, ids=None):
         self.cursor = since
         self.all_leaves = all_leaves
+        self.ids = ids
 
     def next(self, database, limit):
-        rows = changes(database, self.cursor, limit, self.all_leaves)["results"]
+        rows = changes(database, self.cursor, limit, self.all_leaves, self.ids)["results"]
         if rows:
             self.cursor = rows[-1]["seq"]
         return rows
 
 
-def feed(database, since, limit, all_leaves):
+def feed(database, since, limit, all_leaves, ids=None):
     """The rows that there are, and the end: with one session there are no more to wait for."""
-    found = changes(database, since, limit, all_leaves)
+    found = changes(database, since, limit, all_leaves, ids)
     rows = found["results"]
     last = rows[-1]["seq"] if rows else since
     return rows + [{"last_seq": last, "pending": found["pending"]}]

@@ -57,6 +57,9 @@ def reply_to(database, words):
     if name == "set_limit":
         database.revs_limit = int(words[0])
         return "done"
+    if name == "set_purged_limit":
+        database.set_purged_infos_limit(int(words[0]))
+        return "done"
     if name == "compact":
         database.compact()
         return "done"
@@ -112,7 +115,7 @@ def changed_since(database, since):
 
 def logged(database, mark):
     """The purges above a number that are in the log."""
-    return [(number, id) for number, id in database.purges if number > mark]
+    return [(info.seq, info.id) for info in database.purged_infos if info.seq > mark]
 
 
 def touched(database, update_mark, purge_mark):
@@ -205,8 +208,8 @@ def told_row(row):
     return "[%s]" % " ".join([str(row["seq"]), row["id"], *revs, *(["deleted"] if row.get("deleted") else [])])
 
 
-def told_page(database, since, limit, style):
-    page = queries.changes(database, int(since), optional(limit, int), is_all(style))
+def told_page(database, since, limit, style, ids=None):
+    page = queries.changes(database, int(since), optional(limit, int), is_all(style), ids)
     return "".join(map(told_row, page["results"])) + "[last %(last_seq)d pending %(pending)d]" % page
 
 
@@ -233,10 +236,12 @@ QUERIES = {
     "open_revs": told_opened,
     "revs_diff": told_differences,
     "changes": told_page,
+    "changes_of": lambda database, texts, *words: told_page(database, *words, ids=texts.split(",")),
     "all_docs": told_all,
     "info": told_counts,
     "get_local": told_local,
     "revs_limit": lambda database: str(database.revs_limit),
+    "purged_infos_limit": lambda database: str(database.purged_infos_limit),
 }
 
 
@@ -251,6 +256,11 @@ def told(statements):
         if name == "follow":
             follower = queries.Follower(int(words[0]), is_all(words[1]))
             yield "at %d" % follower.cursor
+        elif name == "follow_some":
+            follower = queries.Follower(int(words[1]), is_all(words[2]), words[0].split(","))
+            yield "at %d" % follower.cursor
+        elif name == "pending":
+            yield str(len(queries.changes(history.database, follower.cursor, None, False, follower.ids)["results"]))
         elif name == "next":
             rows = follower.next(history.database, int(words[0]))
             yield "%s at %d" % ("".join(map(told_row, rows)), follower.cursor)

@@ -14,15 +14,15 @@ HERE = os.path.dirname(os.path.abspath(__file__))
 TESTS = os.path.dirname(HERE)
 sys.path[:0] = [TESTS, HERE]
 
-from cases import conflicts, edges, examples, first_path, purges, queries, wire_edges  # noqa: E402
+from cases import conflicts, edges, examples, filters, first_path, purge_log, purges, queries, wire_edges  # noqa: E402
 from reference import history, once  # noqa: E402
 
 # the cases of each folder
 FOLDERS = {
     "first-path": first_path.CASES,
     "conflicts": conflicts.CASES,
-    "queries": {**queries.CASES, **edges.CASES},
-    "purges": purges.PURGES,
+    "queries": {**queries.CASES, **edges.CASES, **filters.CASES},
+    "purges": {**purges.PURGES, **purge_log.CASES},
     "compactions": purges.COMPACTIONS,
     "broken-input": first_path.BROKEN_INPUT,
     "wire-edges": wire_edges.CASES,

@@ -1,0 +1,75 @@
+"""Clients that wait for some documents while others change."""
+import select
+
+from .clients import target
+
+OTHERS = 300  # documents that are written meanwhile
+IDLE = 1.5  # seconds in which nothing is written
+SOON = 0.2  # seconds in which one would be told
+
+
+class Quiet:
+    """Waits at a server whose only writer this is, so that its place is the update number."""
+
+    def __init__(self, connect, check):
+        self.connect, self.check = connect, check
+        self.writer = connect()
+        self.revisions = {}
+        self.waiting = []  # connections that nothing is due to
+
+    def write(self, id, method="PUT"):
+        """Writes a document, and answers its row."""
+        parent = self.revisions.get(id)
+        at = "/db/" + id + ("" if parent is None else "?rev=" + parent)
+        status, value = self.writer.ask(method, at, {"n": self.writer.place})
+        self.check(status in (200, 201), "%d, %r for a write of %s", status, value, id)
+        self.revisions[id] = value["rev"]
+        row = {"changes": [{"rev": value["rev"]}], "id": id, "seq": self.writer.place}
+        return dict(row, deleted=True) if method == "DELETE" else row
+
+    def asked(self, feed, since, *ids):
+        """A connection that asked to be told of these documents, and waits."""
+        connection = self.connect()
+        connection.send("POST", target(feed, since, None), {"doc_ids": list(ids)})
+        if feed == "continuous":
+            status, _ = connection.head()
+            self.check((status, connection.place) == (200, self.writer.place), "a feed begins at %d with %d", connection.place, status)
+        self.waiting.append(connection)
+        return connection
+
+    def nobody_is_told(self, seconds, text):
+        ready, _, _ = select.select([connection.socket for connection in self.waiting], [], [], seconds)
+        early = any(connection.rest for connection in self.waiting)
+        self.check(not ready and not early, "%d of %d who wait for others are told of something when %s", len(ready), len(self.waiting), text)
+
+    def run(self):
+        """A poll and a feed wait for a document, and one of each for none that is there."""
+        for id in "abc":
+            self.write(id)
+        poll, feed = self.asked("longpoll", 3, "b", "zz", "b"), self.asked("continuous", 3, "zz", "b")
+        self.asked("longpoll", "now", "zz", "x" * 513, "")
+        self.asked("continuous", "now", "zz")
+        self.nobody_is_told(IDLE, "nothing is written")
+        for number in range(OTHERS):
+            self.write("other-%d" % number)
+        for id in "ac":
+            self.write(id)
+        self.nobody_is_told(SOON, "others are written")
+        self.is_told(poll, feed)
+        for connection in self.waiting + [poll, self.writer]:
+            connection.close()
+
+    def is_told(self, poll, feed):
+        """What is written of the document is told at once, to a poll once."""
+        self.waiting.remove(poll)
+        row = self.write("b")
+        status, page = poll.answer()
+        wanted = {"last_seq": row["seq"], "pending": 0, "results": [row]}
+        self.check((status, page, poll.place) == (200, wanted, row["seq"]), "a poll is answered %d, %r at %d", status, page, poll.place)
+        line = feed.line()
+        self.check(line == row, "a feed tells %r in place of %r", line, row)
+        self.write("c")
+        self.nobody_is_told(SOON, "another one is written")
+        row, line = self.write("b", "DELETE"), feed.line()
+        self.check(line == row, "a feed tells %r in place of %r", line, row)
+        self.nobody_is_told(SOON, "all is told")
