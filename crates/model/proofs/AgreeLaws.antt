@@ -10,7 +10,7 @@ use Rattle.model.specs.Tree.{Tree}
 use Rattle.model.specs.Command.{Id, names, Command, Seat, Entry}
 use Rattle.model.specs.PurgeLog.{PurgeLog, logged, limited, purges_since, is_overrun, AreNumbered}
 use Rattle.model.specs.Database.{Database, Record, with_tree, stripped, compacted, act}
-use Rattle.model.specs.History.{replay}
+use Rattle.model.specs.History.{replay, Chronicle, base_of, now, successor, Follows, extends, reopened}
 use Rattle.model.specs.Compaction.{Marks, marks_of, is_logged, is_updated, strip_at, Agrees}
 use Rattle.model.proofs.ListLaws.{by_cases}
 use Rattle.model.proofs.MapLaws.{get-refine_all}
@@ -18,6 +18,7 @@ use Rattle.model.proofs.LookupLaws.{get-put_same, get-put_other, get-without_oth
 use Rattle.model.proofs.StripLaws.{strip-strip}
 use Rattle.model.proofs.LogLaws.{AreNumbered-logged, since-logged, is_overrun-logged, AreNumbered-limited, since-limited, is_overrun-limited}
 use Rattle.model.proofs.StepLaws.{KeptByEntries, purged, of_act, of_replay}
+use Rattle.model.proofs.LastLaws.{later_entries}
 
 -- e is a later database than d
 record Later (d e : Database) : Type 0 where
@@ -174,8 +175,8 @@ Later-compacted d h = record {
   agrees = λ copy m u p. Agrees-same copy m d (compacted d) refl (λ id. AgreesAt-same copy m d (compacted d) id refl (strip_at-compacted d id));
 }
 
-later : KeptByEntries IsLater
-later = record {
+later_by_entries : KeptByEntries IsLater
+later_by_entries = record {
   purges = record { writes = record { none = Later-none; more = Later-more; tree = Later-tree }; purge = Later-purged };
   aside = Later-aside;
   limit = Later-limited;
@@ -183,11 +184,30 @@ later = record {
 }
 
 pub Agrees-replay : (copy : Id → Option Record) (m : Marks) (d : Database) (es : List Entry) → AreNumbered d.purges.purge_seq d.purges.infos → m.update ≤ d.update_seq → m.purge ≤ d.purges.purge_seq → Agrees copy m d → Agrees copy m (replay d es)
-Agrees-replay copy m d es h u p a = (of_replay IsLater later d es h).agrees copy m u p a
+Agrees-replay copy m d es h u p a = (of_replay IsLater later_by_entries d es h).agrees copy m u p a
 
 -- what one entry does: a copy of all strips agrees at the database's own numbers
 pub Agrees-entry : (d : Database) (seat : Seat) (c : Command) → AreNumbered d.purges.purge_seq d.purges.infos → Agrees (strip_at d) (marks_of d) (act d seat c)
-Agrees-entry d seat c h = (of_act IsLater later d seat c h).agrees (strip_at d) (marks_of d) (omega arith) (omega arith) (inr (λ id. inl refl))
+Agrees-entry d seat c h = (of_act IsLater later_by_entries d seat c h).agrees (strip_at d) (marks_of d) (omega arith) (omega arith) (inr (λ id. inl refl))
 
 pub is_overrun-replay : (d : Database) (es : List Entry) (mark : ℕ) → AreNumbered d.purges.purge_seq d.purges.infos → is_overrun d.purges mark ≡ true → is_overrun (replay d es).purges mark ≡ true
-is_overrun-replay d es mark h over = (of_replay IsLater later d es h).overrun mark over
+is_overrun-replay d es mark h over = (of_replay IsLater later_by_entries d es h).overrun mark over
+
+-- ---- one version follows another
+
+Later-successor : (d : Database) → IsLater d (successor d)
+Later-successor d = Later-aside d (successor d) refl refl refl
+
+module _ (earlier : Chronicle) where
+  Later-follows : (later : Chronicle) → Follows later earlier → IsLater (now earlier) (now later)
+  Later-follows later (extends _ _ x) = let m = later_entries later earlier x in subst (IsLater (now earlier)) (sym m.1) (of_replay IsLater later_by_entries (now earlier) m.0)
+  Later-follows later (reopened _ middle _ f is) =
+      let next = successor (now middle) in
+      Later-more (now earlier) (now middle) (now later) (Later-follows middle f)
+      (Later-more (now middle) next (now later) (Later-successor (now middle)) (subst (λ b. IsLater (base_of b) (now later)) is (of_replay IsLater later_by_entries (base_of later.base) later.entries)))
+
+  pub Agrees-follows : (copy : Id → Option Record) (m : Marks) (later : Chronicle) → AreNumbered (now earlier).purges.purge_seq (now earlier).purges.infos → Follows later earlier → m.update ≤ (now earlier).update_seq → m.purge ≤ (now earlier).purges.purge_seq → Agrees copy m (now earlier) → Agrees copy m (now later)
+  Agrees-follows copy m later h f u p a = (Later-follows later f h).agrees copy m u p a
+
+  pub is_overrun-follows : (later : Chronicle) (mark : ℕ) → AreNumbered (now earlier).purges.purge_seq (now earlier).purges.infos → Follows later earlier → is_overrun (now earlier).purges mark ≡ true → is_overrun (now later).purges mark ≡ true
+  is_overrun-follows later mark h f over = (Later-follows later f h).overrun mark over

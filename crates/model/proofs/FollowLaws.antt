@@ -7,7 +7,7 @@ use Rattle.model.specs.Map.{Map}
 use Rattle.model.specs.Command.{Id, names}
 use Rattle.model.specs.Query.{Style, Row}
 use Rattle.model.specs.Database.{Database, Record, IsNumbered}
-use Rattle.model.specs.History.{Chronicle, now, Follows}
+use Rattle.model.specs.History.{Chronicle, base_of, now, Follows}
 use Rattle.model.specs.Changes.{row, rows_since, last_seq_of, first_rows, changes_page, IsRightFeed, fed}
 use Rattle.model.proofs.UnseenLaws.{row-stripped}
 use Rattle.model.proofs.LastLaws.{Lasts, Lasts-before, Lasts-follows, IsNumbered-follows}
@@ -22,7 +22,7 @@ IsRightFeed-later wanted style m s c d e le h right id r has w above upto =
     right id b.was b.has w (omega (arith, above, seq)) (omega (arith, upto, seq))
     ∙ ap Some (sym (row-stripped style (b.was.seq, (id, b.was))) ∙ (λ i. row style (seq i, (id, b.same i))) ∙ row-stripped style (r.seq, (id, r)))
 
-pub IsRightFeed-follows : (wanted : Id → Bool) (style : Style) (m : Map names Row) (s c n : ℕ) (later earlier : Chronicle) → IsNumbered earlier.base → Follows later earlier → c ≤ (now earlier).update_seq → IsRightFeed wanted style m s c (now earlier)
+pub IsRightFeed-follows : (wanted : Id → Bool) (style : Style) (m : Map names Row) (s c n : ℕ) (later earlier : Chronicle) → IsNumbered (base_of earlier.base) → Follows later earlier → c ≤ (now earlier).update_seq → IsRightFeed wanted style m s c (now earlier)
     → let rows = take n (rows_since wanted (now later) c style) in IsRightFeed wanted style (fed m rows) s (last_seq_of c rows) (now later)
 IsRightFeed-follows wanted style m s c n later earlier num follows le right =
     IsRightFeed-first style wanted (now later) c m s n (IsNumbered-follows earlier num later follows) (IsRightFeed-later wanted style m s c (now earlier) (now later) le (Lasts-follows earlier later follows) right)

@@ -4,7 +4,7 @@ use Rattle.std.proofs.Common.{sym, ap, ◌∙◌, append_assoc}
 use Rattle.std.proofs.lemmas.List.{append-nil}
 use Rattle.model.specs.Command.{Command, Seat, Job, Entry}
 use Rattle.model.specs.Database.{Database, act, calls_of}
-use Rattle.model.specs.History.{replay, IsNext, IsLegal, entry_of, batch_entries, job_of, Chronicle, now, extended, Extends, Follows, extends, reopened}
+use Rattle.model.specs.History.{replay, IsNext, IsLegal, entry_of, batch_entries, job_of, Chronicle, base_of, now, extended, Extends, Follows, extends, reopened}
 
 pub replay-append : (base : Database) (es more : List Entry) → replay base (es ++ more) ≡ replay (replay base es) more
 replay-append base [] more = refl
@@ -51,7 +51,7 @@ pub Extends-extended : (v : Chronicle) (es : List Entry) → Extends (extended v
 Extends-extended v es = record { base = refl; more = es; entries = refl }
 
 pub now-extended : (v : Chronicle) (es : List Entry) → now (extended v es) ≡ replay (now v) es
-now-extended v es = replay-append v.base v.entries es
+now-extended v es = replay-append (base_of v.base) v.entries es
 
 pub Follows-itself : (v : Chronicle) → Follows v v
 Follows-itself v = extends v v (Extends-itself v)

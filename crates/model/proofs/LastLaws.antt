@@ -8,7 +8,7 @@ use Rattle.model.specs.Tree.{Tree}
 use Rattle.model.specs.Command.{Id, Entry}
 use Rattle.model.specs.PurgeLog.{logged}
 use Rattle.model.specs.Database.{Database, Record, IsNumbered, with_tree, without_document, leave, stripped, compacted}
-use Rattle.model.specs.History.{replay, Chronicle, now, successor, Extends, Follows, extends, reopened}
+use Rattle.model.specs.History.{replay, Chronicle, base_of, now, successor, Extends, Follows, extends, reopened}
 use Rattle.model.specs.Compaction.{strip_at}
 use Rattle.model.proofs.MapLaws.{get-refine_all}
 use Rattle.model.proofs.LookupLaws.{put-cases, without-some}
@@ -89,8 +89,8 @@ kept = record {
 
 -- ---- one version follows another
 
-later_entries : (later earlier : Chronicle) → Extends later earlier → (more : List Entry) × (now later ≡ replay (now earlier) more)
-later_entries later earlier x = (x.more, (λ i. replay (x.base i) (x.entries i)) ∙ replay-append earlier.base earlier.entries x.more)
+pub later_entries : (later earlier : Chronicle) → Extends later earlier → (more : List Entry) × (now later ≡ replay (now earlier) more)
+later_entries later earlier x = (x.more, (λ i. replay (base_of (x.base i)) (x.entries i)) ∙ replay-append (base_of earlier.base) earlier.entries x.more)
 
 module _ (earlier : Chronicle) where
   pub Lasts-follows : (later : Chronicle) → Follows later earlier → Lasts (now earlier) (now later)
@@ -98,14 +98,14 @@ module _ (earlier : Chronicle) where
   Lasts-follows later (reopened _ middle _ f is) =
       let next = successor (now middle) in
       Lasts-more (now earlier) (now middle) (now later) (Lasts-follows middle f)
-      (Lasts-more (now middle) next (now later) (Lasts-docs (now middle) next refl (omega arith)) (subst (λ b. Lasts b (now later)) is (of_replay Lasts kept later.base later.entries)))
+      (Lasts-more (now middle) next (now later) (Lasts-docs (now middle) next refl (omega arith)) (subst (λ b. Lasts (base_of b) (now later)) is (of_replay Lasts kept (base_of later.base) later.entries)))
 
-  pub IsNumbered-follows : IsNumbered earlier.base → (later : Chronicle) → Follows later earlier → IsNumbered (now later)
-  IsNumbered-follows h later (extends _ _ x) = let m = later_entries later earlier x in subst IsNumbered (sym m.1) (IsNumbered-replay (now earlier) m.0 (IsNumbered-replay earlier.base earlier.entries h))
+  pub IsNumbered-follows : IsNumbered (base_of earlier.base) → (later : Chronicle) → Follows later earlier → IsNumbered (now later)
+  IsNumbered-follows h later (extends _ _ x) = let m = later_entries later earlier x in subst IsNumbered (sym m.1) (IsNumbered-replay (now earlier) m.0 (IsNumbered-replay (base_of earlier.base) earlier.entries h))
   IsNumbered-follows h later (reopened _ middle _ f is) =
       let before = IsNumbered-follows h middle f in
-      IsNumbered-replay later.base later.entries (subst IsNumbered (sym is) (record { within = before.within; distinct = before.distinct }))
+      IsNumbered-replay (base_of later.base) later.entries (subst (λ b. IsNumbered (base_of b)) (sym is) (record { within = before.within; distinct = before.distinct }))
 
   pub purge_seq-follows : (later : Chronicle) → Follows later earlier → (now earlier).purges.purge_seq ≤ (now later).purges.purge_seq
   purge_seq-follows later (extends _ _ x) = let m = later_entries later earlier x in subst (λ d. (now earlier).purges.purge_seq ≤ d.purges.purge_seq) (sym m.1) (purge_seq-replay (now earlier) m.0)
-  purge_seq-follows later (reopened _ middle _ f is) = omega (arith, purge_seq-follows middle f, purge_seq-replay later.base later.entries, ap (λ b. b.purges.purge_seq) is)
+  purge_seq-follows later (reopened _ middle _ f is) = omega (arith, purge_seq-follows middle f, purge_seq-replay (base_of later.base) later.entries, ap (λ b. (base_of b).purges.purge_seq) is)

@@ -5,7 +5,7 @@ use Rattle.std.proofs.lemmas.Option.{none-some, slice_get_within}
 use Rattle.std.proofs.lemmas.List.{take-append-le}
 use Rattle.model.specs.Command.{Command, Reply, Seat, Entry}
 use Rattle.model.specs.Database.{Database}
-use Rattle.model.specs.History.{replay, Chronicle, Extends}
+use Rattle.model.specs.History.{replay, Chronicle, base_of, Extends}
 use Rattle.model.specs.Answers.{answer_to}
 use Rattle.model.specs.World.{Completed, WroteAt, Asked}
 use Rattle.model.specs.Told.{Tells, AllTold}
@@ -44,9 +44,9 @@ module _ (base : Database) where
   Tells-within h seat command place reply t = (t.0, omega (arith, t.0, slice_get_within h (place - 1) _ t.1))
 
 module _ (later earlier : Chronicle) (x : Extends later earlier) where
-  pub Tells-extended : (c : Completed) → Tells earlier.base earlier.entries c → Tells later.base later.entries c
-  Tells-extended c t = subst (λ b. Tells b later.entries c) (sym x.base) (subst (λ es. Tells earlier.base es c) (sym x.entries) (Tells-append earlier.base earlier.entries x.more c t))
+  pub Tells-extended : (c : Completed) → Tells (base_of earlier.base) earlier.entries c → Tells (base_of later.base) later.entries c
+  Tells-extended c t = subst (λ b. Tells (base_of b) later.entries c) (sym x.base) (subst (λ es. Tells (base_of earlier.base) es c) (sym x.entries) (Tells-append (base_of earlier.base) earlier.entries x.more c t))
 
-  pub AllTold-extended : (cs : List Completed) → AllTold earlier.base earlier.entries cs → AllTold later.base later.entries cs
+  pub AllTold-extended : (cs : List Completed) → AllTold (base_of earlier.base) earlier.entries cs → AllTold (base_of later.base) later.entries cs
   AllTold-extended [] t = tt
   AllTold-extended (c ∷ cs) t = (Tells-extended c t.0, AllTold-extended cs t.1)

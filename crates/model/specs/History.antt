@@ -1,8 +1,8 @@
 -- Histories: lists of entries, oldest first, from a base.
-use Rattle.std.specs.Prelude.{◌≡◌, ◌≤◌, ◌+◌, ℕ, List, [], ◌∷◌, ◌++◌, filter, map, ⊤}
+use Rattle.std.specs.Prelude.{◌≡◌, ◌≤◌, ◌+◌, ℕ, List, [], ◌∷◌, ◌++◌, filter, map, ⊤, Option, Some, None}
 use Rattle.model.specs.Map.{empty, same_key}
 use Rattle.model.specs.Command.{numbers, Command, Seat, Job, Entry}
-use Rattle.model.specs.Database.{Database, IsDatabase, reply_to, act, calls_of}
+use Rattle.model.specs.Database.{Database, IsDatabase, empty_database, reply_to, act, calls_of}
 
 -- the database after the entries
 abbrev pub replay : Database → List Entry → Database
@@ -41,13 +41,19 @@ calls_in = map (λ e. e.seat.call)
 
 -- ---- a history with its base
 
+-- the base that a history names, which is the empty database where it names none
+abbrev pub base_of : Option Database → Database
+base_of None = empty_database
+base_of (Some d) = d
+
+-- The first epoch of a store names no base. The next one names its own, which may be empty too.
 pub record Chronicle : Type 0 where
-  pub base : Database
+  pub base : Option Database
   pub entries : List Entry
 
 -- the database at its end
 abbrev pub now : Chronicle → Database
-now c = replay c.base c.entries
+now c = replay (base_of c.base) c.entries
 
 -- the history with more entries
 abbrev pub extended : Chronicle → List Entry → Chronicle
@@ -77,4 +83,4 @@ successor d = record d { calls = empty }
 -- later goes on from earlier: in one epoch, or through the bases of the epochs between
 pub data Follows : Chronicle → Chronicle → Type 0 where
   extends : (later earlier : Chronicle) → Extends later earlier → Follows later earlier
-  reopened : (later middle earlier : Chronicle) → Follows middle earlier → later.base ≡ successor (now middle) → Follows later earlier
+  reopened : (later middle earlier : Chronicle) → Follows middle earlier → later.base ≡ Some (successor (now middle)) → Follows later earlier

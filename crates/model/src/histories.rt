@@ -1,11 +1,13 @@
 //! Laws of histories, of interleavings and of feeds.
-ghost use Rattle.std.specs.Prelude.{◌≡◌, ◌≢◌, ◌↔◌, ◌⊎◌, ℕ, ◌+◌, ◌<◌, ◌≤◌, Bool, List, [], ◌∷◌, ◌++◌, length, map, take, slice_get, filter_map, AllPairs, Contains, Option};
+ghost use Rattle.std.specs.Prelude.{◌≡◌, ◌≢◌, ◌↔◌, ◌⊎◌, ℕ, ◌+◌, ◌<◌, ◌≤◌, Bool, true, List, [], ◌∷◌, ◌++◌, length, map, take, slice_get, filter_map, AllPairs, Contains, Option};
 ghost use Rattle.std.specs.List.{range_with_len};
 ghost use Rattle.model.specs.Map.{Map};
 ghost use Rattle.model.specs.Command.{Id, names, Command, Reply, Seat, Job, Entry};
 ghost use Rattle.model.specs.Query.{Style, Row};
-ghost use Rattle.model.specs.Database.{Database, IsDatabase, IsNumbered, empty_database, act, calls_of};
-ghost use Rattle.model.specs.History.{replay, IsNext, IsLegal, batch_entries, job_of, of_session, calls_in, Chronicle, now, extended, Extends, Follows, IsBase, largest_base, successor};
+ghost use Rattle.model.specs.Database.{Database, Record, IsDatabase, IsNumbered, empty_database, act, calls_of};
+ghost use Rattle.model.specs.History.{replay, IsNext, IsLegal, batch_entries, job_of, of_session, calls_in, Chronicle, now, extended, Extends, Follows, IsBase, base_of, largest_base, successor};
+ghost use Rattle.model.specs.PurgeLog.{AreNumbered, is_overrun};
+ghost use Rattle.model.specs.Compaction.{Agrees, Marks};
 ghost use Rattle.model.specs.Changes.{rows_since, last_seq_of, changes_page, IsRowOf, IsRightFeed, fed};
 ghost use Rattle.model.specs.World.{Config, Event, Put, Swap, Completed, WroteAt, World, AddsCompact, database_of, start_world, step, run};
 ghost use Rattle.model.specs.Told.{Tells, AllTold, wrote, places_of, NoneFalls};
@@ -53,9 +55,9 @@ pub fn histories_begin_from_bases()
 /// length.
 pub fn longer_histories_tell_more()
     ensures each { (later earlier : Chronicle) (c : Completed) → Extends later earlier →
-        Tells earlier.base earlier.entries c → Tells later.base later.entries c }
+        Tells (base_of earlier.base) earlier.entries c → Tells (base_of later.base) later.entries c }
     ensures all { (later earlier : Chronicle) (cs : List Completed) → Extends later earlier →
-        AllTold earlier.base earlier.entries cs → AllTold later.base later.entries cs }
+        AllTold (base_of earlier.base) earlier.entries cs → AllTold (base_of later.base) later.entries cs }
     ensures places { (base : Database) (h : List Entry) (seat : Seat) (c : Command) (place : ℕ) (reply : Reply) →
         Tells base h (WroteAt seat c place reply) → (0 < place) × (place ≤ length h) }
 {}
@@ -72,6 +74,18 @@ pub fn versions_follow_in_order()
         (now earlier).update_seq ≤ (now later).update_seq }
     ensures purge_numbers { (later earlier : Chronicle) → Follows later earlier →
         (now earlier).purges.purge_seq ≤ (now later).purges.purge_seq }
+{}
+
+/// A copy that agrees with a version agrees with each one that follows, in this epoch or a later one, and a lost purge
+/// stays lost.
+pub fn agreement_follows()
+    ensures agrees { (copy : Id → Option Record) (m : Marks) (later earlier : Chronicle) →
+        AreNumbered (now earlier).purges.purge_seq (now earlier).purges.infos → Follows later earlier →
+        m.update ≤ (now earlier).update_seq → m.purge ≤ (now earlier).purges.purge_seq →
+        Agrees copy m (now earlier) → Agrees copy m (now later) }
+    ensures overrun { (later earlier : Chronicle) (mark : ℕ) →
+        AreNumbered (now earlier).purges.purge_seq (now earlier).purges.infos → Follows later earlier →
+        is_overrun (now earlier).purges mark ≡ true → is_overrun (now later).purges mark ≡ true }
 {}
 
 /// After every list of events the history is legal, tells each completed call and holds no other entry, and the
@@ -114,7 +128,7 @@ pub fn changes_list_later_updates()
 /// map that is right up to a number is right, with a page of changes since then, up to the page's last number.
 pub fn feeds_stay_right()
     ensures next { (wanted : Id → Bool) (style : Style) (m : Map names Row) (s c n : ℕ)
-        (later earlier : Chronicle) → IsNumbered earlier.base → Follows later earlier →
+        (later earlier : Chronicle) → IsNumbered (base_of earlier.base) → Follows later earlier →
         c ≤ (now earlier).update_seq → IsRightFeed wanted style m s c (now earlier) →
         let rows = take n (rows_since wanted (now later) c style) in
         IsRightFeed wanted style (fed m rows) s (last_seq_of c rows) (now later) }
