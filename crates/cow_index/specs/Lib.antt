@@ -1,6 +1,7 @@
 pub mod CowMap
 pub mod Entries
 pub mod Height
+pub mod LookUp
 pub mod NodeMaker
 pub mod Path
 pub mod Root

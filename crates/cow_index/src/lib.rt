@@ -2,6 +2,7 @@
 //! older one all that it did not change, and the older map stays as it was.
 #![tactic(auto)]
 
+mod look_up;
 mod map;
 mod nodes;
 mod root;
@@ -11,6 +12,7 @@ mod tree;
 mod walk;
 
 pub use index_key::IndexKey;
+pub use look_up::{LookUp, step_each};
 pub use map::CowMap;
 pub use shared::Shared;
 pub use walk::Range;

@@ -5,6 +5,7 @@ ghost use Rattle.std.specs.Map.Iter.{ShowsInOrder, deref_pair};
 ghost use Rattle.cow_index.specs.Entries.{without, entries_from};
 ghost use Rattle.cow_index.specs.Height.{bits};
 
+use crate::look_up::LookUp;
 use crate::nodes::NodeMaker;
 use crate::root::Root;
 use crate::tree::{Entry, MAX_HEIGHT};
@@ -103,6 +104,13 @@ impl<K: IndexKey, V: Drop> CowMap<K, V> {
         ensures { option_copied result ≡ find K.cmp key.now self.now.entries }
     {
         self.root.get(key)
+    }
+
+    /// A look-up of the key that stands at the root: at its end after [`height`](CowMap::height) steps.
+    pub fn look_up<'a>(&'a self, key: &'a K) -> LookUp<'a, K, V>
+        ensures { result ≡ (key.now, find K.cmp key.now self.now.entries) }
+    {
+        LookUp::new(key, &self.root)
     }
 
     /// How many keys are not below `key`, counted on one way down from the root.
