@@ -1,2 +1,4 @@
 pub mod Crossing
 pub mod SetLists
+pub mod Ascending
+pub mod Steps

@@ -10,6 +10,8 @@ ghost use Rattle.model.specs.Map.{get, empty, put as put_in, without as without_
 ghost use Rattle.local_docs.specs.Written.{written_or_fault};
 ghost use Rattle.local_docs.specs.declared.fault.LocalFault.TheVariants.{Conflict, Missing, LastCounter};
 
+mod listed;
+
 use crate::fault::LocalFault;
 use crate::local::LocalDoc;
 use cow_index::CowMap;

@@ -4,6 +4,8 @@ ghost use Rattle.std.specs.Map.Iter.{ShowsInOrder, deref_pair};
 ghost use Rattle.model.specs.PurgeLog.{empty_log, limited, logged, is_overrun, purges_since};
 ghost use Rattle.purge.specs.Log.{PurgedEntry, info_of};
 
+mod listed;
+
 use crate::newest::{newest_beside, without_older};
 use crate::purged::Purged;
 use cow_index::{CowMap, Range};

@@ -1,5 +1,8 @@
 //! A purge as it is kept.
-ghost use Rattle.std.specs.Prelude.{◌≡◌, IfOk};
+ghost use Rattle.std.specs.Prelude.{◌≡◌, ◌↔◌, ℕ, All, IfOk, IsTrue};
+ghost use Rattle.model.specs.PurgeLog.{IsPurgeInfo};
+ghost use Rattle.model.specs.Revision.{IsRev};
+ghost use Rattle.purge.specs.Log.{info_of};
 
 use document_id::DocId;
 use revision_id::RevId;
@@ -29,7 +32,8 @@ impl Model for Purged {
 }
 
 impl Purged {
-    pub(crate) fn new(id: DocId, leaves: Vec<RevId>) -> Purged
+    /// The purge of these leaves of the document.
+    pub fn new(id: DocId, leaves: Vec<RevId>) -> Purged
         ensures { result ≡ (id, leaves.items) }
     {
         Purged { id, leaves }
@@ -55,5 +59,25 @@ impl Purged {
         ensures { result.now ≡ self.now.1 }
     {
         &self.leaves
+    }
+
+    /// Whether it is one that a log can keep: the document lost a leaf. The id and the revisions are read for the contract
+    /// alone.
+    pub(crate) fn lost_leaves(&self) -> bool
+        ensures { (seq : ℕ) → IsTrue result ↔ IsPurgeInfo (info_of (seq, self.now)) }
+    {
+        let _id = self.id.as_str();
+        read_all(&self.leaves);
+        !self.leaves.is_empty()
+    }
+}
+
+/// Reads the ranges that all revisions keep: for the contract alone, since a list says nothing of what the types of its
+/// items keep.
+fn read_all(revs: &[RevId])
+    ensures { All IsRev revs.now }
+{
+    for rev in revs {
+        let _generation = rev.generation();
     }
 }

@@ -14,3 +14,4 @@ pub mod Grafts
 pub mod Ends
 pub mod Shortened
 pub mod Kept
+pub mod Deciding

@@ -16,7 +16,7 @@ use Rattle.model.proofs.MapLaws.{same_key-apart}
 use Rattle.model.proofs.PathLaws.{same_rev-symm}
 use Rattle.revision_tree.specs.Nodes.{IsNodes, IsListOf, IsSorted, entry_of, entries_of, tree_of, marked_in, marked_by, with_mark}
 use Rattle.revision_tree.specs.declared.node.Node.{Node}
-use Rattle.revision_tree.proofs.Listed.{sorted_list, tree_of-list}
+use Rattle.revision_tree.proofs.Listed.{sorted_list, entries-tree_of, tree_of-list}
 use Rattle.revision_tree.proofs.Places.{Before, got}
 
 -- ---- what marks leave
@@ -100,13 +100,19 @@ marks_next now i d nodes is lt =
 
 -- ---- the marked nodes make the tree
 
-pub IsNodes-marked : (nodes : List Node) (t : Tree) → IsListOf nodes t → IsNodes (marked_by (entries_of nodes) nodes)
+pub inner-marked : (nodes : List Node) → IsSorted nodes → (n : Node) → Contains (marked_by (entries_of nodes) nodes) n → n.inner ≡ has_child (tree_of (marked_by (entries_of nodes) nodes)) n.rev
 unfolding has_child
+inner-marked nodes h n c =
+    let es = entries_of nodes in
+    let marked = marked_by es nodes in
+    let listed : entries (tree_of marked) ≡ es = entries-tree_of marked (IsSorted-marked es nodes h) ∙ entries-marked_by es nodes in
+    let s = source_of (marked_in es) nodes n c in
+    ap (λ (m : Node). m.inner) (sym s.gives) ∙ ap (list_any (λ e. is_at e.1.parent s.element.rev)) (sym listed) ∙ ap (λ (m : Node). list_any (λ e. is_at e.1.parent m.rev) (entries (tree_of marked))) s.gives
+
+pub IsNodes-marked : (nodes : List Node) (t : Tree) → IsListOf nodes t → IsNodes (marked_by (entries_of nodes) nodes)
 IsNodes-marked nodes t h = record {
   sorted = sorted_list (marked_by (entries_of nodes) nodes) t listed;
-  inner = λ n c.
-      let s = source_of (marked_in (entries_of nodes)) nodes n c in
-      ap (λ (m : Node). m.inner) (sym s.gives) ∙ ap (λ es. list_any (λ e. is_at e.1.parent s.element.rev) es) (sym (ap entries is ∙ h.entries)) ∙ ap (λ (m : Node). list_any (λ e. is_at e.1.parent m.rev) (entries (tree_of (marked_by (entries_of nodes) nodes)))) s.gives;
+  inner = inner-marked nodes (sorted_list nodes t h.entries);
   tree = subst IsTree (sym is) h.tree;
   range = subst IsInRange (sym is) h.range;
 }

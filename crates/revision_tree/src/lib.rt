@@ -1,6 +1,7 @@
 //! The tree of a document's revisions.
 #![tactic(auto)]
 
+mod decide;
 mod growth;
 mod leaf;
 mod marks;

@@ -1,16 +1,17 @@
 //! The tree.
-ghost use Rattle.std.specs.Prelude.{◌≡◌, ◌<◌, ◌≤◌, Some, true, IfOk, All, length, min, option_map, option_copied, unwrap_or};
+ghost use Rattle.std.specs.Prelude.{◌≡◌, ◌↔◌, ◌<◌, ◌≤◌, Some, true, IfOk, All, length, min, option_map, option_copied, unwrap_or};
 ghost use Rattle.std.specs.Arc.{arc_value};
 ghost use Rattle.model.specs.Map.{empty, entries};
 ghost use Rattle.model.specs.Body.{IsBody};
 ghost use Rattle.model.specs.Revision.{Rev, IsRev};
 ghost use Rattle.model.specs.Tree.{Tree, IsTree, IsInRange, knows as is_known, parent_of as known_parent, is_leaf as is_known_leaf, among, body_of as kept_body, is_deleted as is_known_deleted, path_of as path_to, leaves as ranked, winner as winning, revs_of};
 ghost use Rattle.model.specs.TreeChange.{IsPath, agrees as is_agreed, grafted as grafting, stem as stemming, strip as stripping};
-ghost use Rattle.revision_tree.specs.Nodes.{IsListOf, entries_of, tree_of};
+ghost use Rattle.revision_tree.specs.Nodes.{IsListOf, IsNodes, entries_of, tree_of};
 ghost use Rattle.revision_tree.specs.Growth.{AreGround};
 ghost use Rattle.revision_tree.specs.Rows.{AreFilled, lists_of, nodes_of};
 ghost use Rattle.revision_tree.specs.Walk.{left_of};
 
+use crate::decide::mark_tree;
 use crate::growth::grow;
 use crate::leaf::{Leaf, has_one_leaf, leaves_of, winner_of};
 use crate::marks::mark;
@@ -67,6 +68,26 @@ impl RevTree {
     {
         let mut nodes = nodes;
         mark(&mut nodes);
+        RevTree::from_marked(alloc, nodes)
+    }
+
+    /// The tree of a list, where it is one that a tree has: the revisions ascend, the parent of each that has one stands
+    /// among them, one generation older, and those that are parents of none have bodies. Of another list nothing.
+    pub fn from_list(alloc: Global, nodes: Vec<Node>) -> Result<Option<RevTree>, AllocError>
+        ensures listed { (t : Tree) → IfOk result (λ made. (made ≡ Some t) ↔ IsListOf nodes.items t) }
+    {
+        let mut nodes = nodes;
+        if !mark_tree(&mut nodes) {
+            return Ok(None);
+        }
+        Ok(Some(RevTree::from_marked(alloc, nodes)?))
+    }
+
+    /// The tree of nodes of which the parents are marked.
+    fn from_marked(alloc: Global, nodes: Vec<Node>) -> Result<RevTree, AllocError>
+        requires { IsNodes nodes.items }
+        ensures { IfOk result (λ made. made ≡ tree_of nodes.items) }
+    {
         let one_leaf = has_one_leaf(&nodes);
         Ok(RevTree {
             rows: pieces_of(alloc, nodes)?,
