@@ -9,7 +9,7 @@ use Rattle.model.specs.Local.{Local}
 use Rattle.model.specs.PurgeLog.{PurgeLog}
 use Rattle.model.specs.Command.{names, numbers, Command, Edits, Merges, PutLocal, Purge, SetLimit, SetPurgedLimit, Compact, Entry}
 use Rattle.model.specs.Database.{Database, calls_of, changed_by, counted}
-use Rattle.model.specs.History.{Chronicle, now}
+use Rattle.model.specs.History.{Chronicle, base_of, now}
 use Rattle.model.proofs.RestLaws.{rest_of_edits, rest_of_merges, rest_of_purges}
 use Rattle.model.proofs.CallLaws.{calls-replay}
 use Rattle.snapshots.specs.Database.{database_with}
@@ -30,10 +30,10 @@ pub calls_of-changed : (d : Database) (c : Command) (s : ℕ) → calls_of (chan
 calls_of-changed d c s = ap (λ (m : Map numbers ℕ). unwrap_or (get m s) 0) (calls-changed d c)
 
 -- a session has made at most as many calls as there are entries
-pub calls_of-few : (h : Chronicle) → h.base.calls ≡ empty → (s : ℕ) → calls_of (now h) s ≤ length h.entries
+pub calls_of-few : (h : Chronicle) → (base_of h.base).calls ≡ empty → (s : ℕ) → calls_of (now h) s ≤ length h.entries
 calls_of-few h uncalled s =
-    let none : calls_of h.base s ≡ 0 = ap (λ (m : Map numbers ℕ). unwrap_or (get m s) 0) uncalled in
-    omega (arith, none, calls-replay h.base h.entries s, length-filter (λ (e : Entry). same_key numbers s e.seat.session) h.entries, count_by-le-length (λ (e : Entry). same_key numbers s e.seat.session) h.entries)
+    let none : calls_of (base_of h.base) s ≡ 0 = ap (λ (m : Map numbers ℕ). unwrap_or (get m s) 0) uncalled in
+    omega (arith, none, calls-replay (base_of h.base) h.entries s, length-filter (λ (e : Entry). same_key numbers s e.seat.session) h.entries, count_by-le-length (λ (e : Entry). same_key numbers s e.seat.session) h.entries)
 
 -- one more call of a session in the list that is kept
 pub database-counted : (documents : Listing) (locals : Map names Local) (purges : PurgeLog) (limit : ℕ) (calls later : List (ℕ × ℕ)) (d : Database) (s n : ℕ) → database_with documents locals purges limit calls ≡ d → later ≡ listed.put nat_cmp s n calls → n ≡ calls_of d s + 1 → database_with documents locals purges limit later ≡ counted d s

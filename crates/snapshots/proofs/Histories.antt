@@ -9,7 +9,7 @@ use Rattle.model.specs.TreeChange.{cut}
 use Rattle.model.specs.PurgeLog.{logged}
 use Rattle.model.specs.Command.{Id, Command, Edits, Merges, PutLocal, Purge, SetLimit, SetPurgedLimit, Compact, Reply, Done, Seat, Entry, IsCommand, IsSeat, IsEntry, max_edits}
 use Rattle.model.specs.Database.{Database, tree_at, leave, removed_of, purge_removed, after_purge, after_purges, changed_by, reply_to, act, calls_of, IsDatabase}
-use Rattle.model.specs.History.{Chronicle, now, extended, entry_of}
+use Rattle.model.specs.History.{Chronicle, base_of, now, extended, entry_of}
 use Rattle.model.proofs.HistoryLaws.{replay-push, IsLegal-push, IsNext-entry_of}
 use Rattle.model.proofs.RestLaws.{rest_of_edits, rest_of_merges}
 use Rattle.model.proofs.KeptLaws.{IsDatabase-act}
@@ -90,12 +90,12 @@ module _ (h : Chronicle) (seat : Seat) (c : Command) (is : IsHistory h) (is_seat
   is_entry = record { seat = is_seat; command = is_command; reply = FitsReply-reply_to (now h) c is_command is.database (omega (arith, logged-changed_by (now h) c is_command, is.purges, is.base.purges, room)) }
 
   acts : now longer ≡ act (now h) seat c
-  acts = replay-push h.base h.entries entry
+  acts = replay-push (base_of h.base) h.entries entry
 
   IsHistory-pushed : IsHistory longer
   IsHistory-pushed = record {
     base = is.base;
-    legal = (IsLegal-push h.base h.entries entry).1 (is.legal, IsNext-entry_of (now h) seat c next);
+    legal = (IsLegal-push (base_of h.base) h.entries entry).1 (is.legal, IsNext-entry_of (now h) seat c next);
     valid = All-append IsEntry h.entries (entry ∷ []) is.valid (All-cons IsEntry entry [] is_entry (All-nil IsEntry));
     database = subst IsDatabase (sym acts) (IsDatabase-act (now h) seat c is_command is.database);
     few = omega (arith, length-append h.entries (entry ∷ []), room);
@@ -103,7 +103,7 @@ module _ (h : Chronicle) (seat : Seat) (c : Command) (is : IsHistory h) (is_seat
     purges = omega (arith, length-append h.entries (entry ∷ []), ap (λ (d : Database). d.purges.purge_seq) acts, logged-act (now h) seat c is_command, is.purges);
   }
 
-  module _ (base : Database) (entries : List Entry) (of_base : base ≡ h.base) (pushed : entries ≡ longer.entries) where
+  module _ (base : Option Database) (entries : List Entry) (of_base : base ≡ h.base) (pushed : entries ≡ longer.entries) where
     pub view-pushed : chronicle_of base entries ≡ longer
     view-pushed i = record { base = of_base i; entries = pushed i }
 

@@ -13,3 +13,7 @@ pub mod TouchedCount
 pub mod Crossing
 pub mod Remerged
 pub mod Among
+pub mod Epochs
+pub mod Documents
+pub mod Reading
+pub mod LookUps

@@ -1,10 +1,10 @@
 -- What the database of a version is made of.
-use Rattle.std.specs.Prelude.{◌<◌, ℕ, List, Option, Some, None}
+use Rattle.std.specs.Prelude.{◌<◌, ℕ, List}
 use Rattle.model.specs.Map.{Map, from_list}
 use Rattle.model.specs.Command.{names}
 use Rattle.model.specs.Local.{Local}
 use Rattle.model.specs.PurgeLog.{PurgeLog}
-use Rattle.model.specs.Database.{Database, empty_database}
+use Rattle.model.specs.Database.{Database}
 use Rattle.snapshots.specs.Listing.{Listing}
 
 abbrev pub database_with : Listing → Map names Local → PurgeLog → ℕ → List (ℕ × ℕ) → Database
@@ -22,8 +22,3 @@ pub record HasRoom (limit update_seq purge_seq : ℕ) : Type 0 where
   pub revisions : 0 < limit
   pub updates : update_seq < 18446744073709551615
   pub purges : purge_seq < 18446744073709551615
-
--- the database of what is kept of a base
-abbrev pub base_of : Option Database → Database
-base_of None = empty_database
-base_of (Some d) = d

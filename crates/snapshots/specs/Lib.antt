@@ -4,3 +4,4 @@ pub mod Listing
 pub mod Database
 pub mod Version
 pub mod Taken
+pub mod Parts

@@ -1,52 +1,69 @@
 //! The database that a history begins from.
-ghost use Rattle.std.specs.Prelude.{◌≡◌, IfOk};
-ghost use Rattle.model.specs.Database.{empty_database};
+ghost use Rattle.std.specs.Prelude.{◌≡◌, None, Some, IfOk, option_copied};
 
 use crate::database::Database;
 use cow_index::Shared;
-use std::alloc::AllocError;
+use std::alloc::{AllocError, Global};
 use std::marker::Model;
 
-/// A database behind one pointer, so that a version costs little to share and to drop.
+/// The database that a history names as its base, behind one pointer, so that a version costs little
+/// to share and to drop.
 pub(crate) struct Base {
-    /// Nothing is kept of the empty database.
-    kept: Option<Shared<Database>>,
+    /// A first epoch names none, and begins from the empty database.
+    named: Option<Shared<Database>>,
 }
 
 impl Drop for Base {
     fn drop(self) {
-        let Base { kept: _ } = self;
+        let Base { named: _ } = self;
     }
 }
 
 impl Model for Base {
+    ghost use Rattle.std.specs.Prelude.{Option};
     ghost use Rattle.std.specs.Coded.{codes};
     ghost use Rattle.model.specs.JsonCode.{coded_members};
     ghost use Rattle.model.specs.Database.{Database};
-    ghost use Rattle.snapshots.specs.Database.{base_of};
 
-    ghost Value = { Database };
+    ghost Value = { Option Database };
 
     ghost coded = { Prim.hlevel (codes, coded_members) };
 
-    ghost view = { λ b. base_of b.kept };
+    ghost view = { λ b. b.named };
 }
 
 impl Base {
-    pub(crate) fn empty() -> Base
-        ensures { result ≡ empty_database }
+    /// That of a first epoch.
+    pub(crate) fn unnamed() -> Base
+        ensures { result ≡ None }
     {
-        Base { kept: None }
+        Base { named: None }
     }
 
-    /// The same database. It takes no memory.
+    /// That of an epoch over this database.
+    pub(crate) fn new(alloc: Global, database: Database) -> Result<Base, AllocError>
+        ensures { IfOk result (λ b. b ≡ Some database) }
+    {
+        Ok(Base {
+            named: Some(Shared::new(alloc, database)?),
+        })
+    }
+
+    /// The database, where one is named.
+    pub(crate) fn database(&self) -> Option<&Database>
+        ensures { option_copied result ≡ self.now }
+    {
+        self.named.as_ref().map(Shared::get)
+    }
+
+    /// The same base. It takes no memory.
     pub(crate) fn share(&self) -> Result<Base, AllocError>
         ensures { IfOk result (λ b. b ≡ self.now) }
     {
-        let kept = match &self.kept {
+        let named = match &self.named {
             Some(database) => Some(database.share()?),
             None => None,
         };
-        Ok(Base { kept })
+        Ok(Base { named })
     }
 }

@@ -6,9 +6,11 @@ ghost use Rattle.model.specs.Database.{empty_database, reply_to, changed_by, cal
 
 mod compaction;
 mod edits;
+mod epochs;
 mod limit;
 mod local_writes;
 mod merges;
+mod parts;
 mod purges;
 mod reads;
 mod stored;
@@ -17,6 +19,8 @@ use crate::records::Records;
 use commands::{Command, CommandKind, Reply, ReplyKind, Seat};
 use cow_index::CowMap;
 use local_docs::Locals;
+pub use parts::DatabaseParts;
+pub(crate) use parts::LARGEST_BASE;
 use purge::PurgeLog;
 use std::alloc::{AllocError, Global};
 use std::marker::Model;

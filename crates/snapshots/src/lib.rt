@@ -8,7 +8,7 @@ mod records;
 mod version;
 mod written;
 
-pub use database::Database;
+pub use database::{Database, DatabaseParts};
 pub use record::Record;
 pub use records::Records;
 pub use version::Version;

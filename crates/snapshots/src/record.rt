@@ -32,7 +32,8 @@ impl Model for Record {
 }
 
 impl Record {
-    pub(crate) fn new(tree: RevTree, seq: u64) -> Record
+    /// The record of a document with these revisions, last updated under that number.
+    pub fn new(tree: RevTree, seq: u64) -> Record
         ensures { result ≡ record { tree = tree; seq = seq } }
     {
         Record { tree, seq }

@@ -13,6 +13,7 @@ ghost use Rattle.model.specs.Answers.{counts};
 ghost use Rattle.snapshots.specs.Listing.{database_of};
 
 mod among;
+mod listed;
 mod writes;
 
 use crate::record::Record;

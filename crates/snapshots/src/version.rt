@@ -1,11 +1,13 @@
 //! A version of the database.
-ghost use Rattle.std.specs.Prelude.{◌≡◌, ◌≤◌, ◌<◌, ◌+◌, ◌∷◌, [], Some, None, length, IfOk, option_copied, if◌then◌else◌};
+ghost use Rattle.std.specs.Prelude.{◌≡◌, ◌<◌, ◌+◌, ◌∷◌, [], Some, None, length, IfOk, option_copied, if◌then◌else◌};
 ghost use Rattle.model.specs.PurgeLog.{is_overrun};
 ghost use Rattle.model.specs.Compaction.{touched};
 ghost use Rattle.model.specs.Command.{Compact};
-ghost use Rattle.model.specs.Database.{empty_database, calls_of, compacted};
+ghost use Rattle.model.specs.Database.{calls_of, compacted};
 ghost use Rattle.model.specs.History.{now, extended, entry_of};
 ghost use Rattle.snapshots.specs.Version.{IsHistory, entry_at};
+
+mod epochs;
 
 use crate::base::Base;
 use crate::database::Database;
@@ -54,13 +56,13 @@ impl Model for Version {
 }
 
 impl Version {
-    /// The version of no entries over the empty database.
+    /// The version with which a first epoch begins: it has no entries, and names no base.
     pub fn empty(alloc: Global) -> Version
-        ensures { result ≡ record { base = empty_database; entries = [] } }
+        ensures { result ≡ record { base = None; entries = [] } }
     {
         Version {
             alloc,
-            base: Base::empty(),
+            base: Base::unnamed(),
             database: Database::new(alloc),
             history: SharedList::new(alloc),
         }

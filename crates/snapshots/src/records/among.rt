@@ -1,14 +1,15 @@
 //! What changed of some documents.
-ghost use Rattle.std.specs.Prelude.{◌≡◌, ◌<◌, Some, IfOk, length, option_copied};
+ghost use Rattle.std.specs.Prelude.{◌≡◌, ◌<◌, Some, IfOk, length, map, option_copied};
 ghost use Rattle.std.specs.Ordering.{nat_cmp};
 ghost use Rattle.std.specs.FinMap.Entries.{put as put_entry};
+ghost use Rattle.model.specs.Map.{get};
 ghost use Rattle.model.specs.Changes.{changed_since as changed_above, wanted_by};
 ghost use Rattle.snapshots.specs.Among.{is_above, with_change};
 ghost use Rattle.snapshots.specs.Listing.{database_of};
 
 use crate::record::Record;
 use crate::records::{Numbers, Records};
-use cow_index::{CowMap, Shared};
+use cow_index::{CowMap, LookUp, Shared, step_each};
 use document_id::{DocId, DocIds};
 use std::alloc::{AllocError, Global};
 
@@ -30,15 +31,34 @@ impl Records {
         self.walked(alloc, since, ids)
     }
 
-    /// The same, by a look at each of the documents.
+    /// The same, by a look at each of the documents. The look-ups go down side by side.
     fn looked_up(&self, alloc: Global, since: u64, ids: &DocIds) -> Result<Numbers, AllocError>
         ensures { IfOk result (λ m. m.entries ≡ changed_above (wanted_by (Some ids.now)) (database_of self.now) since) }
     {
+        let mut look_ups = self.look_ups(alloc, ids)?;
+        for _level in 0..self.by_id.height() {
+            step_each(&mut look_ups);
+        }
         let mut changed = CowMap::new(alloc);
-        for id in ids.iter() {
-            changed = with_change(changed, since, id, self.by_id.get(id))?;
+        for look_up in &look_ups {
+            changed = with_change(changed, since, look_up.key(), look_up.value())?;
         }
         Ok(changed)
+    }
+
+    /// A look-up of each of the documents, at the root.
+    fn look_ups<'a>(
+        &'a self,
+        alloc: Global,
+        ids: &'a DocIds,
+    ) -> Result<Vec<LookUp<'a, DocId, Shared<Record>>>, AllocError>
+        ensures { IfOk result (λ look_ups. look_ups.items ≡ map (λ id. (id, get (database_of self.now).docs id)) ids.now) }
+    {
+        let mut look_ups = Vec::with_capacity(alloc, ids.len() as usize)?;
+        for id in ids.iter() {
+            look_ups.push(self.by_id.look_up(id))?;
+        }
+        Ok(look_ups)
     }
 
     /// The same, by a look at each document that changed.

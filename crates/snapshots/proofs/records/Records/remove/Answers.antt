@@ -1,4 +1,3 @@
-use Rattle.std.specs.Prelude.{option_copied}
 use Rattle.std.proofs.Common.{ap, ◌∙◌}
 use Rattle.snapshots.specs.Listing.{live_in, without_number}
 use Rattle.snapshots.proofs.Indexed.{IsIndexed-removed, live-removed, listing-removed}

@@ -1,4 +1,4 @@
-use Rattle.std.proofs.Common.{◌≡◌, ◌≤◌, ◌-◌, ℕ, zero, suc, List, slice_get, refl, ap, ◌∙◌, arith}
+use Rattle.std.proofs.Common.{◌≡◌, ◌≤◌, ◌-◌, ℕ, zero, suc, List, slice_get, ap, ◌∙◌, arith}
 use Rattle.model.specs.Command.{Entry}
 use Rattle.model.specs.History.{Chronicle}
 use Rattle.snapshots.specs.Version.{entry_at}

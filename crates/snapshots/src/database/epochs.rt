@@ -1,0 +1,23 @@
+//! The database that the next epoch begins from.
+ghost use Rattle.std.specs.Prelude.{◌≡◌, IfOk};
+ghost use Rattle.model.specs.History.{successor};
+
+use crate::database::Database;
+use cow_index::CowMap;
+use std::alloc::AllocError;
+
+impl Database {
+    /// The same database, in which no session has called. It takes no memory.
+    pub(crate) fn uncalled(&self) -> Result<Database, AllocError>
+        ensures { IfOk result (λ d. d ≡ successor self.now) }
+    {
+        Ok(Database {
+            alloc: self.alloc,
+            documents: self.documents.share()?,
+            locals: self.locals.share()?,
+            purges: self.purges.share()?,
+            revs_limit: self.revs_limit,
+            calls: CowMap::new(self.alloc),
+        })
+    }
+}
