@@ -8,7 +8,7 @@ use Rattle.std.proofs.lemmas.List.Elements.{All-head, All-tail, All-weaker, All-
 use Rattle.std.specs.declared.cmp.Ordering.TheVariants.{Less}
 use Rattle.model.specs.Revision.{Rev}
 use Rattle.model.specs.Map.{IsRising}
-use Rattle.model.specs.Tree.{Tree, Leaf, IsForest, IsLeafOf, leaf_cmp, ranks, leaves, revs_of, among, path_of, parent_of, ancestor, knows, is_leaf, is_deleted}
+use Rattle.model.specs.Tree.{Tree, Leaf, IsForest, leaf_cmp, ranks, leaves, revs_of, among, path_of, parent_of, ancestor, knows, is_leaf, is_deleted}
 use Rattle.model.specs.Documents.{losers, latest_of}
 use Rattle.model.proofs.AncestorLaws.{ancestor-suc, slice_get-path_of, among-place}
 use Rattle.model.proofs.LeafLaws.{Contains-leaves, IsRising-leaves}

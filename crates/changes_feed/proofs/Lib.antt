@@ -4,3 +4,5 @@ pub mod SeenLists
 pub mod OrderLists
 pub mod LackLists
 pub mod RowLists
+pub mod FirstPlaces
+pub mod Claimed

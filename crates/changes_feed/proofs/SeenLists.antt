@@ -13,7 +13,7 @@ use Rattle.model.proofs.OnceLaws.{once_more, each_once-push}
 pub record IsSeen (s : BTreeSet Rev) (xs : List Rev) : Type 0 where
   pub has : (r : Rev) → contains rev_cmp s r ≡ list_any (λ y. same_rev y r) xs
 
-any-push : (p : Rev → Bool) (xs : List Rev) (x : Rev) → list_any p (xs ++ x ∷ []) ≡ cond (p x) true (list_any p xs)
+pub any-push : (p : Rev → Bool) (xs : List Rev) (x : Rev) → list_any p (xs ++ x ∷ []) ≡ cond (p x) true (list_any p xs)
 any-push p [] x = elim (p x) as (λ b. (b || false) ≡ cond b true false) [ true ↦ refl | false ↦ refl ]
 any-push p (y ∷ ys) x = ap (λ b. p y || b) (any-push p ys x) ∙ at (p y) (p x)
   where

@@ -5,7 +5,7 @@ use Rattle.model.specs.Command.{Id, names}
 use Rattle.model.specs.Query.{Row}
 use Rattle.model.specs.declared.style.Style.{Style}
 use Rattle.model.specs.Database.{IsNumbered}
-use Rattle.model.specs.History.{Chronicle, Follows, now}
+use Rattle.model.specs.History.{Chronicle, Follows, base_of, now}
 use Rattle.model.specs.Changes.{fed, wanted_by, IsRightFeed}
 
 -- at most how many of `count` rows a page has
@@ -20,9 +20,10 @@ pub record Following : Type 0 where
   pub style : Style
   pub ids : Option (List Id)
 
--- a map that is right up to the cursor at any version before is right up to the next cursor, with the rows
+-- a map that is right up to the cursor at any version before, of this epoch or an older one, is right up to the next cursor,
+-- with the rows
 -- CouchDB: "CouchDB Replication Protocol", "Locate Changed Documents"
 abbrev pub KeepsRight : Following → List Row → ℕ → Chronicle → Type 0
-KeepsRight f rows next later = (m : Map names Row) (s : ℕ) (earlier : Chronicle) → IsNumbered earlier.base → Follows later earlier
+KeepsRight f rows next later = (m : Map names Row) (s : ℕ) (earlier : Chronicle) → IsNumbered (base_of earlier.base) → Follows later earlier
     → f.cursor ≤ (now earlier).update_seq → IsRightFeed (wanted_by f.ids) f.style m s f.cursor (now earlier)
     → IsRightFeed (wanted_by f.ids) f.style (fed m rows) s next (now later)

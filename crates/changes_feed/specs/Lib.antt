@@ -1,3 +1,4 @@
 pub mod Shown
 pub mod Lacking
 pub mod Followed
+pub mod Latest

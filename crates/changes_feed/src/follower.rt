@@ -1,4 +1,4 @@
-//! A follower of the changes feed, over versions that come one after another.
+//! A follower of the changes feed, over versions that come one after another, in one epoch or in several.
 ghost use Rattle.std.specs.Prelude.{◌≡◌, None, Some, IfOk, OnErr, length, take};
 ghost use Rattle.model.specs.History.{now};
 ghost use Rattle.model.specs.Changes.{last_seq_of, rows_since, wanted_by};
@@ -13,7 +13,8 @@ use snapshots::Version;
 use std::alloc::{AllocError, Global};
 use std::marker::Model;
 
-/// Takes the rows of a feed in turn, each version's above those that it has taken: of all documents, or of some.
+/// Takes the rows of a feed in turn, each version's above those that it has taken: of all documents, or of some. Its cursor stays
+/// good where a version is of a later epoch.
 pub struct Follower {
     cursor: u64,
     style: Style,

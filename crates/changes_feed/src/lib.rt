@@ -2,6 +2,7 @@
 #![tactic(auto)]
 
 mod answered;
+mod claims;
 mod difference;
 mod document;
 mod follower;

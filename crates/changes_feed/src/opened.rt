@@ -1,13 +1,13 @@
 //! Several revisions of a document.
-ghost use Rattle.std.specs.Prelude.{◌≡◌, ◌&&◌, Ok, Err, IfOk, map, flat_map, ok_or, option_copied};
+ghost use Rattle.std.specs.Prelude.{◌≡◌, ◌&&◌, ◌∷◌, ◌==◌, [], true, Ok, Err, IfOk, map, filter, flat_map, ok_or, option_copied, if◌then◌else◌};
 ghost use Rattle.model.specs.Lists.{each_once};
 ghost use Rattle.model.specs.Revision.{same_rev};
 ghost use Rattle.model.specs.Tree.{knows};
 ghost use Rattle.model.specs.History.{now};
 ghost use Rattle.model.specs.Documents.{asked_of as asked_in, latest_or_itself as latest_or_same, opened, opened_at as opened_as, opened_in as opened_of, opened_unknown as unknown_opened};
 
+use crate::claims::{claimed_by, claimed_leaves};
 use crate::document::stored;
-use crate::leaves::latest_of;
 use crate::once::add_once;
 use document_id::DocId;
 use queries::{Document, Options};
@@ -113,26 +113,63 @@ fn asked_of(
     if !options.latest {
         return Vec::from_slice(alloc, asked);
     }
-    leaves_once(alloc, tree, &all_latest(alloc, tree, asked)?)
-}
-
-/// The leaves that descend from each of the revisions, one after another, and those that are not
-/// known themselves.
-fn all_latest(alloc: Global, tree: &RevTree, asked: &[RevId]) -> Result<Vec<RevId>, AllocError>
-    ensures { IfOk result (λ revs. revs.items ≡ flat_map (latest_or_same tree.now) asked.now) }
-{
-    let mut all = Vec::new(alloc);
-    for rev in asked {
-        all.extend_from_slice(&latest_or_itself(alloc, tree, *rev)?)?;
+    if are_latest(tree, asked) {
+        return leaves_once(alloc, tree, asked);
     }
-    Ok(all)
+    latest_once(alloc, tree, asked)
 }
 
-fn latest_or_itself(alloc: Global, tree: &RevTree, rev: RevId) -> Result<Vec<RevId>, AllocError>
-    ensures { IfOk result (λ revs. revs.items ≡ latest_or_same tree.now rev) }
+/// Whether none of the revisions has any descendants.
+fn are_latest(tree: &RevTree, asked: &[RevId]) -> bool
+    ensures { result ≡ true → flat_map (latest_or_same tree.now) asked.now ≡ asked.now }
+{
+    for rev in asked {
+        if !is_latest(tree, *rev) {
+            return false;
+        }
+    }
+    true
+}
+
+/// Whether it is a leaf, or isn't known.
+fn is_latest(tree: &RevTree, rev: RevId) -> bool
+    ensures { result ≡ true → latest_or_same tree.now rev ≡ rev ∷ [] }
+{
+    // Its revisions make a tree.
+    let _oldest = tree.oldest();
+    if tree.knows(rev) {
+        return tree.is_leaf(rev);
+    }
+    true
+}
+
+/// The leaves that descend from the revisions, each at the first of these, and those that are not known
+/// themselves.
+fn latest_once(alloc: Global, tree: &RevTree, asked: &[RevId]) -> Result<Vec<RevId>, AllocError>
+    ensures { IfOk result (λ once. once.items ≡ each_once (λ a b. knows tree.now a && same_rev a b) (flat_map (latest_or_same tree.now) asked.now)) }
+{
+    // Its revisions make a tree.
+    let _oldest = tree.oldest();
+    let leaves = claimed_leaves(alloc, tree, asked)?;
+    let mut once = Vec::new(alloc);
+    for place in 0..asked.len() {
+        once.extend_from_slice(&shown_at(alloc, tree, &leaves, asked[place], place)?)?;
+    }
+    Ok(once)
+}
+
+/// The leaves that are shown for a revision at this place of those that are asked for.
+fn shown_at(
+    alloc: Global,
+    tree: &RevTree,
+    leaves: &[(RevId, usize)],
+    rev: RevId,
+    place: usize,
+) -> Result<Vec<RevId>, AllocError>
+    ensures { IfOk result (λ revs. revs.items ≡ (if knows tree.now rev then map (λ l. l.0) (filter (λ l. l.1 == place) leaves.now) else rev ∷ [])) }
 {
     if tree.knows(rev) {
-        return latest_of(alloc, tree, rev);
+        return claimed_by(alloc, leaves, place);
     }
     Vec::from_slice(alloc, &[rev])
 }
