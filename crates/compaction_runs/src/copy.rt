@@ -86,6 +86,7 @@ fn edited_last(rt: &HostRuntime, copy: &mut Compaction, version: &Version) -> Op
 }
 
 /// The same, after the last edits.
+#[tactic(auto, using(crate::proofs::Following::follows_extended))]
 fn finish(rt: &HostRuntime, copy: &mut Compaction, version: &Version) -> Option<Version>
     requires { Extends version.now copy.old.seen }
 {
@@ -124,6 +125,7 @@ fn slice_all(rt: &HostRuntime, copy: &mut Compaction, version: &Version) -> Opti
 }
 
 /// Takes over what was edited first, and tells it.
+#[tactic(auto, using(crate::proofs::Following::follows_extended))]
 fn catch_up(rt: &HostRuntime, copy: &mut Compaction, version: &Version) -> Option<()>
     requires { Extends version.now copy.old.seen }
     ensures { Extends version.now copy.new.seen }

@@ -8,12 +8,11 @@ use Rattle.model.specs.Map.{Map, entries, empty, get, same_map}
 use Rattle.model.specs.Command.{Id, names}
 use Rattle.model.specs.PurgeLog.{AreNumbered, is_overrun}
 use Rattle.model.specs.Database.{Database, Record, IsNumbered, compacted, stripped}
-use Rattle.model.specs.History.{replay, Chronicle, now, Extends, extends}
+use Rattle.model.specs.History.{Chronicle, now, Follows}
 use Rattle.model.specs.Compaction.{Marks, Touched, marks_of, Agrees, passed, taken_over, touched, touched_id}
 use Rattle.model.proofs.MapLaws.{get-refine_all}
-use Rattle.model.proofs.HistoryLaws.{replay-append}
 use Rattle.model.proofs.LastLaws.{Lasts, Lasts-follows, purge_seq-follows}
-use Rattle.model.proofs.AgreeLaws.{Agrees-replay}
+use Rattle.model.proofs.AgreeLaws.{Agrees-follows}
 use Rattle.model.proofs.TouchedLaws.{passed-most}
 use Rattle.model.proofs.CatchUpLaws.{Agrees-passed, taken_all as all_taken}
 use Rattle.snapshots.specs.Listing.{Listing}
@@ -141,11 +140,11 @@ pub none-touched : (b : Bool) (n : ℕ) → None ≡ cond b None (Some n) → b 
 none-touched true n e = refl
 none-touched false n e = absurd (none-some n e)
 
--- a copy that is made, and a version that goes on from the one that it has seen
+-- a copy that is made, and a version that follows the one that it has seen
 pub record Lags (later : Chronicle) (records : Listing) (m : Marks) : Type 0 where
   pub seen : Chronicle
   pub last : Option Id
-  pub follows : Extends later seen
+  pub follows : Follows later seen
   pub copy : IsCopy (now seen) last 0 records m
   pub numbered : AreNumbered (now seen).purges.purge_seq (now seen).purges.infos
 
@@ -157,10 +156,7 @@ module _ (later : Chronicle) (records : Listing) (m : Marks) (g : Lags later rec
   new = now later
 
   lasts : Lasts old new
-  lasts = Lasts-follows g.seen later (extends later g.seen g.follows)
-
-  goes_on : new ≡ replay old g.follows.more
-  goes_on = (λ i. replay (g.follows.base i) (g.follows.entries i)) ∙ replay-append g.seen.base g.seen.entries g.follows.more
+  lasts = Lasts-follows g.seen later g.follows
 
   pub upto-later : records.update_seq ≤ new.update_seq
   upto-later = omega (arith, g.copy.upto, lasts.updates)
@@ -172,10 +168,10 @@ module _ (later : Chronicle) (records : Listing) (m : Marks) (g : Lags later rec
   update-later = omega (arith, g.copy.update, lasts.updates)
 
   purge-later : m.purge ≤ new.purges.purge_seq
-  purge-later = omega (arith, g.copy.purge, purge_seq-follows g.seen later (extends later g.seen g.follows))
+  purge-later = omega (arith, g.copy.purge, purge_seq-follows g.seen later g.follows)
 
   agrees-later : Agrees (get records.docs) m new
-  agrees-later = subst (Agrees (get records.docs) m) (sym goes_on) (Agrees-replay (get records.docs) m old g.follows.more g.numbered g.copy.update g.copy.purge (g.copy.agrees refl))
+  agrees-later = Agrees-follows g.seen (get records.docs) m later g.numbered g.follows g.copy.update g.copy.purge (g.copy.agrees refl)
 
   module _ (num : IsNumbered new) (log : AreNumbered new.purges.purge_seq new.purges.infos) (within : is_overrun new.purges m.purge ≡ false) (n : ℕ) where
     abbrev ids : List Id
@@ -225,12 +221,12 @@ module _ (seen : Chronicle) (left update purge visited : ℕ) (docs : Map names 
       ∙ get-taken_all docs new ids id
       ∙ (λ i. taken_over (get (docs-seen i)) new (map touched_id (take n (touched new (marks-seen i)))) id)
 
-pub lags : (later seen : Chronicle) (last : Option Id) (left update purge visited : ℕ) (records : Listing) (view : CopyView) → copy_of seen left records.docs update purge visited ≡ view → view.left ≡ 0 → Extends later view.seen
+pub lags : (later seen : Chronicle) (last : Option Id) (left update purge visited : ℕ) (records : Listing) (view : CopyView) → copy_of seen left records.docs update purge visited ≡ view → view.left ≡ 0 → Follows later view.seen
     → IsCopy (now seen) last left records (record { update = update; purge = purge }) → IsHistory seen → Lags later records (record { update = update; purge = purge })
 lags later seen last left update purge visited records view is none follows copy history = record {
   seen = seen;
   last = last;
-  follows = subst (Extends later) (sym (ap (λ (v : CopyView). v.seen) is)) follows;
+  follows = subst (Follows later) (sym (ap (λ (v : CopyView). v.seen) is)) follows;
   copy = subst (λ n. IsCopy (now seen) last n records (record { update = update; purge = purge })) (none-left seen left update purge visited records.docs view is none) copy;
   numbered = history.database.log.numbered;
 }

@@ -4,7 +4,7 @@ ghost use Rattle.model.specs.Map.{entries, get};
 ghost use Rattle.model.specs.Command.{Id, Entry, Compact};
 ghost use Rattle.model.specs.PurgeLog.{is_overrun};
 ghost use Rattle.model.specs.Database.{calls_of, compacted};
-ghost use Rattle.model.specs.History.{now, extended, entry_of, Extends};
+ghost use Rattle.model.specs.History.{now, extended, entry_of, Follows};
 ghost use Rattle.model.specs.Compaction.{Agrees, marks_of, passed, taken_over, touched, touched_id};
 ghost use Rattle.snapshots.specs.Taken.{taken_all, ids_of, IsCoherent};
 ghost use Rattle.compactor.specs.Copy.{CopyView, last_id};
@@ -139,10 +139,10 @@ impl Compaction {
     }
 
     /// Takes over the first `n` documents that were purged or updated since, and answers how many
-    /// of them are left.
+    /// of them are left. The version may be of a later epoch than the one that was seen.
     pub fn catch_up(&mut self, version: &Version, n: u64) -> Result<u64, CopyFault>
         requires sliced { self.old.left ≡ 0 }
-        requires follows { Extends version.now self.old.seen }
+        requires follows { Follows version.now self.old.seen }
         ensures left { IfOk result (λ left. left ≡ length (touched (now version.now) self.old.marks) - n) }
         ensures seen { IfOk result (λ _. (self.new.seen ≡ version.now) × (self.new.left ≡ 0)) }
         ensures passed { IfOk result (λ _. self.new.marks ≡ passed self.old.marks (take n (touched (now version.now) self.old.marks))) }
@@ -178,7 +178,8 @@ impl Compaction {
     }
 
     /// The version with one compaction more: the copy, with what was touched since taken over,
-    /// which is at most `slack`. The copy stays as it was.
+    /// which is at most `slack`. The copy stays as it was. The version may be of a later epoch than
+    /// the one that was seen.
     pub fn finish(
         &mut self,
         version: &Version,
@@ -186,7 +187,7 @@ impl Compaction {
         slack: u64,
     ) -> Result<Version, CopyFault>
         requires sliced { self.old.left ≡ 0 }
-        requires follows { Extends version.now self.old.seen }
+        requires follows { Follows version.now self.old.seen }
         requires next { seat.call ≡ calls_of (now version.now) seat.session + 1 }
         requires room { length version.now.entries < 4294967295 }
         ensures compacted { IfOk result (λ v. v ≡ extended version.now (entry_of (now version.now) seat Compact ∷ [])) }

@@ -3,6 +3,7 @@ use Rattle.std.specs.Prelude.{◌≡◌, ℕ, ◌==◌, ◌<◌, ◌&&◌, Bool,
 use Rattle.std.proofs.Common.{sym, ap, ◌∙◌}
 use Rattle.std.proofs.lemmas.Bool.{false_from_ne_true, lt-ltb, ltb-true}
 use Rattle.model.specs.PurgeLog.{is_overrun}
+use Rattle.model.specs.History.{base_of}
 use Rattle.model.specs.Compaction.{touched}
 use Rattle.model.specs.World.{OpenCopy, CatchUp, Swap, Abort, database_of}
 use Rattle.machine.specs.States.{State, stepped, swapped_in}
@@ -45,14 +46,14 @@ module _ (s : State) where
     may : ((k.left == 0) && nat_lt (length s.world.history) s.config.max_places) ≡ true
     may = and_both (k.left == 0) _ (sym (ap sliced_in is) ∙ sliced) room
 
-    pub swap_aborts : is_overrun (database_of s.base s.world).purges k.marks.purge ≡ true → stepped s Swap ≡ stepped s Abort
+    pub swap_aborts : is_overrun (database_of (base_of s.base) s.world).purges k.marks.purge ≡ true → stepped s Swap ≡ stepped s Abort
     swap_aborts over = swap_overrun s k is may over
 
-    pub swap_waits : (slack : ℕ) → slack ≡ s.config.slack → (is_overrun (database_of s.base s.world).purges k.marks.purge ≡ false) × (slack < length (touched (database_of s.base s.world) k.marks)) → stepped s Swap ≡ s
-    swap_waits slack own behind = swap_behind s k is may behind.0 (ap (λ n. nat_lt n (length (touched (database_of s.base s.world) k.marks))) (sym own) ∙ lt-ltb slack _ behind.1)
+    pub swap_waits : (slack : ℕ) → slack ≡ s.config.slack → (is_overrun (database_of (base_of s.base) s.world).purges k.marks.purge ≡ false) × (slack < length (touched (database_of (base_of s.base) s.world) k.marks)) → stepped s Swap ≡ s
+    swap_waits slack own behind = swap_behind s k is may behind.0 (ap (λ n. nat_lt n (length (touched (database_of (base_of s.base) s.world) k.marks))) (sym own) ∙ lt-ltb slack _ behind.1)
 
-    pub swap_ends : (slack : ℕ) → slack ≡ s.config.slack → ((is_overrun (database_of s.base s.world).purges k.marks.purge ≡ true) → ⊥) → ((is_overrun (database_of s.base s.world).purges k.marks.purge ≡ false) × (slack < length (touched (database_of s.base s.world) k.marks)) → ⊥) → stepped s Swap ≡ swapped_in s k.session
+    pub swap_ends : (slack : ℕ) → slack ≡ s.config.slack → ((is_overrun (database_of (base_of s.base) s.world).purges k.marks.purge ≡ true) → ⊥) → ((is_overrun (database_of (base_of s.base) s.world).purges k.marks.purge ≡ false) × (slack < length (touched (database_of (base_of s.base) s.world) k.marks)) → ⊥) → stepped s Swap ≡ swapped_in s k.session
     swap_ends slack own not_over not_behind =
-        let fresh : is_overrun (database_of s.base s.world).purges k.marks.purge ≡ false = false_from_ne_true _ not_over in
+        let fresh : is_overrun (database_of (base_of s.base) s.world).purges k.marks.purge ≡ false = false_from_ne_true _ not_over in
         swap_some s k is may fresh
-        (ap (λ n. nat_lt n (length (touched (database_of s.base s.world) k.marks))) (sym own) ∙ false_from_ne_true _ (λ t. not_behind (fresh, ltb-true slack _ t)))
+        (ap (λ n. nat_lt n (length (touched (database_of (base_of s.base) s.world) k.marks))) (sym own) ∙ false_from_ne_true _ (λ t. not_behind (fresh, ltb-true slack _ t)))

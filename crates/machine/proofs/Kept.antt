@@ -1,15 +1,15 @@
 -- What each event leaves of what a machine is made of.
-use Rattle.std.specs.Prelude.{◌≡◌, ℕ, ◌+◌, ◌-◌, ◌==◌, ◌<◌, ◌&&◌, true, false, not, min, nat_lt, nat_le, List, [], ◌∷◌, ◌++◌, length, map, take, drop, slice_get, All, Option, Some, None, option_map, unwrap_or, IfSome, refl}
+use Rattle.std.specs.Prelude.{◌≡◌, ℕ, ◌+◌, ◌==◌, ◌<◌, ◌&&◌, true, false, not, min, nat_lt, nat_le, List, [], ◌∷◌, ◌++◌, length, map, take, drop, slice_get, All, Option, Some, None, option_map, unwrap_or, IfSome, refl}
 use Rattle.std.proofs.Common.{sym, ap, subst, ◌∙◌, arith}
 use Rattle.std.proofs.lemmas.Bool.{lt-ltb, false≢true}
 use Rattle.std.proofs.lemmas.Option.{slice_get_within}
 use Rattle.std.proofs.lemmas.List.{append-nil, map-append}
 use Rattle.std.proofs.Math.Seq.{take-append_seam}
-use Rattle.model.specs.Map.{Map, entries}
+use Rattle.model.specs.Map.{Map}
 use Rattle.model.specs.Command.{numbers, Command, Job}
 use Rattle.model.specs.Query.{Query}
 use Rattle.model.specs.Database.{calls_of}
-use Rattle.model.specs.History.{Chronicle, Extends, now, extended, replay, batch_entries}
+use Rattle.model.specs.History.{Chronicle, Extends, base_of, now, extended, replay, batch_entries}
 use Rattle.model.specs.Answers.{answer_to}
 use Rattle.model.specs.World as model
 use Rattle.model.specs.World.{Config, Event, Ask, Take, Put, GiveUp, Look, Read, World, View, free_in, place_in, viewing, all_at, is_compact}
@@ -84,7 +84,7 @@ module _ (v : Chronicle) (c : Config) (w b : List Job) (vs : List SessionView) (
       ∙ ap (λ (m : Map numbers View). state_with v2 m (map completed_of (cs ++ calls))) (views_of-all_seeing vs v2 b all)
       ∙ ap (λ (ys : List model.Completed). state_with v2 (all_at (views_of vs) (length v2.entries) b) ys) (map-append completed_of cs calls ∙ ap (λ (ys : List model.Completed). map completed_of cs ++ ys) wrote)
       ∙ ap (λ (x : Chronicle). state_with x (all_at (views_of vs) (length x.entries) b) u.completed) version
-      ∙ sym (put_some st may ∙ ap (λ (x : World). with_world st (record x { batch = []; views = all_at (views_of vs) (length x.history) b })) (commit_all-entries v.base st.world b))
+      ∙ sym (put_some st may ∙ ap (λ (x : World). with_world st (record x { batch = []; views = all_at (views_of vs) (length x.history) b })) (commit_all-entries (base_of v.base) st.world b))
 
   pub give_up_stepped : (b2 : List Job) (us : List SessionView) → All (IsOfSession (length vs)) b → us ≡ all_free vs b → b2 ≡ [] → state_of v c w b2 us k cs ≡ stepped st GiveUp
   give_up_stepped b2 us all frees none =
@@ -103,8 +103,8 @@ module _ (v : Chronicle) (c : Config) (w b : List Job) (vs : List SessionView) (
   read_stepped n q x call cs2 free at seen is appended =
       let place : place_in (views_of vs) n ≡ length x.version.entries = ap (λ (o : Option View). unwrap_or (option_map (λ y. y.place) o) 0) (get-views_of vs n ∙ ap (option_map view_of) at) in
       let begun : take (length x.version.entries) v.entries ≡ x.version.entries = ap (take (length x.version.entries)) seen.entries ∙ take-append_seam x.version.entries seen.more in
-      let told : answer_to (now x.version) q ≡ answer_to (replay v.base (take (place_in (views_of vs) n) v.entries)) q =
-      (λ i. answer_to (replay (sym seen.base i) (sym begun i)) q) ∙ ap (λ p. answer_to (replay v.base (take p v.entries)) q) (sym place) in
+      let told : answer_to (now x.version) q ≡ answer_to (replay (base_of v.base) (take (place_in (views_of vs) n) v.entries)) q =
+      (λ i. answer_to (replay (base_of (sym seen.base i)) (sym begun i)) q) ∙ ap (λ p. answer_to (replay (base_of v.base) (take p v.entries)) q) (sym place) in
       ap (λ (ys : List Completed). state_of v c w b vs k ys) appended
       ∙ ap (λ (ys : List model.Completed). with_world st (record st.world { completed = ys })) (map-append completed_of cs (call ∷ []) ∙ ap (λ (y : model.Completed). map completed_of cs ++ y ∷ []) (is ∙ (λ i. model.Asked n q (sym place i) (told i))))
       ∙ sym (read_some st n q free)

@@ -11,3 +11,5 @@ pub mod NextCopies
 pub mod Outcome
 pub mod Ends
 pub mod Starts
+pub mod Runs
+pub mod Following

@@ -1,3 +1,4 @@
 pub mod Events
 pub mod Views
 pub mod States
+pub mod Runs

@@ -2,7 +2,7 @@
 use Rattle.std.specs.Prelude.{◌≡◌, ◌+◌, ◌<◌, ◌≤◌, ℕ, true, List, [], ◌∷◌, ◌++◌, length, map, All, Option, None, option_map, IfSome}
 use Rattle.model.specs.Command.{Job, Entry, Compact}
 use Rattle.model.specs.Database.{Database, calls_of}
-use Rattle.model.specs.History.{Chronicle, Extends, now, entry_of}
+use Rattle.model.specs.History.{Chronicle, Extends, base_of, now, entry_of}
 use Rattle.model.specs.World.{Config, World, Event, OpenCopy, viewing, start_world, step, run}
 use Rattle.machine.specs.declared.completed.Completed.{Completed}
 use Rattle.machine.specs.declared.copying.Copying.{Copying}
@@ -10,17 +10,17 @@ use Rattle.machine.specs.declared.views.SessionView.{SessionView}
 use Rattle.machine.specs.Events.{completed_of, wrote_at}
 use Rattle.machine.specs.Views.{views_of}
 
--- a world, the database that its history began from, and its configuration
+-- a world, the base that its history names, and its configuration
 pub record State : Type 0 where
-  pub base : Database
+  pub base : Option Database
   pub config : Config
   pub world : World
 
-abbrev pub start_state : Database → Config → State
+abbrev pub start_state : Option Database → Config → State
 start_state base c = record { base = base; config = c; world = start_world c }
 
 abbrev pub stepped : State → Event → State
-stepped s e = record s { world = step s.base s.config s.world e }
+stepped s e = record s { world = step (base_of s.base) s.config s.world e }
 
 abbrev pub chronicle_in : State → Chronicle
 chronicle_in s = record { base = s.base; entries = s.world.history }
@@ -43,7 +43,7 @@ swapped_in s session = record s {
 -- a list of events leads from the start to the state
 pub record IsReached (s : State) : Type 0 where
   pub events : List Event
-  pub by_them : s.world ≡ run s.base s.config (start_world s.config) events
+  pub by_them : s.world ≡ run (base_of s.base) s.config (start_world s.config) events
 
 abbrev pub open_copy : Copying → OpenCopy
 open_copy k = record { session = k.session; left = k.compaction.left; marks = k.compaction.marks }

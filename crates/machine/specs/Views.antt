@@ -1,5 +1,5 @@
 -- The views of the sessions in the words of the model.
-use Rattle.std.specs.Prelude.{ℕ, ◌+◌, Bool, true, List, [], ◌∷◌, length, slice_set, slice_get, Option, option_map, unwrap_or, map}
+use Rattle.std.specs.Prelude.{ℕ, ◌+◌, Bool, true, List, [], ◌∷◌, length, slice_set, slice_get, option_map, unwrap_or, map}
 use Rattle.model.specs.Map.{Map, empty, put}
 use Rattle.model.specs.Command.{numbers, Job}
 use Rattle.model.specs.History.{Chronicle}

@@ -72,6 +72,7 @@ fn slice_next(copying: &mut Copying, n: u64) -> Result<(), AllocError>
 
 /// Takes over the first `n` documents that were touched since, and answers whether it did: not
 /// where the compaction is overrun.
+#[tactic(auto, using(crate::proofs::Following::follows_extended))]
 fn caught_up(copying: &mut Copying, version: &Version, n: u64) -> Result<bool, AllocError>
     requires sliced { copying.old.compaction.left ≡ 0 }
     requires follows { Extends version.now copying.old.compaction.seen }
@@ -91,6 +92,7 @@ fn caught_up(copying: &mut Copying, version: &Version, n: u64) -> Result<bool, A
 
 /// The version after the compaction, with the call that its entry completes and the session that is
 /// to see it.
+#[tactic(auto, using(crate::proofs::Following::follows_extended))]
 fn finished(
     alloc: Global,
     copying: &mut Copying,

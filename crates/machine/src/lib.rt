@@ -16,4 +16,4 @@ mod views;
 pub use completed::Completed;
 pub use event::Event;
 pub use machine::Machine;
-pub use record::{Record, run};
+pub use record::{Record, run, run_after};

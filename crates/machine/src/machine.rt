@@ -1,7 +1,6 @@
 //! The machine, and what one event does.
-ghost use Rattle.std.specs.Prelude.{◌≡◌, ◌≢◌, ◌⊎◌, ◌+◌, ◌<◌, ◌≤◌, ◌++◌, length, map, IfOk, OnOk, OnErr};
-ghost use Rattle.model.specs.Database.{empty_database};
-ghost use Rattle.model.specs.History.{batch_entries};
+ghost use Rattle.std.specs.Prelude.{◌≡◌, ◌≢◌, ◌⊎◌, ◌+◌, ◌<◌, ◌≤◌, ◌++◌, [], None, Some, length, map, IfOk, OnOk, OnErr};
+ghost use Rattle.model.specs.History.{base_of, now, largest_base, successor, batch_entries};
 ghost use Rattle.model.specs.World as model;
 ghost use Rattle.machine.specs.Events.{event_of, completed_of};
 ghost use Rattle.machine.specs.States.{start_state, stepped};
@@ -17,8 +16,8 @@ use std::alloc::{AllocError, Global};
 use std::collections::VecDeque;
 use std::marker::Model;
 
-/// Sessions, an updater and a compactor in one thread. Contracts see its world, the database that the
-/// history began from, and the configuration.
+/// Sessions, an updater and a compactor in one thread. Contracts see its world, the base that the
+/// history names, and the configuration.
 ///
 /// The history is that of its version. A session's view and a compaction share versions with it.
 #[derive(Drop)]
@@ -48,12 +47,32 @@ impl Model for Machine {
 }
 
 impl Machine {
-    /// A machine over the empty database, before any event.
+    /// A machine of a first epoch, over the empty database, before any event.
     pub fn new(alloc: Global, config: Config) -> Result<Machine, AllocError>
-        ensures start { IfOk result (λ m. m ≡ start_state empty_database config) }
+        ensures start { IfOk result (λ m. m ≡ start_state None config) }
+    {
+        let begun = Version::empty(alloc);
+        Machine::over(alloc, config, begun)
+    }
+
+    /// A machine of the epoch after this version, before any event: its history has no entries, and its base is the database
+    /// of the version, where no session has called. `Version::has_successor` says whether there can be one.
+    #[tactic(auto, using(crate::proofs::Starts::start_over))]
+    pub fn after(alloc: Global, config: Config, version: &Version) -> Result<Machine, AllocError>
+        requires updates { (now version.now).update_seq ≤ largest_base }
+        requires purges { (now version.now).purges.purge_seq ≤ largest_base }
+        ensures start { IfOk result (λ m. m ≡ start_state (Some (successor (now version.now))) config) }
+    {
+        let begun = version.successor()?;
+        Machine::over(alloc, config, begun)
+    }
+
+    /// A machine over a version of no entries, before any event.
+    fn over(alloc: Global, config: Config, version: Version) -> Result<Machine, AllocError>
+        requires { version.entries ≡ [] }
+        ensures start { IfOk result (λ m. m ≡ start_state version.base config) }
     {
         let limits = config.limits();
-        let version = Version::empty(alloc);
         let views = first_views(alloc, &version, limits.sessions)?;
         Ok(Machine {
             alloc,
@@ -71,8 +90,8 @@ impl Machine {
     pub fn step(&mut self, event: &Event) -> Result<(), AllocError>
         ensures stepped { OnOk result (self.new ≡ stepped self.old (event_of event.now)) }
         ensures put { OnOk result (event_of event.now ≡ model.Put → 0 < length self.old.world.batch → length self.old.world.history + length self.old.world.batch ≤ self.old.config.max_places
-            → self.new.world.history ≡ self.old.world.history ++ batch_entries (model.database_of self.old.base self.old.world) self.old.world.batch) }
-        ensures swap { OnOk result (event_of event.now ≡ model.Swap → (self.new.world.history ≡ self.old.world.history) ⊎ model.AddsCompact self.old.base self.old.world self.new.world) }
+            → self.new.world.history ≡ self.old.world.history ++ batch_entries (model.database_of (base_of self.old.base) self.old.world) self.old.world.batch) }
+        ensures swap { OnOk result (event_of event.now ≡ model.Swap → (self.new.world.history ≡ self.old.world.history) ⊎ model.AddsCompact (base_of self.old.base) self.old.world self.new.world) }
         ensures others { OnOk result (event_of event.now ≢ model.Put → event_of event.now ≢ model.Swap → self.new.world.history ≡ self.old.world.history) }
         ensures kept { OnErr result (self.new ≡ self.old) }
     {

@@ -1,10 +1,9 @@
 //! What a list of events makes of a machine.
-ghost use Rattle.std.specs.Prelude.{◌≡◌, ℕ, IfOk, map, filter_map};
-ghost use Rattle.model.specs.Database.{empty_database};
-ghost use Rattle.model.specs.History.{IsLegal};
-ghost use Rattle.model.specs.Told.{AllTold, wrote, places_of, NoneFalls};
+ghost use Rattle.std.specs.Prelude.{◌≡◌, ◌≤◌, None, Some, IfOk, OnOk, map};
+ghost use Rattle.model.specs.History.{base_of, now, largest_base, successor};
 ghost use Rattle.model.specs.World as model;
-ghost use Rattle.machine.specs.Events.{event_of, completed_of};
+ghost use Rattle.machine.specs.Events.{event_of};
+ghost use Rattle.machine.specs.Runs.{IsRun};
 
 use crate::completed::Completed;
 use crate::event::Event;
@@ -22,17 +21,36 @@ pub struct Record {
 
 /// What the events make of a machine over the empty database, one after another.
 pub fn run(alloc: Global, config: Config, events: &[Event]) -> Result<Record, AllocError>
-    ensures base { IfOk result (λ r. r.version.base ≡ empty_database) }
-    ensures history { IfOk result (λ r. r.version.entries ≡ (model.run empty_database config (model.start_world config) (map event_of events.now)).history) }
-    ensures completed { IfOk result (λ r. map completed_of r.completed.items ≡ (model.run empty_database config (model.start_world config) (map event_of events.now)).completed) }
-    ensures legal { IfOk result (λ r. IsLegal empty_database r.version.entries) }
-    ensures told { IfOk result (λ r. AllTold empty_database r.version.entries (map completed_of r.completed.items)) }
-    ensures only { IfOk result (λ r. filter_map wrote (map completed_of r.completed.items) ≡ r.version.entries) }
-    ensures places { IfOk result (λ r. (s : ℕ) → NoneFalls 0 (places_of s (map completed_of r.completed.items))) }
+    ensures ran { IfOk result (IsRun None config (map event_of events.now)) }
 {
     let mut machine = Machine::new(alloc, config)?;
+    step_all(&mut machine, events)?;
+    Ok(machine.into_record())
+}
+
+/// What the events make of a machine of the epoch after this version, one after another.
+pub fn run_after(
+    alloc: Global,
+    config: Config,
+    version: &Version,
+    events: &[Event],
+) -> Result<Record, AllocError>
+    requires updates { (now version.now).update_seq ≤ largest_base }
+    requires purges { (now version.now).purges.purge_seq ≤ largest_base }
+    ensures ran { IfOk result (IsRun (Some (successor (now version.now))) config (map event_of events.now)) }
+{
+    let mut machine = Machine::after(alloc, config, version)?;
+    step_all(&mut machine, events)?;
+    Ok(machine.into_record())
+}
+
+/// Does what the events say, one after another.
+fn step_all(machine: &mut Machine, events: &[Event]) -> Result<(), AllocError>
+    ensures base { OnOk result (machine.new.base ≡ machine.old.base) }
+    ensures world { OnOk result (machine.new.world ≡ model.run (base_of machine.old.base) machine.old.config machine.old.world (map event_of events.now)) }
+{
     for event in events {
         machine.step(event)?;
     }
-    Ok(machine.into_record())
+    Ok(())
 }

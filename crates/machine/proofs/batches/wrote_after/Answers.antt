@@ -1,4 +1,3 @@
-use Rattle.model.specs.World as model
 use Rattle.machine.proofs.Wrote.{found_entry, wrote_more}
 use Rattle.machine.proofs.batches.wrote_after.Goals as goal
 

@@ -1,5 +1,5 @@
-use Rattle.std.proofs.Common.{◌≡◌, ◌-◌, ◌∙◌, sym, ap, subst}
-use Rattle.std.specs.Prelude.{None, option_map, refl}
+use Rattle.std.proofs.Common.{◌≡◌, ◌∙◌, sym, ap, subst}
+use Rattle.std.specs.Prelude.{None, option_map}
 use Rattle.machine.specs.States.{State, stepped, open_copy}
 use Rattle.model.specs.World.{Abort}
 use Rattle.machine.proofs.KeptCopies.{abort_stepped}

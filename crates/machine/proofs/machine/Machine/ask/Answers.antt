@@ -1,5 +1,5 @@
-use Rattle.std.proofs.Common.{rules, ◌≡◌, ◌-◌, ◌<◌, ◌≤◌, ◌&&◌, ◌∙◌, length, not, sym, ap, subst, arith}
-use Rattle.std.specs.Prelude.{ℕ, true, false, nat_lt, refl}
+use Rattle.std.proofs.Common.{rules, ◌≡◌, ◌<◌, ◌≤◌, ◌&&◌, ◌∙◌, length, not, sym, ap, subst, arith}
+use Rattle.std.specs.Prelude.{ℕ, true, false, nat_lt}
 use Rattle.machine.specs.States.{State, stepped}
 use Rattle.std.proofs.lemmas.Bool.{and_parts, false≢true}
 use Rattle.model.specs.Command.{Seat}

@@ -1,7 +1,7 @@
 use Rattle.std.proofs.Common.{rules, ◌≡◌, ◌==◌, ◌∙◌, take, not, sym, ap, subst}
 use Rattle.std.specs.Prelude.{true, false, Bool, Option, Some, option_map, MatchBool}
 use Rattle.model.specs.PurgeLog.{is_overrun}
-use Rattle.model.specs.History.{now}
+use Rattle.model.specs.History.{base_of, now}
 use Rattle.model.specs.Compaction.{passed, touched}
 use Rattle.model.specs.World.{CatchUp, Abort, OpenCopy, database_of}
 use Rattle.machine.specs.declared.copying.Copying.{Copying}
@@ -55,4 +55,4 @@ returns-clause-stepped c =
     c.abort.ensures
     ∙ ap (λ (o : Option OpenCopy). stepped (record st { world = record st.world { copy = o } }) Abort) (ap (λ (k : OpenCopy). Some k) kept ∙ sym (ap (option_map open_copy) c.in-Some.is))
     ∙ ap (λ (t : State). stepped t Abort) c.self.view_is
-    ∙ sym (catch_up_overrun s c.args.n (open_copy x) copy mine (subst (λ (t : State). is_overrun (database_of t.base t.world).purges x.compaction.marks.purge ≡ true) c.self.view_is over))
+    ∙ sym (catch_up_overrun s c.args.n (open_copy x) copy mine (subst (λ (t : State). is_overrun (database_of (base_of t.base) t.world).purges x.compaction.marks.purge ≡ true) c.self.view_is over))

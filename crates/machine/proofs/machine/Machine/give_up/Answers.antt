@@ -1,5 +1,4 @@
-use Rattle.std.proofs.Common.{rules, ◌-◌, ◌∙◌, List, ap}
-use Rattle.std.specs.Prelude.{refl}
+use Rattle.std.proofs.Common.{rules, ◌∙◌, List, ap}
 use Rattle.machine.specs.States.{State, stepped}
 use Rattle.model.specs.Command.{Job}
 use Rattle.model.specs.World.{GiveUp}

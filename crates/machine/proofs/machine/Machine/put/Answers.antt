@@ -1,5 +1,5 @@
-use Rattle.std.proofs.Common.{rules, ◌≡◌, ◌+◌, ◌-◌, ◌&&◌, ◌∙◌, List, length, sym, ap, subst}
-use Rattle.std.specs.Prelude.{true, false, nat_lt, nat_le, refl}
+use Rattle.std.proofs.Common.{rules, ◌≡◌, ◌+◌, ◌&&◌, ◌∙◌, List, length, sym, ap, subst}
+use Rattle.std.specs.Prelude.{true, false, nat_lt, nat_le}
 use Rattle.machine.specs.States.{State, stepped, state_of}
 use Rattle.model.specs.Command.{Job}
 use Rattle.model.specs.History.{Chronicle, now, extended, batch_entries}

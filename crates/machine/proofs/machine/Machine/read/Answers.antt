@@ -1,5 +1,5 @@
-use Rattle.std.proofs.Common.{rules, ◌≡◌, ◌-◌, ◌<◌, ◌≤◌, ◌∙◌, List, length, sym, ap, subst, arith}
-use Rattle.std.specs.Prelude.{true, false, slice_get, Some, refl}
+use Rattle.std.proofs.Common.{rules, ◌≡◌, ◌<◌, ◌≤◌, ◌∙◌, List, length, sym, ap, subst, arith}
+use Rattle.std.specs.Prelude.{true, false, slice_get, Some}
 use Rattle.machine.specs.declared.views.SessionView.{SessionView}
 use Rattle.machine.specs.States.{State, stepped}
 use Rattle.std.proofs.lemmas.Option.{slice_get-get_or}

@@ -1,5 +1,5 @@
 use Rattle.std.proofs.Common.{◌≡◌, ◌-◌, ◌∙◌, sym, ap, subst}
-use Rattle.std.specs.Prelude.{Some, None, option_map, refl}
+use Rattle.std.specs.Prelude.{Some, None, option_map}
 use Rattle.machine.specs.States.{State, stepped, state_of, open_copy}
 use Rattle.std.proofs.lemmas.Result.{on_ok_weaker}
 use Rattle.model.specs.History.{Extends}

@@ -1,5 +1,5 @@
-use Rattle.std.proofs.Common.{rules, ◌≡◌, ◌-◌, ◌&&◌, ◌∙◌, sym, ap, subst}
-use Rattle.std.specs.Prelude.{true, false, is_none, option_map, refl}
+use Rattle.std.proofs.Common.{rules, ◌≡◌, ◌&&◌, ◌∙◌, sym, ap, subst}
+use Rattle.std.specs.Prelude.{true, false, is_none, option_map}
 use Rattle.machine.specs.States.{State, stepped, open_copy}
 use Rattle.std.proofs.lemmas.Bool.{and_parts}
 use Rattle.model.specs.World.{Start, free_in}

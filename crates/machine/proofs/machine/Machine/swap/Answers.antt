@@ -1,7 +1,8 @@
 use Rattle.std.proofs.Common.{rules, ◌≡◌, ◌<◌, ◌∙◌, length, sym, ap, subst}
-use Rattle.std.specs.Prelude.{true, false, nat_lt, Option, Some, option_map, Result, Ok, Err, refl}
+use Rattle.std.specs.Prelude.{true, false, nat_lt, Option, Some, option_map, Result, Ok, Err}
 use Rattle.std.proofs.lemmas.Result.{on_ok_weaker}
 use Rattle.model.specs.PurgeLog.{is_overrun}
+use Rattle.model.specs.History.{base_of}
 use Rattle.model.specs.Compaction.{touched}
 use Rattle.model.specs.World.{Config, Swap, Abort, OpenCopy, database_of}
 use Rattle.machine.specs.States.{State, stepped, swapped_in, state_of, open_copy}
@@ -39,8 +40,8 @@ swap_in-requires-clause-event c =
     let own : c.limits-limits.result.slack ≡ s.config.slack = ap (λ (l : Config). l.slack) c.limits-limits.ensures.limits ∙ ap (λ (t : State). t.config.slack) c.self.view_is in
     subst (λ (t : State). stepped t Swap ≡ swapped_in t x.session) (sym same)
     (swap_ends s k copy sliced room c.limits-limits.result.slack own
-    (λ h. ok_err _ _ (c.in-Ok.ensures.overrun.1 (subst (λ (t : State). is_overrun (database_of t.base t.world).purges k.marks.purge ≡ true) (sym c.self.view_is) h)))
-    (λ h. ok_err _ _ (c.in-Ok.ensures.behind.1 (subst (λ (t : State). (is_overrun (database_of t.base t.world).purges k.marks.purge ≡ false) × (c.limits-limits.result.slack < length (touched (database_of t.base t.world) k.marks))) (sym c.self.view_is) h))))
+    (λ h. ok_err _ _ (c.in-Ok.ensures.overrun.1 (subst (λ (t : State). is_overrun (database_of (base_of t.base) t.world).purges k.marks.purge ≡ true) (sym c.self.view_is) h)))
+    (λ h. ok_err _ _ (c.in-Ok.ensures.behind.1 (subst (λ (t : State). (is_overrun (database_of (base_of t.base) t.world).purges k.marks.purge ≡ false) × (c.limits-limits.result.slack < length (touched (database_of (base_of t.base) t.world) k.marks))) (sym c.self.view_is) h))))
 
 pub returns-in-Ok-clause-stepped : goal.returns-in-Ok-clause-stepped
 returns-in-Ok-clause-stepped c =
@@ -56,8 +57,8 @@ returns-in-Ok-clause-stepped c =
     let own : c.limits-limits.result.slack ≡ s.config.slack = ap (λ (l : Config). l.slack) c.limits-limits.ensures.limits ∙ ap (λ (t : State). t.config.slack) c.self.view_is in
     let ends : stepped s Swap ≡ swapped_in s x.session =
     (swap_ends s k copy sliced room c.limits-limits.result.slack own
-    (λ h. ok_err _ _ (c.in-Ok.ensures.overrun.1 (subst (λ (t : State). is_overrun (database_of t.base t.world).purges k.marks.purge ≡ true) (sym c.self.view_is) h)))
-    (λ h. ok_err _ _ (c.in-Ok.ensures.behind.1 (subst (λ (t : State). (is_overrun (database_of t.base t.world).purges k.marks.purge ≡ false) × (c.limits-limits.result.slack < length (touched (database_of t.base t.world) k.marks))) (sym c.self.view_is) h)))) in
+    (λ h. ok_err _ _ (c.in-Ok.ensures.overrun.1 (subst (λ (t : State). is_overrun (database_of (base_of t.base) t.world).purges k.marks.purge ≡ true) (sym c.self.view_is) h)))
+    (λ h. ok_err _ _ (c.in-Ok.ensures.behind.1 (subst (λ (t : State). (is_overrun (database_of (base_of t.base) t.world).purges k.marks.purge ≡ false) × (c.limits-limits.result.slack < length (touched (database_of (base_of t.base) t.world) k.marks))) (sym c.self.view_is) h)))) in
     on_ok_weaker c.swap_in.result (λ h. h ∙ ap (λ (t : State). swapped_in t x.session) same ∙ sym ends) c.swap_in.ensures.stepped
 
 pub returns-in-Err-Overrun-clause-stepped : goal.returns-in-Err-Overrun-clause-stepped
@@ -72,7 +73,7 @@ returns-in-Err-Overrun-clause-stepped c =
     let sliced : sliced_in s.world.copy ≡ true = search rules in
     let room : nat_lt (length s.world.history) s.config.max_places ≡ true = search rules in
     c.abort.ensures ∙ ap (λ (t : State). stepped t Abort) same
-    ∙ sym (swap_aborts s k copy sliced room (subst (λ (t : State). is_overrun (database_of t.base t.world).purges k.marks.purge ≡ true) c.self.view_is (c.in-Err-Overrun.ensures.overrun.0 (err_same _ _ c.in-Err-Overrun.field-0-is))))
+    ∙ sym (swap_aborts s k copy sliced room (subst (λ (t : State). is_overrun (database_of (base_of t.base) t.world).purges k.marks.purge ≡ true) c.self.view_is (c.in-Err-Overrun.ensures.overrun.0 (err_same _ _ c.in-Err-Overrun.field-0-is))))
 
 pub returns-in-Err-Behind-clause-stepped : goal.returns-in-Err-Behind-clause-stepped
 returns-in-Err-Behind-clause-stepped c =
@@ -86,4 +87,4 @@ returns-in-Err-Behind-clause-stepped c =
     let sliced : sliced_in s.world.copy ≡ true = search rules in
     let room : nat_lt (length s.world.history) s.config.max_places ≡ true = search rules in
     let own : c.limits-limits.result.slack ≡ s.config.slack = ap (λ (l : Config). l.slack) c.limits-limits.ensures.limits ∙ ap (λ (t : State). t.config.slack) c.self.view_is in
-    same ∙ sym (swap_waits s k copy sliced room c.limits-limits.result.slack own (subst (λ (t : State). (is_overrun (database_of t.base t.world).purges k.marks.purge ≡ false) × (c.limits-limits.result.slack < length (touched (database_of t.base t.world) k.marks))) c.self.view_is (c.in-Err-Behind.ensures.behind.0 (err_same _ _ c.in-Err-Behind.field-0-is))))
+    same ∙ sym (swap_waits s k copy sliced room c.limits-limits.result.slack own (subst (λ (t : State). (is_overrun (database_of (base_of t.base) t.world).purges k.marks.purge ≡ false) × (c.limits-limits.result.slack < length (touched (database_of (base_of t.base) t.world) k.marks))) c.self.view_is (c.in-Err-Behind.ensures.behind.0 (err_same _ _ c.in-Err-Behind.field-0-is))))

@@ -1,5 +1,5 @@
-use Rattle.std.proofs.Common.{◌≡◌, ◌+◌, ◌-◌, ◌<◌, ◌∙◌, List, [], ◌∷◌, length, map, sym, ap, subst}
-use Rattle.std.specs.Prelude.{ℕ, Option, Some, None, option_map, refl}
+use Rattle.std.proofs.Common.{◌≡◌, ◌+◌, ◌<◌, ◌∙◌, List, [], ◌∷◌, length, map, sym, ap, subst}
+use Rattle.std.specs.Prelude.{ℕ, Option, Some, None, option_map}
 use Rattle.machine.specs.declared.copying.Copying.{Copying}
 use Rattle.machine.specs.States.{State, stepped, state_of, open_copy}
 use Rattle.std.specs.Prelude.{IfSome}

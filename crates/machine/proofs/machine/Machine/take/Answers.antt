@@ -1,5 +1,5 @@
-use Rattle.std.proofs.Common.{rules, ◌≡◌, ◌-◌, ◌==◌, ◌∙◌, length, take, drop, min, sym, ap, subst, arith}
-use Rattle.std.specs.Prelude.{true, false, refl}
+use Rattle.std.proofs.Common.{rules, ◌≡◌, ◌==◌, ◌∙◌, length, take, drop, min, sym, ap, subst, arith}
+use Rattle.std.specs.Prelude.{true, false}
 use Rattle.machine.specs.States.{State, stepped}
 use Rattle.std.proofs.lemmas.List.{take_min, drop_min}
 use Rattle.model.specs.World.{Config, Take}
