@@ -77,6 +77,7 @@ fn worked<J: Opening + Send + Sync, R: Threads + Wait + Clock + Sync>(
     opened: Opened,
 ) -> Option<Ending>
     requires book { opened.book ≡ J.book }
+    requires base { opened.base ≡ J.base }
     requires table { opened.queue.table ≡ J.table }
     requires capacity { opened.queue.capacity ≡ J.capacity }
     requires sessions { opened.queue.sessions ≡ J.sessions }

@@ -1,3 +1,4 @@
 pub mod Names
 pub mod Ending
+pub mod Successors
 pub mod Refusals

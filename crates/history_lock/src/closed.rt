@@ -1,6 +1,6 @@
 //! What is left at the end.
 ghost use Rattle.std.specs.Prelude.{◌≡◌};
-ghost use Rattle.publications.specs.Histories.{newest, opening_base};
+ghost use Rattle.publications.specs.Histories.{newest};
 
 use publications::Published;
 use snapshots::Version;
@@ -41,7 +41,7 @@ impl<J: Opening> Closed<J> {
 
     /// The last version.
     pub fn version(&self) -> &Version
-        ensures { result.now ≡ record { base = opening_base; entries = self.now.history } }
+        ensures { result.now ≡ record { base = J.base; entries = self.now.history } }
     {
         self.last.version()
     }

@@ -15,9 +15,9 @@ pub(crate) fn last_of_all<C: Drop, J: Opening, G: Drop>(
     sessions: Vec<Session<C, J, G>>,
     mut ended: Vec<Ended<J>>,
 ) -> (Published<J>, Vec<Ended<J>>)
-    requires grows { Grows current }
+    requires grows { Grows J.base current }
     requires room { (ended.items ≡ []) × (length sessions.items ≤ vec_capacity ended) }
-    ensures last { IsPrefix current result.0 × Grows result.0 }
+    ensures last { IsPrefix current result.0 × Grows J.base result.0 }
     ensures ended { result.1.items ≡ sessions.items }
     ensures extends { All (λ (k : Known). IsPrefix k.published result.0) result.1.items }
 {

@@ -4,11 +4,13 @@
 mod closed;
 mod closing;
 mod ends;
+mod fault;
 mod master;
 mod opened;
 mod opening;
 
 pub use closed::Closed;
+pub use fault::SuccessorFault;
 pub use master::Master;
 pub use opened::Opened;
 pub use opening::open;

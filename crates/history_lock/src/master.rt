@@ -66,7 +66,7 @@ impl<R: Wait + Drop, J: Opening, G: Drop> Master<Core<R, J>, J, G> {
     /// waits for the updater's lock and takes no memory.
     pub fn close<W: Wait>(self, sessions: Vec<Session<Core<R, J>, J, G>>, rt: &W) -> Closed<J>
         requires all { length sessions.items ≤ J.sessions }
-        ensures end { ending.Ends sessions.items result }
+        ensures end { ending.Ends J.base sessions.items result }
     {
         let Master {
             shared,
@@ -87,7 +87,7 @@ fn current_or<R: Wait + Drop, J: Opening, G: Drop, W: Wait>(
     shared: &Shared<Core<R, J>, J, G>,
     first: Published<J>,
 ) -> Published<J>
-    ensures { Grows result }
+    ensures { Grows J.base result }
 {
     let core = shared.core().lock(rt);
     let Ok(current) = core.current().share() else {

@@ -1,35 +1,84 @@
 //! A database that has no name yet.
-ghost use Rattle.std.specs.Prelude.{◌≡◌, IfOk};
+ghost use Rattle.std.specs.Prelude.{◌≡◌, ◌↔◌, [], None, Some, Err, IfOk};
+ghost use Rattle.model.specs.History.{successor};
+ghost use Rattle.history_lock.specs.Successors.{last_database, HasTooLargeNumbers};
+ghost use Rattle.history_lock.specs.declared.fault.SuccessorFault.TheVariants.{NumbersTooLarge};
 
+use crate::closed::Closed;
+use crate::fault::SuccessorFault;
 use commands::Config;
+use snapshots::Version;
 use std::alloc::{AllocError, Global};
 use std::marker::Model;
+use updating::Opening;
 
-/// A database that has no name yet: its book of publications and its queue. Contracts see what names
-/// it, which a program picks as its `Opening`.
+/// A database that has no name yet: its book of publications, its version of no entries and its queue. Contracts
+/// see what names it, which a program picks as its `Opening`.
 pub struct Opened {
     pub(crate) alloc: Global,
     pub(crate) config: Config,
     pub(crate) book: publications::Opened,
+    pub(crate) empty: Version,
     pub(crate) queue: turns::Opened,
 }
 
 impl Model for Opened {
-    ghost use Rattle.std.specs.Prelude.{◌≡◌};
+    ghost use Rattle.std.specs.Prelude.{◌≡◌, []};
+    ghost use Rattle.std.specs.Coded.{codes};
+    ghost use Rattle.model.specs.JsonCode.{coded_members};
     ghost use Rattle.history_lock.specs.Names.{Names, coded_names};
 
     ghost Value = { Names };
 
-    ghost coded = { coded_names };
+    ghost coded = { coded_names (Prim.hlevel (codes, coded_members)) };
 
-    ghost view = { λ o. record { book = o.book; queue = o.queue; max_places = o.config.max_places } };
+    ghost view = { λ o. record { book = o.book; base = o.empty.base; queue = o.queue; max_places = o.config.max_places } };
 
-    ghost invariant = { λ o. (o.queue.capacity ≡ o.config.queue) × (o.queue.sessions ≡ o.config.sessions) };
+    ghost invariant = { λ o. (o.queue.capacity ≡ o.config.queue) × (o.queue.sessions ≡ o.config.sessions) × (o.empty.entries ≡ []) };
 }
 
 impl Opened {
-    /// What a database of this configuration has before its name.
+    /// What a database of this configuration has before its name, in its first epoch.
     pub fn new(alloc: Global, config: Config) -> Result<Opened, AllocError>
+        ensures base { IfOk result (λ o. o.base ≡ None) }
+        ensures sessions { IfOk result (λ o. o.queue.sessions ≡ config.sessions) }
+        ensures capacity { IfOk result (λ o. o.queue.capacity ≡ config.queue) }
+        ensures max_places { IfOk result (λ o. o.max_places ≡ config.max_places) }
+    {
+        Opened::over(alloc, config, Version::empty(alloc))
+    }
+
+    /// What a successor of a closed database has before its name: no entries, over the last database of the closed one, in
+    /// which no session has called. The closed one stays as it is. It may have several successors, which share nothing
+    /// that changes.
+    ///
+    /// # Errors
+    ///
+    /// [`SuccessorFault::NumbersTooLarge`] exactly where the last update number or purge number is above
+    /// 4611686018427387904, and [`SuccessorFault::Memory`] where memory was refused.
+    pub fn after<J: Opening>(
+        alloc: Global,
+        config: Config,
+        closed: &Closed<J>,
+    ) -> Result<Opened, SuccessorFault>
+        ensures base { IfOk result (λ o. o.base ≡ Some (successor (last_database J.base closed.now))) }
+        ensures sessions { IfOk result (λ o. o.queue.sessions ≡ config.sessions) }
+        ensures capacity { IfOk result (λ o. o.queue.capacity ≡ config.queue) }
+        ensures max_places { IfOk result (λ o. o.max_places ≡ config.max_places) }
+        ensures too_large { (result ≡ Err NumbersTooLarge) ↔ HasTooLargeNumbers (last_database J.base closed.now) }
+    {
+        let last = closed.version();
+        if !last.has_successor() {
+            return Err(SuccessorFault::NumbersTooLarge);
+        }
+        let empty = last.successor()?;
+        Ok(Opened::over(alloc, config, empty)?)
+    }
+
+    /// The same over the base of a version of no entries.
+    fn over(alloc: Global, config: Config, empty: Version) -> Result<Opened, AllocError>
+        requires empty { empty.entries ≡ [] }
+        ensures base { IfOk result (λ o. o.base ≡ empty.base) }
         ensures sessions { IfOk result (λ o. o.queue.sessions ≡ config.sessions) }
         ensures capacity { IfOk result (λ o. o.queue.capacity ≡ config.queue) }
         ensures max_places { IfOk result (λ o. o.max_places ≡ config.max_places) }
@@ -40,6 +89,7 @@ impl Opened {
             alloc,
             config,
             book: publications::Opened::new(),
+            empty,
             queue,
         })
     }

@@ -23,10 +23,12 @@ fn begin<R: Wait + Drop, J: Opening>(
     rt: R,
     book: Book<J>,
     front: Front<J>,
+    empty: Version,
     line: &Line<J>,
     mut clerk: Clerk<J>,
 ) -> Result<(Core<R, J>, Published<J>, Vec<Ends<J>>), Fault>
     requires front { front ≡ [] }
+    requires empty { empty ≡ record { base = J.base; entries = [] } }
     requires taken { clerk.taken ≡ [] }
     requires made { clerk.made ≡ 0 }
     requires sessions { config.sessions ≡ J.sessions }
@@ -35,7 +37,7 @@ fn begin<R: Wait + Drop, J: Opening>(
     ensures refused { IfErr result IsRefusal }
 {
     let sessions = config.limits().sessions;
-    let Ok(version) = Arc::new(alloc, Version::empty(alloc)) else {
+    let Ok(version) = Arc::new(alloc, empty) else {
         return Err(Fault::Memory);
     };
     let first = Published::new(version, front);
@@ -100,7 +102,7 @@ fn share<R: Wait + Drop, J: Opening, G: Gate + Drop>(
     Ok((master, sessions))
 }
 
-/// A master and its sessions, numbered from 0, each having seen the empty history. The writer's
+/// A master and its sessions, numbered from 0, each having seen the empty history over what was opened. The writer's
 /// runtime is `rt`, and the gate is called between the steps of a write and of a compaction.
 ///
 /// # Errors
@@ -112,6 +114,7 @@ pub fn open<R: Wait + Drop, J: Opening, G: Gate + Drop>(
     gate: G,
 ) -> Result<(Master<Core<R, J>, J, G>, Vec<Session<Core<R, J>, J, G>>), Fault>
     requires book { opened.book ≡ J.book }
+    requires base { opened.base ≡ J.base }
     requires table { opened.queue.table ≡ J.table }
     requires capacity { opened.queue.capacity ≡ J.capacity }
     requires sessions { opened.queue.sessions ≡ J.sessions }
@@ -123,11 +126,12 @@ pub fn open<R: Wait + Drop, J: Opening, G: Gate + Drop>(
         alloc,
         config,
         book,
+        empty,
         queue,
     } = opened;
     let (book, front) = book.named::<J>();
     let (line, clerk) = queue.named::<J>();
-    let (core, first, ends) = begin(alloc, config, rt, book, front, &line, clerk)?;
+    let (core, first, ends) = begin(alloc, config, rt, book, front, empty, &line, clerk)?;
     match share(alloc, config, line, gate, core, first, ends) {
         Ok(made) => Ok(made),
         Err(_) => Err(Fault::Memory),

@@ -1,5 +1,6 @@
 pub mod Prefixes
 pub mod Growing
 pub mod Publishing
-pub mod OneBook
+pub mod OneStore
+pub mod Knowing
 pub mod Crossing

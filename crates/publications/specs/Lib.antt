@@ -1,3 +1,4 @@
 pub mod Histories
+pub mod Stores
 pub mod Rules
 pub mod Names

@@ -2,12 +2,13 @@
 use Rattle.std.specs.Prelude.{ℕ, ◌≡◌, ◌==◌, true, List, [], ◌∷◌, ◌++◌, length, MatchBool}
 use Rattle.logbook.specs.Pages.{Cell, Step, View, Book, Named}
 use Rattle.model.specs.Command.{Entry}
-use Rattle.publications.specs.Histories.{Grows}
+use Rattle.publications.specs.Histories.{LengthensAfter}
 
--- the first word is the number of publications, the second is not used
+-- The first word is the number of publications, the second is not used. Each published history lengthens the one before.
+-- That each is legal is known by who holds a beginning of the log: it names the base, and the log doesn't.
 pub record IsKept (cells : List Cell) (log : List (List Entry)) : Type 0 where
   pub words : cells ≡ (length log, true) ∷ (0, true) ∷ []
-  pub grows : Grows log
+  pub lengthens : LengthensAfter [] log
 
 -- the first word of a book
 abbrev pub head_of : Book → Named

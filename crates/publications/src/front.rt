@@ -1,7 +1,7 @@
 //! The log of publications. It stands in the proofs alone: what is stored is its length.
 ghost use Rattle.std.specs.Prelude.{◌≡◌, ◌<◌, ◌≤◌, ◌++◌, ◌∷◌, [], length, MatchBool};
 ghost use mathlib.Core.List.{IsPrefix};
-ghost use Rattle.publications.specs.Histories.{newest, opening_base, Grows};
+ghost use Rattle.publications.specs.Histories.{newest, Grows};
 ghost use Rattle.publications.specs.Rules.{head_of};
 
 use commands::Entry;
@@ -13,7 +13,7 @@ use std::marker::{Brand, Model, PhantomData};
 /// What the log holds of each publication. Only its value counts, which is a list of entries.
 pub type History = LinkedList<Entry>;
 
-/// Each published history goes on from the one before.
+/// As many were published as the word says, and each published history lengthens the one before.
 pub struct Law;
 
 impl Rule<History, u64> for Law {
@@ -60,15 +60,23 @@ impl Plain<Version, History, u64> for Add {
     ghost state = { λ version. None };
 }
 
-/// Which store it is. A program picks it once its book is open.
+/// Which store it is, and the base that its history names. A program picks it once its book is open.
 pub trait Naming {
     ghost use Rattle.logbook.specs.Pages.{Book};
+    ghost use Rattle.std.specs.Prelude.{Option};
+    ghost use Rattle.model.specs.Database.{Database};
 
     ghost book: { Book };
+
+    ghost base: { Option Database };
 }
 
 impl Naming for Brand {
+    ghost use Rattle.std.specs.Prelude.{None};
+
     ghost book = { record { number = 0; log_name = 0; cells_name = 0 } };
+
+    ghost base = { None };
 }
 
 /// A book of no publications, which has no name yet.
@@ -151,14 +159,14 @@ impl<J: Naming> Model for Front<J> {
 
     ghost view = { λ f. f.seen.log };
 
-    ghost invariant = { λ f. (f.count ≡ length f.seen.log) × (f.seen.book ≡ J.book) × Grows f.seen.log };
+    ghost invariant = { λ f. (f.count ≡ length f.seen.log) × (f.seen.book ≡ J.book) × Grows J.base f.seen.log };
 }
 
 impl<J: Naming> Front<J> {
     pub(crate) fn from_parts(count: u64, seen: Seen<History, u64, Law>) -> Front<J>
         requires count { count ≡ length seen.log }
         requires name { seen.book ≡ J.book }
-        requires grows { Grows seen.log }
+        requires grows { Grows J.base seen.log }
         ensures log { result ≡ seen.log }
     {
         Front {
@@ -179,7 +187,7 @@ impl<J: Naming> Front<J> {
     pub fn count(&self) -> u64
         ensures count { result ≡ length self.now }
         ensures few { length self.now ≤ length (newest self.now) }
-        ensures grows { Grows self.now }
+        ensures grows { Grows J.base self.now }
     {
         self.count
     }
@@ -208,7 +216,7 @@ impl<J: Naming> Front<J> {
     /// Publishes the version's history, and says whether it did. It did not where others were
     /// published already.
     pub fn publish(&mut self, book: &Book<J>, version: &Version) -> bool
-        requires base { version.now.base ≡ opening_base }
+        requires base { version.now.base ≡ J.base }
         requires extends { IsPrefix (newest self.old) version.now.entries }
         requires longer { length (newest self.old) < length version.now.entries }
         ensures published { MatchBool result (self.new ≡ self.old ++ version.now.entries ∷ []) (self.new ≡ self.old) }

@@ -5,6 +5,7 @@ ghost use Rattle.publications.specs.declared.published.Shown.{Shown};
 ghost use Rattle.left_right.specs.Sides.{view as known};
 ghost use Rattle.publications.specs.Histories.{Grows};
 ghost use Rattle.publications.specs.Names.{Knows};
+ghost use Rattle.publications.specs.Stores.{named};
 
 use crate::front::Naming;
 use crate::published::{Published, Shown};
@@ -17,28 +18,28 @@ use std::alloc::{AllocError, Global};
 use std::marker::{Model, PhantomData};
 use std::sync::Wait;
 
-/// Whoever knows the book of what is shown knows it rightly.
-pub struct OneBook;
+/// Whoever knows the store of what is shown knows it rightly.
+pub struct OneStore;
 
-impl Protocol<Shown, Option<Shown>> for OneBook {
+impl Protocol<Shown, Option<Shown>> for OneStore {
     ghost use Rattle.std.specs.Prelude.{None};
-    ghost use Rattle.publications.specs.Names.{OneBookOf};
+    ghost use Rattle.publications.specs.Names.{OneStoreOf};
 
-    ghost holds = { OneBookOf };
+    ghost holds = { OneStoreOf };
 
     ghost first = { None };
 }
 
-/// A step that finds, or leaves, the same book.
+/// A step that finds, or leaves, the same store.
 pub struct Finds;
 
 impl Outcome<Shown, Option<Shown>> for Finds {
-    ghost use Rattle.publications.specs.Names.{FindsBook};
+    ghost use Rattle.publications.specs.Names.{FindsStore};
 
-    ghost then = { FindsBook };
+    ghost then = { FindsStore };
 }
 
-/// A step after which the book of what is shown is known.
+/// A step after which the store of what is shown is known.
 pub struct Opens;
 
 impl Outcome<Shown, Option<Shown>> for Opens {
@@ -47,7 +48,7 @@ impl Outcome<Shown, Option<Shown>> for Opens {
     ghost then = { λ v x y w. (w ≡ Some y) × (y.0 ≡ x.0) };
 }
 
-/// The writer tells a reader its book, and keeps knowing it.
+/// The writer tells a reader its store, and keeps knowing it.
 pub struct Tells;
 
 impl Split<Option<Shown>> for Tells {
@@ -64,9 +65,9 @@ impl Join<Option<Shown>> for Tells {
     ghost spent = { None };
 }
 
-type ShownReader = Reader<Shown, Option<Shown>, OneBook>;
+type ShownReader = Reader<Shown, Option<Shown>, OneStore>;
 
-type ShownWriter = Writer<Shown, Shown, Option<Shown>, OneBook>;
+type ShownWriter = Writer<Shown, Shown, Option<Shown>, OneStore>;
 
 /// A reader of the store `J`. It waits for nobody.
 pub struct Lens<J: Naming> {
@@ -83,12 +84,13 @@ impl<J: Naming> Drop for Lens<J> {
 impl<J: Naming> Model for Lens<J> {
     ghost use Rattle.left_right.specs.Sides.{view as known};
     ghost use Rattle.publications.specs.Names.{Knows};
+    ghost use Rattle.publications.specs.Stores.{named};
 
     ghost Value = { Unit {0} };
 
     ghost view = { λ l. tt };
 
-    ghost invariant = { λ l. Knows J.book (known l.reader.place) };
+    ghost invariant = { λ l. Knows (named J.book J.base) (known l.reader.place) };
 }
 
 // The reader, and what it found, unless that is of so many publications.
@@ -108,9 +110,10 @@ fn look_through(reader: ShownReader, count: u64) -> (ShownReader, Result<Option<
 impl<J: Naming> Lens<J> {
     /// What is shown now, where that is later than what was seen. An error says that the entry or a
     /// share is refused. It takes no memory.
+    #[tactic(auto, using(crate::proofs::Knowing::knows_as))]
     pub fn look_past(&mut self, seen: &Published<J>) -> Result<Option<Published<J>>, AllocError>
         ensures later { IfOk result (λ found. IfSome found (λ p. IsPrefix seen.now p)) }
-        ensures grows { IfOk result (λ found. IfSome found (λ p. Grows p)) }
+        ensures grows { IfOk result (λ found. IfSome found (λ p. Grows J.base p)) }
     {
         let count = seen.publication();
         let found = replace_with(&mut self.reader, count, |reader, count| {
@@ -140,12 +143,13 @@ impl<R: Wait + Drop, J: Naming> Model for Press<R, J> {
     ghost use Rattle.left_right.specs.Sides.{view as known};
     ghost use Rattle.publications.specs.declared.published.Shown.{Shown};
     ghost use Rattle.publications.specs.Names.{Knows};
+    ghost use Rattle.publications.specs.Stores.{named};
 
     ghost Value = { Unit {0} };
 
     ghost view = { λ p. tt };
 
-    ghost invariant = { λ p. Knows J.book (known p.writer.desk.place) × (p.writer.desk.shown.value.0 ≡ J.book) × All (λ (s : Shown). s.0 ≡ J.book) (drop p.writer.behind p.writer.log.items) };
+    ghost invariant = { λ p. Knows (named J.book J.base) (known p.writer.desk.place) × (p.writer.desk.shown.value.0 ≡ named J.book J.base) × All (λ (s : Shown). s.0 ≡ named J.book J.base) (drop p.writer.behind p.writer.log.items) };
 }
 
 impl<R: Wait + Drop, J: Naming> Drop for Press<R, J> {
@@ -155,7 +159,7 @@ impl<R: Wait + Drop, J: Naming> Drop for Press<R, J> {
     }
 }
 
-// Publishes what is pending, which is of the book of what is shown.
+// Publishes what is pending, which is of the store of what is shown.
 fn publish_pending<R: Wait>(writer: ShownWriter, rt: &R) -> (ShownWriter, Result<(), AllocError>)
     requires { All (λ (s : Shown). s.0 ≡ writer.desk.shown.value.0) (drop writer.behind writer.log.items) }
     ensures kept { known result.0.desk.place ≡ known writer.desk.place }
@@ -165,13 +169,13 @@ fn publish_pending<R: Wait>(writer: ShownWriter, rt: &R) -> (ShownWriter, Result
     writer.publish_as::<Finds, R>(rt)
 }
 
-// Publishes what is pending, and then this version, of the same book.
+// Publishes what is pending, and then this version, of the same store.
 fn show_next<R: Wait>(
     mut writer: ShownWriter,
     shown: Shown,
     rt: &R,
 ) -> (ShownWriter, Result<(), AllocError>)
-    requires book { shown.0 ≡ writer.desk.shown.value.0 }
+    requires store { shown.0 ≡ writer.desk.shown.value.0 }
     requires pends { All (λ (s : Shown). s.0 ≡ writer.desk.shown.value.0) (drop writer.behind writer.log.items) }
     ensures kept { known result.0.desk.place ≡ known writer.desk.place }
     ensures shows { result.0.desk.shown.value.0 ≡ writer.desk.shown.value.0 }
@@ -183,21 +187,22 @@ fn show_next<R: Wait>(
     publish_pending(writer, rt)
 }
 
-// Publishes once more what is shown, after which the writer knows its book.
+// Publishes once more what is shown, after which the writer knows its store.
 fn opened<R: Wait>(writer: ShownWriter, rt: &R) -> Result<ShownWriter, AllocError>
     requires { drop writer.behind writer.log.items ≡ [] }
     ensures { IfOk result (λ w. Knows writer.desk.shown.value.0 (known w.desk.place) × (w.desk.shown.value.0 ≡ writer.desk.shown.value.0) × (drop w.behind w.log.items ≡ [])) }
 {
     let (writer, published) = writer.publish_as::<Opens, R>(rt);
-    if published.is_err() {
+    let Ok(()) = published else {
         drop(writer.take(rt));
         return Err(AllocError);
-    }
+    };
     Ok(writer)
 }
 
 impl<R: Wait + Drop, J: Naming> Press<R, J> {
     /// Shows this version first, to so many readers at once.
+    #[tactic(auto, using(crate::proofs::Knowing::knows_of))]
     pub fn new(
         alloc: Global,
         rt: R,
@@ -217,6 +222,7 @@ impl<R: Wait + Drop, J: Naming> Press<R, J> {
     }
 
     /// One more reader.
+    #[tactic(auto, using(crate::proofs::Knowing::knows_as))]
     pub fn lens(&mut self) -> Result<Lens<J>, AllocError> {
         let mut reader = self.writer.factory().reader()?;
         reader.learn::<Tells>(self.writer.tell::<Tells>());
@@ -228,6 +234,7 @@ impl<R: Wait + Drop, J: Naming> Press<R, J> {
 
     /// Shows readers this version. After a refusal they see what they saw, and a later call shows
     /// what is pending first.
+    #[tactic(auto, using(crate::proofs::Knowing::knows_as))]
     pub fn show(&mut self, version: &Published<J>) -> Result<(), AllocError> {
         let shown = version.shown()?;
         replace_with(

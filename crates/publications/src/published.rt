@@ -2,7 +2,8 @@
 ghost use Rattle.std.specs.Arc.{arc_value};
 ghost use Rattle.std.specs.Prelude.{◌≡◌, ◌≤◌, length, IfOk, IfSome, MatchBool};
 ghost use mathlib.Core.List.{IsPrefix};
-ghost use Rattle.publications.specs.Histories.{newest, opening_base, Grows, IsNewest};
+ghost use Rattle.publications.specs.Histories.{newest, Grows, IsNewest};
+ghost use Rattle.publications.specs.Stores.{named};
 
 use crate::front::{Front, History, Law, Naming};
 use left_right::Absorb;
@@ -13,7 +14,7 @@ use std::marker::Model;
 use std::sync::Arc;
 
 /// A published version that doesn't know its store, so that it has no type parameter. Contracts see
-/// its book, and the published histories.
+/// its store, and the published histories.
 #[derive(Drop)]
 pub struct Shown {
     /// All that was taken from one publication owns the same one.
@@ -25,19 +26,19 @@ pub struct Shown {
 impl Model for Shown {
     ghost use Rattle.std.specs.Arc.{arc_value};
     ghost use Rattle.std.specs.Prelude.{◌≡◌, List, length};
-    ghost use Rattle.logbook.specs.Pages.{Book};
-    ghost use Rattle.std.specs.Coded.{codes};
+    ghost use Rattle.std.specs.Coded.{codes, coded×};
     ghost use Rattle.model.specs.JsonCode.{coded_members};
     ghost use Rattle.model.specs.Command.{Entry};
-    ghost use Rattle.publications.specs.Histories.{Grows, IsNewest};
+    ghost use Rattle.publications.specs.Histories.{newest, Grows};
+    ghost use Rattle.publications.specs.Stores.{Store, named, coded_store};
 
-    ghost Value = { Book × List (List Entry) };
+    ghost Value = { Store × List (List Entry) };
 
-    ghost coded = { Prim.hlevel (codes, coded_members) };
+    ghost coded = { coded× (coded_store (Prim.hlevel (codes, coded_members))) (Prim.hlevel (codes, coded_members)) };
 
-    ghost view = { λ s. (s.seen.book, s.seen.log) };
+    ghost view = { λ s. (named s.seen.book (arc_value s.version).base, s.seen.log) };
 
-    ghost invariant = { λ s. IsNewest (arc_value s.version) s.seen.log × (s.count ≡ length s.seen.log) × Grows s.seen.log };
+    ghost invariant = { λ s. ((arc_value s.version).entries ≡ newest s.seen.log) × (s.count ≡ length s.seen.log) × Grows (arc_value s.version).base s.seen.log };
 }
 
 impl Shown {
@@ -113,13 +114,13 @@ impl<J: Naming> Model for Published<J> {
 
     ghost view = { λ p. p.front };
 
-    ghost invariant = { λ p. IsNewest (arc_value p.version) p.front };
+    ghost invariant = { λ p. IsNewest J.base (arc_value p.version) p.front };
 }
 
 impl<J: Naming> Published<J> {
     /// The version that the publications up to `front` end with.
     pub fn new(version: Arc<Version, Global>, front: Front<J>) -> Published<J>
-        requires newest { IsNewest (arc_value version) front }
+        requires newest { IsNewest J.base (arc_value version) front }
         ensures front { result ≡ front }
     {
         Published { version, front }
@@ -127,7 +128,7 @@ impl<J: Naming> Published<J> {
 
     /// What is shown, under the store's name.
     pub fn named(shown: Shown) -> Published<J>
-        requires name { shown.0 ≡ J.book }
+        requires name { shown.0 ≡ named J.book J.base }
         ensures same { result ≡ shown.1 }
     {
         let Shown {
@@ -143,7 +144,7 @@ impl<J: Naming> Published<J> {
 
     /// The same version, without the store's name. It takes no memory.
     pub fn shown(&self) -> Result<Shown, AllocError>
-        ensures name { IfOk result (λ s. s.0 ≡ J.book) }
+        ensures name { IfOk result (λ s. s.0 ≡ named J.book J.base) }
         ensures same { IfOk result (λ s. s.1 ≡ self.now) }
     {
         let version = Arc::try_clone(&self.version)?;
@@ -158,14 +159,14 @@ impl<J: Naming> Published<J> {
 
     /// The version, whose history is the newest of the published ones.
     pub fn version(&self) -> &Version
-        ensures newest { result.now ≡ record { base = opening_base; entries = newest self.now } }
+        ensures newest { result.now ≡ record { base = J.base; entries = newest self.now } }
     {
         &self.version
     }
 
     /// The version once more, owned. It takes no memory.
     pub fn owned_version(&self) -> Result<Arc<Version, Global>, AllocError>
-        ensures newest { IfOk result (λ version. IsNewest (arc_value version) self.now) }
+        ensures newest { IfOk result (λ version. IsNewest J.base (arc_value version) self.now) }
     {
         Arc::try_clone(&self.version)
     }
@@ -181,7 +182,7 @@ impl<J: Naming> Published<J> {
     pub fn publication(&self) -> u64
         ensures count { result ≡ length self.now }
         ensures few { length self.now ≤ length (newest self.now) }
-        ensures grows { Grows self.now }
+        ensures grows { Grows J.base self.now }
     {
         self.front.count()
     }

@@ -1,18 +1,19 @@
 -- A session's calls in a history that has one call more.
 use Rattle.std.proofs.Common.{◌≡◌, ℕ, zero, suc, ◌+◌, ◌-◌, ◌<◌, ◌≤◌, ◌⊎◌, inl, inr, true, false, List, [], ◌∷◌, ◌++◌, length, slice_get, Some, option_map, refl, ap, sym, ◌∙◌, subst, arith, length-append}
 use mathlib.Core.List.{IsPrefix}
+use Rattle.std.specs.Prelude.{unwrap_or, Option}
 use Rattle.std.proofs.lemmas.Option.{none-some, same_Some}
 use Rattle.std.proofs.lemmas.Bool.{cond-true, cond-false, cases_lt}
 use Rattle.std.proofs.lemmas.List.{append-nil}
 use Rattle.std.proofs.lemmas.List.Elements.{filter-append}
-use Rattle.model.specs.Map.{same_key, same_key_itself}
+use Rattle.model.specs.Map.{Map, empty, get, same_key, same_key_itself}
 use Rattle.model.specs.Command.{Command, Reply, Seat, Entry, numbers}
-use Rattle.model.specs.Database.{Database, empty_database, act, calls_of}
-use Rattle.model.specs.History.{IsLegal, replay, of_session}
+use Rattle.model.specs.Database.{Database, act, calls_of}
+use Rattle.model.specs.History.{IsLegal, replay, of_session, base_of}
 use Rattle.model.proofs.ListLaws.{by_cases}
 use Rattle.model.proofs.CallLaws.{calls-replay, calls-own, calls-other}
 use Rattle.snapshots.specs.Version.{entry_at}
-use Rattle.publications.specs.Histories.{opening_base, newest, Grows}
+use Rattle.publications.specs.Histories.{newest, Grows}
 use Rattle.publications.proofs.Growing.{newest_grows, newest_legal}
 use Rattle.sessions.specs.Known.{Known, seen, SeesOwn}
 use Rattle.sessions.specs.Calls.{Told, Writes, IsTold, next_seat}
@@ -29,13 +30,13 @@ of_session-own s e es t = cond-true _ _ _ t
 of_session-other : (s : ℕ) (e : Entry) (es : List Entry) → same_key numbers s e.seat.session ≡ false → of_session s (e ∷ es) ≡ of_session s es
 of_session-other s e es f = cond-false _ _ _ f
 
--- the number of calls that the database tells, over what a store is opened over
-pub counted : (s : ℕ) (h : List Entry) → calls_of (replay opening_base h) s ≡ length (of_session s h)
-unfolding opening_base
-counted s h = calls-replay empty_database h s ∙ none (length (of_session s h))
-  where
-    none : (n : ℕ) → 0 + n ≡ n
-    none n = omega arith
+-- a session has no call in a base
+none_called : (base : Database) (s : ℕ) → base.calls ≡ empty → calls_of base s ≡ 0
+none_called base s uncalled = ap (λ (m : Map numbers ℕ). unwrap_or (get m s) 0) uncalled
+
+-- the number of calls that the database tells, over a base
+pub counted : (base : Database) → base.calls ≡ empty → (s : ℕ) (h : List Entry) → calls_of (replay base h) s ≡ length (of_session s h)
+counted base uncalled s h = omega (arith, calls-replay base h s, none_called base s uncalled)
 
 -- an entry of the session is among its calls
 has_call : (s : ℕ) (xs : List Entry) (k : ℕ) (e : Entry) → slice_get xs k ≡ Some e → e.seat.session ≡ s → 0 < length (of_session s xs)
@@ -95,16 +96,16 @@ early_call base (x ∷ xs) rest (suc k) e legal less at =
     (λ f. omega (arith, later, calls-other base x.seat x.command s f, ap length (of_session-other s x xs f)))
 
 -- an entry with a greater number stands behind the beginning
-stands_behind : (s : ℕ) (old new : List Entry) (k : ℕ) (e : Entry) → IsLegal opening_base new → IsPrefix old new → slice_get new k ≡ Some e → e.seat.session ≡ s → length (of_session s old) < e.seat.call → length old ≤ k
-unfolding opening_base
-stands_behind s old new k e legal pre at is more = from (cases_lt k (length old))
+stands_behind : (base : Database) → base.calls ≡ empty → (s : ℕ) (old new : List Entry) (k : ℕ) (e : Entry) → IsLegal base new → IsPrefix old new → slice_get new k ≡ Some e → e.seat.session ≡ s → length (of_session s old) < e.seat.call → length old ≤ k
+stands_behind base uncalled s old new k e legal pre at is more = from (cases_lt k (length old))
   where
     early : k < length old → ⊥
     early less = omega (
       arith,
       more,
       ap (λ n. length (of_session n old)) is,
-      early_call empty_database old pre.0 k e (subst (IsLegal empty_database) (sym pre.1) legal) less (ap (λ l. slice_get l k) pre.1 ∙ at),
+      none_called base e.seat.session uncalled,
+      early_call base old pre.0 k e (subst (IsLegal base) (sym pre.1) legal) less (ap (λ l. slice_get l k) pre.1 ∙ at),
     )
 
     from : (k < length old) ⊎ (length old ≤ k) → length old ≤ k
@@ -132,26 +133,26 @@ first_publication [] (suc n) e at = absurd (none-some e at)
 first_publication (h ∷ hs) place e at = omega arith
 
 -- what a session compares tells what it owes
-pub writes : (old new : Known) (found : List (List Entry)) (command : Command) (receipt : Told) (e : Entry)
-    → SeesOwn old → IsPrefix old.published found → Grows found → entry_at (newest found) receipt.place ≡ Some e → e ≡ record { seat = receipt.seat; command = command; reply = receipt.reply }
+pub writes : (base : Option Database) → (base_of base).calls ≡ empty → (old new : Known) (found : List (List Entry)) (command : Command) (receipt : Told) (e : Entry)
+    → SeesOwn old → IsPrefix old.published found → Grows base found → entry_at (newest found) receipt.place ≡ Some e → e ≡ record { seat = receipt.seat; command = command; reply = receipt.reply }
     → receipt.seat ≡ next_seat old → length (of_session old.number (newest found)) ≡ length old.receipts + 1 → receipt.publication ≡ length found → length found ≤ receipt.place
     → new ≡ record old { published = found; receipts = of_session old.number (newest found) }
-    → Writes old command receipt new
-writes old new found command receipt e own later grows at is seat_is one publication bound same =
+    → Writes base old command receipt new
+writes base uncalled old new found command receipt e own later grows at is seat_is one publication bound same =
     let s = old.number in
     let here = at_place (newest found) receipt.place e at in
     let mine : e.seat.session ≡ s = ap (λ (x : Entry). x.seat.session) is ∙ ap (λ (t : Seat). t.session) seat_is in
     let called : e.seat.call ≡ length old.receipts + 1 = ap (λ (x : Entry). x.seat.call) is ∙ ap (λ (t : Seat). t.call) seat_is in
-    let legal = newest_legal [] found tt grows in
-    let longer = newest_grows old.published found grows later in
-    let above = stands_behind s (seen old) (newest found) (receipt.place - 1) e legal longer here.1 mine (omega (arith, called, ap length own)) in
+    let legal = newest_legal base [] found tt grows in
+    let longer = newest_grows base old.published found grows later in
+    let above = stands_behind (base_of base) uncalled s (seen old) (newest found) (receipt.place - 1) e legal longer here.1 mine (omega (arith, called, ap length own)) in
     let call = new_call s (seen old) (newest found) (receipt.place - 1) e longer above here.1 mine (one ∙ ap (λ (l : List Entry). length l + 1) (sym own)) in
     let first = first_publication found receipt.place e at in
     let number : new.number ≡ s = ap (λ (k : Known). k.number) same in
     let published : new.published ≡ found = ap (λ (k : Known). k.published) same in
     let receipts' : new.receipts ≡ of_session s (newest found) = ap (λ (k : Known). k.receipts) same in
     record {
-      legal = subst (λ (p : List (List Entry)). IsLegal opening_base (newest p)) (sym published) legal;
+      legal = subst (λ (p : List (List Entry)). IsLegal (base_of base) (newest p)) (sym published) legal;
       extends = subst (λ (p : List (List Entry)). IsPrefix (newest old.published) (newest p)) (sym published) longer;
       seat = seat_is;
       told = subst (λ (p : List (List Entry)). (0 < receipt.place) × (slice_get (newest p) (receipt.place - 1) ≡ Some (record { seat = receipt.seat; command = command; reply = receipt.reply }))) (sym published) (here.0, here.1 ∙ ap Some is);

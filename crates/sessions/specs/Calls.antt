@@ -1,18 +1,18 @@
 -- What the calls of a session do.
-use Rattle.std.specs.Prelude.{◌≡◌, ℕ, ◌+◌, ◌<◌, ◌≤◌, List, [], ◌∷◌, ◌++◌, length, Some}
+use Rattle.std.specs.Prelude.{◌≡◌, ℕ, ◌+◌, ◌<◌, ◌≤◌, List, [], ◌∷◌, ◌++◌, length, Some, Option}
 use mathlib.Core.List.{IsPrefix}
 use Rattle.model.specs.Command.{Command, Entry, Reply, Seat}
-use Rattle.model.specs.History.{IsLegal, of_session}
+use Rattle.model.specs.Database.{Database}
+use Rattle.model.specs.History.{IsLegal, of_session, base_of}
 use Rattle.model.specs.World.{WroteAt}
 use Rattle.model.specs.Told.{Tells}
 use Rattle.snapshots.specs.Version.{entry_at}
-use Rattle.publications.specs.Histories.{opening_base}
 use Rattle.sessions.specs.Known.{Known, seen, SeesOwn}
 
--- After looks, one or those of a wait: a legal history is seen, which extends what was seen and has of the session
--- exactly its entries with a receipt, and nothing else changed.
-pub record Looks (old new : Known) : Type 0 where
-  pub legal : IsLegal opening_base (seen new)
+-- After looks, one or those of a wait: a legal history over the base is seen, which extends what was seen and has of the
+-- session exactly its entries with a receipt, and nothing else changed.
+pub record Looks (base : Option Database) (old new : Known) : Type 0 where
+  pub legal : IsLegal (base_of base) (seen new)
   pub extends : IsPrefix (seen old) (seen new)
   pub own : SeesOwn new
   pub same : new ≡ record old { published = new.published; waited = new.waited }
@@ -28,13 +28,14 @@ pub record Told : Type 0 where
   pub reply : Reply
   pub publication : ℕ
 
--- After a receipt: a legal history is seen, which extends what was seen, tells the call, and has of this session exactly
--- its earlier entries with a receipt and this one. The publication is the last that is seen, one of those up to the place.
-pub record Writes (old : Known) (command : Command) (receipt : Told) (new : Known) : Type 0 where
-  pub legal : IsLegal opening_base (seen new)
+-- After a receipt: a legal history over the base is seen, which extends what was seen, tells the call, and has of this
+-- session exactly its earlier entries with a receipt and this one. The publication is the last that is seen, one of those
+-- up to the place.
+pub record Writes (base : Option Database) (old : Known) (command : Command) (receipt : Told) (new : Known) : Type 0 where
+  pub legal : IsLegal (base_of base) (seen new)
   pub extends : IsPrefix (seen old) (seen new)
   pub seat : receipt.seat ≡ next_seat old
-  pub told : Tells opening_base (seen new) (WroteAt receipt.seat command receipt.place receipt.reply)
+  pub told : Tells (base_of base) (seen new) (WroteAt receipt.seat command receipt.place receipt.reply)
   pub receipts : new.receipts ≡ old.receipts ++ record { seat = receipt.seat; command = command; reply = receipt.reply } ∷ []
   pub only : SeesOwn new
   pub first : 0 < receipt.publication

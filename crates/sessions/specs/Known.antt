@@ -1,6 +1,7 @@
 -- What is known of a session.
 use Rattle.std.specs.Prelude.{◌≡◌, ℕ, ◌<◌, Bool, false, List, [], length, Option, IfSome}
 use Rattle.model.specs.Command.{Entry}
+use Rattle.model.specs.Database.{Database}
 use Rattle.model.specs.History.{Chronicle, of_session}
 use Rattle.turns.specs.Turns.{Turn}
 use Rattle.publications.specs.Histories.{newest, Grows, IsNewest}
@@ -28,12 +29,12 @@ abbrev pub SeesOwn : Known → Type 0
 SeesOwn k = of_session k.number (seen k) ≡ k.receipts
 
 -- it has as many calls as it has entries in the history that it has seen, and each of those has a receipt
-pub record Holds (number calls : ℕ) (lost : Bool) (latest : List (List Entry)) (looked : Option Chronicle) (ticket : Turn) : Type 0 where
+pub record Holds (base : Option Database) (number calls : ℕ) (lost : Bool) (latest : List (List Entry)) (looked : Option Chronicle) (ticket : Turn) : Type 0 where
   pub counted : calls ≡ length (of_session number (newest latest))
-  pub grows : Grows latest
+  pub grows : Grows base latest
   pub session : number < 64
   pub ticket_is : ticket.number ≡ number
   -- no job of a session waits that is not lost
   pub gone : lost ≡ false → ticket.gone ≡ ticket.pushed
   -- what a look took is what was seen
-  pub looked_is : IfSome looked (λ version. IsNewest version latest)
+  pub looked_is : IfSome looked (λ version. IsNewest base version latest)

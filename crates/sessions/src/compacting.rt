@@ -24,14 +24,14 @@ impl<R: Wait + Drop, J: Opening, G: Gate + Drop> Session<Core<R, J>, J, G> {
     ///
     /// After a fault but `Lost` it left no entry: the next receipt has exactly the calls with a receipt.
     pub fn compact<W: Wait>(&mut self, rt: &W) -> Result<Receipt, Fault>
-        ensures receipt { IfOk result (λ receipt. Writes self.old Compact receipt self.new) }
-        ensures memory { result ≡ Err fault.Memory → Looks self.old self.new }
-        ensures behind { result ≡ Err fault.Behind → Looks self.old self.new }
-        ensures overrun { result ≡ Err fault.Overrun → Looks self.old self.new }
-        ensures entry_refused { result ≡ Err fault.EntryRefused → Looks self.old self.new }
-        ensures full { result ≡ Err fault.Full → Looks self.old self.new }
+        ensures receipt { IfOk result (λ receipt. Writes J.base self.old Compact receipt self.new) }
+        ensures memory { result ≡ Err fault.Memory → Looks J.base self.old self.new }
+        ensures behind { result ≡ Err fault.Behind → Looks J.base self.old self.new }
+        ensures overrun { result ≡ Err fault.Overrun → Looks J.base self.old self.new }
+        ensures entry_refused { result ≡ Err fault.EntryRefused → Looks J.base self.old self.new }
+        ensures full { result ≡ Err fault.Full → Looks J.base self.old self.new }
         ensures when_full { result ≡ Err fault.Full → length (seen self.new) ≡ J.max_places }
-        ensures lost { result ≡ Err fault.Lost → Looks (record self.old { lost = true }) self.new }
+        ensures lost { result ≡ Err fault.Lost → Looks J.base (record self.old { lost = true }) self.new }
         ensures for_ever { self.old.lost ≡ true → result ≡ Err fault.Lost }
         ensures for_ever_same { self.old.lost ≡ true → self.new ≡ self.old }
         ensures not_busy { result ≢ Err fault.Busy }
@@ -45,8 +45,8 @@ impl<R: Wait + Drop, J: Opening, G: Gate + Drop> Session<Core<R, J>, J, G> {
     /// Compacts what was seen.
     fn compact_seen<W: Wait>(&mut self, rt: &W) -> Result<Receipt, Fault>
         requires known { self.old.lost ≡ false }
-        ensures receipt { IfOk result (λ receipt. Writes self.old Compact receipt self.new) }
-        ensures fault { IfErr result (λ e. Leaves J.max_places e self.old self.new) }
+        ensures receipt { IfOk result (λ receipt. Writes J.base self.old Compact receipt self.new) }
+        ensures fault { IfErr result (λ e. Leaves J.base J.max_places e self.old self.new) }
         ensures pushes { self.new.pushes ≡ self.old.pushes }
     {
         let _place = self.place();
@@ -57,9 +57,9 @@ impl<R: Wait + Drop, J: Opening, G: Gate + Drop> Session<Core<R, J>, J, G> {
     /// Makes the copy and has it swapped in, as often as that may be tried.
     fn compact_with<W: Wait>(&mut self, rt: &W, copy: &mut Compaction) -> Result<Receipt, Fault>
         requires known { self.old.lost ≡ false }
-        requires follows { Extends (chronicle_of self.old) copy.old.seen }
-        ensures receipt { IfOk result (λ receipt. Writes self.old Compact receipt self.new) }
-        ensures fault { IfErr result (λ e. Leaves J.max_places e self.old self.new) }
+        requires follows { Extends (chronicle_of J.base self.old) copy.old.seen }
+        ensures receipt { IfOk result (λ receipt. Writes J.base self.old Compact receipt self.new) }
+        ensures fault { IfErr result (λ e. Leaves J.base J.max_places e self.old self.new) }
         ensures pushes { self.new.pushes ≡ self.old.pushes }
     {
         let _place = self.place();
@@ -77,12 +77,12 @@ impl<R: Wait + Drop, J: Opening, G: Gate + Drop> Session<Core<R, J>, J, G> {
     fn attempt<W: Wait>(&mut self, rt: &W, copy: &mut Compaction) -> Result<Option<Receipt>, Fault>
         requires known { self.old.lost ≡ false }
         requires sliced { copy.old.left ≡ 0 }
-        requires follows { Extends (chronicle_of self.old) copy.old.seen }
-        ensures receipt { IfOk result (λ found. IfSome found (λ receipt. Writes self.old Compact receipt self.new)) }
-        ensures behind { IfOk result (λ found. IfNone found (Looks self.old self.new)) }
+        requires follows { Extends (chronicle_of J.base self.old) copy.old.seen }
+        ensures receipt { IfOk result (λ found. IfSome found (λ receipt. Writes J.base self.old Compact receipt self.new)) }
+        ensures behind { IfOk result (λ found. IfNone found (Looks J.base self.old self.new)) }
         ensures sliced { IfOk result (λ found. IfNone found (copy.new.left ≡ 0)) }
-        ensures follows { IfOk result (λ found. IfNone found (Extends (chronicle_of self.new) copy.new.seen)) }
-        ensures fault { IfErr result (λ e. Leaves J.max_places e self.old self.new) }
+        ensures follows { IfOk result (λ found. IfNone found (Extends (chronicle_of J.base self.new) copy.new.seen)) }
+        ensures fault { IfErr result (λ e. Leaves J.base J.max_places e self.old self.new) }
         ensures pushes { self.new.pushes ≡ self.old.pushes }
     {
         let _place = self.place();
@@ -97,12 +97,12 @@ impl<R: Wait + Drop, J: Opening, G: Gate + Drop> Session<Core<R, J>, J, G> {
         copy: &mut Compaction,
     ) -> Result<Option<Receipt>, Fault>
         requires sliced { copy.old.left ≡ 0 }
-        requires follows { Extends (chronicle_of self.old) copy.old.seen }
-        ensures receipt { IfOk result (λ found. IfSome found (λ receipt. Writes self.old Compact receipt self.new)) }
+        requires follows { Extends (chronicle_of J.base self.old) copy.old.seen }
+        ensures receipt { IfOk result (λ found. IfSome found (λ receipt. Writes J.base self.old Compact receipt self.new)) }
         ensures behind { IfOk result (λ found. IfNone found (self.new ≡ self.old)) }
         ensures sliced { IfOk result (λ found. IfNone found (copy.new.left ≡ 0)) }
-        ensures follows { IfOk result (λ found. IfNone found (copy.new.seen ≡ chronicle_of self.new)) }
-        ensures fault { IfErr result (λ e. Leaves J.max_places e self.old self.new) }
+        ensures follows { IfOk result (λ found. IfNone found (copy.new.seen ≡ chronicle_of J.base self.new)) }
+        ensures fault { IfErr result (λ e. Leaves J.base J.max_places e self.old self.new) }
         ensures pushes { self.new.pushes ≡ self.old.pushes }
     {
         let _place = self.place();
@@ -119,9 +119,9 @@ impl<C: Drop, J: Opening, G: Drop> Session<C, J, G> {
     /// What became of a try.
     fn settle_swap(&mut self, swapped: Swapped<J>, seat: Seat) -> Result<Option<Receipt>, Fault>
         requires seat { seat ≡ next_seat self.old }
-        ensures receipt { IfOk result (λ found. IfSome found (λ receipt. Writes self.old Compact receipt self.new)) }
+        ensures receipt { IfOk result (λ found. IfSome found (λ receipt. Writes J.base self.old Compact receipt self.new)) }
         ensures behind { IfOk result (λ found. IfNone found (self.new ≡ self.old)) }
-        ensures fault { IfErr result (λ e. Leaves J.max_places e self.old self.new) }
+        ensures fault { IfErr result (λ e. Leaves J.base J.max_places e self.old self.new) }
         ensures pushes { self.new.pushes ≡ self.old.pushes }
     {
         let _place = self.place();
@@ -138,9 +138,9 @@ impl<C: Drop, J: Opening, G: Drop> Session<C, J, G> {
     /// The compaction has an entry.
     fn receive_swap(&mut self, answer: Answer<J>, seat: Seat) -> Result<Option<Receipt>, Fault>
         requires seat { seat ≡ next_seat self.old }
-        ensures receipt { IfOk result (λ found. IfSome found (λ receipt. Writes self.old Compact receipt self.new)) }
+        ensures receipt { IfOk result (λ found. IfSome found (λ receipt. Writes J.base self.old Compact receipt self.new)) }
         ensures some { IfOk result IsSome }
-        ensures fault { IfErr result (λ e. Leaves J.max_places e self.old self.new) }
+        ensures fault { IfErr result (λ e. Leaves J.base J.max_places e self.old self.new) }
         ensures pushes { self.new.pushes ≡ self.old.pushes }
     {
         let _place = self.place();

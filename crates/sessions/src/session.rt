@@ -2,8 +2,8 @@
 ghost use Rattle.std.specs.Arc.{arc_value};
 ghost use Rattle.std.specs.Prelude.{◌≡◌, ◌↔◌, ◌⊎◌, ◌+◌, ◌<◌, ◌≤◌, [], length, true, Err, IfOk, IfErr, IfSome, IsTrue, OnErr};
 ghost use mathlib.Core.List.{IsPrefix};
-ghost use Rattle.model.specs.History.{IsLegal, of_session};
-ghost use Rattle.publications.specs.Histories.{newest, opening_base, Grows, IsNewest};
+ghost use Rattle.model.specs.History.{IsLegal, of_session, base_of};
+ghost use Rattle.publications.specs.Histories.{newest, Grows, IsNewest};
 ghost use Rattle.sessions.specs.Known.{Known, seen, fresh, SeesOwn};
 ghost use Rattle.sessions.specs.Calls.{Looks};
 ghost use Rattle.sessions.specs.declared.fault.Fault.TheVariants as fault;
@@ -74,7 +74,7 @@ impl<C: Drop, J: Opening, G: Drop> Model for Session<C, J, G> {
 
     ghost view = { λ s. record { number = s.number; published = s.latest; receipts = of_session s.number (newest s.latest); pushes = s.ticket.pushed; waited = s.waited; lost = s.lost } };
 
-    ghost invariant = { λ s. Holds s.number s.calls s.lost s.latest (option_map arc_value s.looked) s.ticket };
+    ghost invariant = { λ s. Holds J.base s.number s.calls s.lost s.latest (option_map arc_value s.looked) s.ticket };
 }
 
 impl<C: Drop, J: Opening, G: Drop> Session<C, J, G> {
@@ -109,7 +109,7 @@ impl<C: Drop, J: Opening, G: Drop> Session<C, J, G> {
     /// The number of entries that the session has seen.
     pub fn place(&self) -> u64
         ensures place { result ≡ length (seen self.now) }
-        ensures legal { IsLegal opening_base (seen self.now) }
+        ensures legal { IsLegal (base_of J.base) (seen self.now) }
         ensures own { SeesOwn self.now }
     {
         self.latest.version().place()
@@ -117,7 +117,7 @@ impl<C: Drop, J: Opening, G: Drop> Session<C, J, G> {
 
     /// The version that the session has seen.
     pub fn version(&self) -> &Version
-        ensures { result.now ≡ record { base = opening_base; entries = seen self.now } }
+        ensures { result.now ≡ record { base = J.base; entries = seen self.now } }
     {
         self.latest.version()
     }
@@ -125,7 +125,7 @@ impl<C: Drop, J: Opening, G: Drop> Session<C, J, G> {
     /// What the session has seen last, and what is left of it.
     pub fn into_end(self) -> (Published<J>, Ended<J>)
         ensures latest { result.0 ≡ self.published }
-        ensures grows { Grows result.0 }
+        ensures grows { Grows J.base result.0 }
         ensures end { result.1 ≡ self }
     {
         let Session {
@@ -157,7 +157,7 @@ impl<C: Drop, J: Opening, G: Drop> Session<C, J, G> {
     /// Sees what is published now, and nothing else: where that was seen already, it writes to its own
     /// place among the readers alone, which a publication reads. It waits for nobody and takes no memory.
     pub fn refresh(&mut self) -> Result<(), Fault>
-        ensures looks { IfOk result (λ _. Looks self.old self.new) }
+        ensures looks { IfOk result (λ _. Looks J.base self.old self.new) }
         ensures kept { OnErr result (self.new ≡ self.old) }
         ensures lost { (result ≡ Err fault.Lost) ↔ (self.old.lost ≡ true) }
         ensures refused { IfErr result (λ e. (e ≡ fault.Lost) ⊎ (e ≡ fault.EntryRefused)) }
@@ -168,7 +168,7 @@ impl<C: Drop, J: Opening, G: Drop> Session<C, J, G> {
 
     /// Sees what is published now.
     pub(crate) fn see_latest(&mut self) -> Result<(), Fault>
-        ensures looks { IfOk result (λ _. Looks self.old self.new) }
+        ensures looks { IfOk result (λ _. Looks J.base self.old self.new) }
         ensures kept { OnErr result (self.new ≡ self.old) }
         ensures lost { (result ≡ Err fault.Lost) ↔ (self.old.lost ≡ true) }
         ensures refused { IfErr result (λ e. (e ≡ fault.Lost) ⊎ (e ≡ fault.EntryRefused)) }
@@ -191,7 +191,7 @@ impl<C: Drop, J: Opening, G: Drop> Session<C, J, G> {
     /// and needs no memory; where there is some, the next looks that see the same version take less time.
     pub fn look(&mut self) -> Result<Snapshot<J>, Fault>
         ensures snapshot { IfOk result (λ snapshot. snapshot ≡ seen self.new) }
-        ensures looks { IfOk result (λ _. Looks self.old self.new) }
+        ensures looks { IfOk result (λ _. Looks J.base self.old self.new) }
         ensures kept { OnErr result (self.new ≡ self.old) }
         ensures lost { (result ≡ Err fault.Lost) ↔ (self.old.lost ≡ true) }
         ensures refused { IfErr result (λ e. (e ≡ fault.Lost) ⊎ (e ≡ fault.EntryRefused)) }
@@ -215,7 +215,7 @@ impl<C: Drop, J: Opening, G: Drop> Session<C, J, G> {
     /// A look that sees what was seen already.
     fn look_again(&mut self) -> Result<Snapshot<J>, Fault>
         ensures snapshot { IfOk result (λ snapshot. snapshot ≡ seen self.new) }
-        ensures looks { IfOk result (λ _. Looks self.old self.new) }
+        ensures looks { IfOk result (λ _. Looks J.base self.old self.new) }
         ensures same { self.new ≡ self.old }
         ensures refused { IfErr result (λ e. e ≡ fault.EntryRefused) }
     {
@@ -231,7 +231,7 @@ impl<C: Drop, J: Opening, G: Drop> Session<C, J, G> {
 
     /// One more owner of what a look took.
     fn looked_again(&self) -> Option<Arc<Version, Global>>
-        ensures { IfSome result (λ again. IsNewest (arc_value again) self.now.published) }
+        ensures { IfSome result (λ again. IsNewest J.base (arc_value again) self.now.published) }
     {
         Arc::try_clone(self.looked.as_ref()?).ok()
     }
@@ -239,7 +239,7 @@ impl<C: Drop, J: Opening, G: Drop> Session<C, J, G> {
     /// A snapshot of the version that was seen. Where memory is not refused it owns a share in a block of its own, and
     /// the next looks are owners of the same one.
     fn snapshot_of(&mut self, version: Arc<Version, Global>) -> Snapshot<J>
-        requires seen { IsNewest (arc_value version) self.old.published }
+        requires seen { IsNewest J.base (arc_value version) self.old.published }
         ensures snapshot { result ≡ seen self.new }
         ensures same { self.new ≡ self.old }
     {
@@ -258,8 +258,8 @@ impl<C: Drop, J: Opening, G: Drop> Session<C, J, G> {
     pub fn meet(&mut self, other: &mut Session<C, J, G>) -> Result<u64, Fault>
         ensures place { IfOk result (λ place. place ≡ length (seen self.new)) }
         ensures one { IfOk result (λ _. self.new.published ≡ other.new.published) }
-        ensures looks { IfOk result (λ _. Looks self.old self.new) }
-        ensures other_looks { IfOk result (λ _. Looks other.old other.new) }
+        ensures looks { IfOk result (λ _. Looks J.base self.old self.new) }
+        ensures other_looks { IfOk result (λ _. Looks J.base other.old other.new) }
         ensures kept { OnErr result (self.new ≡ self.old) }
         ensures other_kept { OnErr result (other.new ≡ other.old) }
         ensures lost { (result ≡ Err fault.Lost) ↔ ((self.old.lost ≡ true) ⊎ (other.old.lost ≡ true)) }
@@ -281,7 +281,7 @@ impl<C: Drop, J: Opening, G: Drop> Session<C, J, G> {
     fn later(&mut self) -> Result<Option<Published<J>>, AllocError>
         ensures same { self.new ≡ self.old }
         ensures later { IfOk result (λ found. IfSome found (λ p. IsPrefix self.old.published p)) }
-        ensures grows { IfOk result (λ found. IfSome found (λ p. Grows p)) }
+        ensures grows { IfOk result (λ found. IfSome found (λ p. Grows J.base p)) }
     {
         self.reader.look_past(&self.latest)
     }
@@ -290,7 +290,7 @@ impl<C: Drop, J: Opening, G: Drop> Session<C, J, G> {
     fn later_of_own(&mut self) -> Result<Option<Published<J>>, Fault>
         ensures same { self.new ≡ self.old }
         ensures later { IfOk result (λ found. IfSome found (λ p. IsPrefix self.old.published p)) }
-        ensures grows { IfOk result (λ found. IfSome found (λ p. Grows p)) }
+        ensures grows { IfOk result (λ found. IfSome found (λ p. Grows J.base p)) }
         ensures own { IfOk result (λ found. IfSome found (λ p. SeesOwn (record self.old { published = p }))) }
         ensures refused { IfErr result (λ e. e ≡ fault.EntryRefused) }
     {
@@ -310,7 +310,7 @@ impl<C: Drop, J: Opening, G: Drop> Session<C, J, G> {
     /// with a receipt.
     pub(crate) fn has_own(&self, found: &Published<J>) -> bool
         requires later { IsPrefix self.now.published found.now }
-        requires grows { Grows found.now }
+        requires grows { Grows J.base found.now }
         ensures { IsTrue result → SeesOwn (record self.now { published = found.now }) }
     {
         calls_of(found.version(), self.number) == self.calls
@@ -320,7 +320,7 @@ impl<C: Drop, J: Opening, G: Drop> Session<C, J, G> {
     fn observe(&mut self) -> Option<Published<J>>
         ensures same { self.new ≡ self.old }
         ensures later { IfSome result (λ found. IsPrefix self.old.published found) }
-        ensures grows { IfSome result (λ found. Grows found) }
+        ensures grows { IfSome result (λ found. Grows J.base found) }
     {
         if let Some(found) = self.later().ok()? {
             return Some(found);
@@ -331,11 +331,11 @@ impl<C: Drop, J: Opening, G: Drop> Session<C, J, G> {
 
     /// What is published now, or what another session saw, whichever is later.
     fn observe_with(&mut self, theirs: Published<J>) -> Option<Published<J>>
-        requires grows { Grows theirs }
+        requires grows { Grows J.base theirs }
         ensures same { self.new ≡ self.old }
         ensures later { IfSome result (λ found. IsPrefix self.old.published found) }
         ensures theirs { IfSome result (λ found. IsPrefix theirs found) }
-        ensures grows { IfSome result (λ found. Grows found) }
+        ensures grows { IfSome result (λ found. Grows J.base found) }
     {
         let mine = self.observe()?;
         Some(later_of(mine, theirs))
@@ -351,7 +351,7 @@ impl<C: Drop, J: Opening, G: Drop> Session<C, J, G> {
         ensures own { IfSome result (λ found. SeesOwn (record self.old { published = found.0 })) }
         ensures other_own { IfSome result (λ found. SeesOwn (record other.old { published = found.0 })) }
         ensures one { IfSome result (λ found. found.1 ≡ found.0) }
-        ensures grows { IfSome result (λ found. Grows found.0) }
+        ensures grows { IfSome result (λ found. Grows J.base found.0) }
     {
         let mine = self.observe()?;
         let last = other.observe_with(mine)?;
@@ -365,10 +365,10 @@ impl<C: Drop, J: Opening, G: Drop> Session<C, J, G> {
     /// This has been seen.
     pub(crate) fn see(&mut self, found: Published<J>)
         requires later { IsPrefix self.old.published found }
-        requires grows { Grows found }
+        requires grows { Grows J.base found }
         requires own { SeesOwn (record self.old { published = found }) }
         ensures seen { self.new.published ≡ found }
-        ensures looks { Looks self.old self.new }
+        ensures looks { Looks J.base self.old self.new }
     {
         self.looked = None;
         self.latest = found;
@@ -377,9 +377,9 @@ impl<C: Drop, J: Opening, G: Drop> Session<C, J, G> {
 
 /// The later of two published versions.
 pub fn later_of<J: Opening>(mine: Published<J>, theirs: Published<J>) -> Published<J>
-    requires grows { Grows mine × Grows theirs }
+    requires grows { Grows J.base mine × Grows J.base theirs }
     ensures extends { IsPrefix mine result × IsPrefix theirs result }
-    ensures grows { Grows result }
+    ensures grows { Grows J.base result }
 {
     if mine.precedes(&theirs) {
         return theirs;
@@ -389,8 +389,8 @@ pub fn later_of<J: Opening>(mine: Published<J>, theirs: Published<J>) -> Publish
 
 /// How many calls of a session the version has.
 pub(crate) fn calls_of(version: &Version, session: u16) -> u64
-    requires base { version.now.base ≡ opening_base }
     ensures { result ≡ length (of_session session version.now.entries) }
 {
+    let _place = version.place();
     version.database().calls_of(session)
 }

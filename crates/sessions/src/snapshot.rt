@@ -1,10 +1,10 @@
 //! What a look answers.
 ghost use Rattle.std.specs.Arc.{arc_value};
 ghost use Rattle.std.specs.Prelude.{◌≡◌, ℕ, length, IfOk, IfSome};
-ghost use Rattle.model.specs.History.{IsLegal};
+ghost use Rattle.model.specs.History.{IsLegal, base_of};
 ghost use Rattle.model.specs.World.{Asked};
 ghost use Rattle.model.specs.Told.{Tells};
-ghost use Rattle.publications.specs.Histories.{newest, opening_base, IsNewest};
+ghost use Rattle.publications.specs.Histories.{newest, IsNewest};
 
 use publications::{Front, Naming};
 use queries::{Answer, Query};
@@ -45,12 +45,12 @@ impl<J: Naming> Model for Snapshot<J> {
 
     ghost view = { λ s. newest s.front };
 
-    ghost invariant = { λ s. IsNewest (arc_value s.version) s.front };
+    ghost invariant = { λ s. IsNewest J.base (arc_value s.version) s.front };
 }
 
 impl<J: Naming> Snapshot<J> {
     pub(crate) fn new(version: Arc<Version, Global>, front: Front<J>) -> Snapshot<J>
-        requires newest { IsNewest (arc_value version) front }
+        requires newest { IsNewest J.base (arc_value version) front }
         ensures { result ≡ newest front }
     {
         Snapshot { version, front }
@@ -59,14 +59,14 @@ impl<J: Naming> Snapshot<J> {
     /// How many entries its history has.
     pub fn place(&self) -> u64
         ensures place { result ≡ length self.now }
-        ensures legal { IsLegal opening_base self.now }
+        ensures legal { IsLegal (base_of J.base) self.now }
     {
         self.version.place()
     }
 
     /// The version, for the calls of `changes_feed`.
     pub fn version(&self) -> &Version
-        ensures { result.now ≡ record { base = opening_base; entries = self.now } }
+        ensures { result.now ≡ record { base = J.base; entries = self.now } }
     {
         &self.version
     }
@@ -74,7 +74,7 @@ impl<J: Naming> Snapshot<J> {
     /// What its history tells of a query, at its place.
     pub fn answer(&self, alloc: Global, query: &Query) -> Result<Answer, AllocError>
         ensures told { IfOk result (λ answer. (session : ℕ)
-            → Tells opening_base self.now (Asked session query.now (length self.now) answer)) }
+            → Tells (base_of J.base) self.now (Asked session query.now (length self.now) answer)) }
     {
         changes_feed::answer(alloc, &self.version, query)
     }

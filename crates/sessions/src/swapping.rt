@@ -1,6 +1,6 @@
 //! How a try of a compaction ends under the lock.
 ghost use Rattle.std.specs.Prelude.{◌≡◌, ◌≤◌, length};
-ghost use Rattle.publications.specs.Histories.{newest, opening_base};
+ghost use Rattle.publications.specs.Histories.{newest};
 
 use crate::shared::Shared;
 use commands::Seat;
@@ -35,7 +35,7 @@ pub(crate) fn swap<R: Wait + Drop, J: Opening, G: Gate + Drop, W: Wait>(
     seat: Seat,
 ) -> Swapped<J>
     requires sliced { copy.old.left ≡ 0 }
-    requires seen { copy.old.seen ≡ record { base = opening_base; entries = newest seen.now } }
+    requires seen { copy.old.seen ≡ record { base = J.base; entries = newest seen.now } }
     ensures copy { copy.new ≡ record copy.old { visited = copy.new.visited } }
 {
     let slack = shared.config.limits().slack as u64;
@@ -54,7 +54,7 @@ fn swap_into<R: Wait + Drop, J: Opening>(
     slack: u64,
 ) -> Swapped<J>
     requires sliced { copy.old.left ≡ 0 }
-    requires seen { copy.old.seen ≡ record { base = opening_base; entries = newest seen.now } }
+    requires seen { copy.old.seen ≡ record { base = J.base; entries = newest seen.now } }
     ensures copy { copy.new ≡ record copy.old { visited = copy.new.visited } }
 {
     if !seen.precedes(core.current()) {

@@ -35,10 +35,10 @@ impl<C: Drop, J: Opening, G: Drop> Session<C, J, G> {
     /// long as one call of as many turns. The pauses begin anew with a call of more turns, and with
     /// [`refresh`](Session::refresh).
     pub fn wait_past<K: Clock>(&mut self, clock: &K, seq: u64, turns: u64) -> Result<bool, Fault>
-        ensures past { IfOk result (λ past. past ≡ nat_lt seq (now (chronicle_of self.new)).update_seq) }
+        ensures past { IfOk result (λ past. past ≡ nat_lt seq (now (chronicle_of J.base self.new)).update_seq) }
         ensures looked { result ≡ Ok false → turns ≤ self.new.waited }
-        ensures looks { IfOk result (λ _. Looks self.old self.new) }
-        ensures refused_looks { result ≡ Err fault.EntryRefused → Looks self.old self.new }
+        ensures looks { IfOk result (λ _. Looks J.base self.old self.new) }
+        ensures refused_looks { result ≡ Err fault.EntryRefused → Looks J.base self.old self.new }
         ensures lost { (result ≡ Err fault.Lost) ↔ (self.old.lost ≡ true) }
         ensures lost_same { self.old.lost ≡ true → self.new ≡ self.old }
         ensures refused { IfErr result (λ e. (e ≡ fault.Lost) ⊎ (e ≡ fault.EntryRefused)) }
@@ -69,9 +69,9 @@ impl<C: Drop, J: Opening, G: Drop> Session<C, J, G> {
     fn wait_more<K: Clock>(&mut self, clock: &K, seq: u64, turns: u64) -> Result<bool, Fault>
         requires known { self.old.lost ≡ false }
         requires first { self.old.waited ≡ 1 }
-        ensures past { IfOk result (λ past. past ≡ nat_lt seq (now (chronicle_of self.new)).update_seq) }
+        ensures past { IfOk result (λ past. past ≡ nat_lt seq (now (chronicle_of J.base self.new)).update_seq) }
         ensures looked { result ≡ Ok false → turns ≤ self.new.waited }
-        ensures looks { Looks self.old self.new }
+        ensures looks { Looks J.base self.old self.new }
         ensures refused { IfErr result (λ e. e ≡ fault.EntryRefused) }
     {
         let _place = self.place();
@@ -87,7 +87,7 @@ impl<C: Drop, J: Opening, G: Drop> Session<C, J, G> {
     /// Sees what is published now, which is the wait's look of this number, after a pause unless it is the first of all
     /// that follow one another.
     fn look_once_more<K: Clock>(&mut self, clock: &K, number: u64) -> Result<(), Fault>
-        ensures looks { IfOk result (λ _. Looks self.old self.new) }
+        ensures looks { IfOk result (λ _. Looks J.base self.old self.new) }
         ensures counted { IfOk result (λ _. self.new.waited ≡ number) }
         ensures kept { OnErr result (self.new ≡ self.old) }
         ensures lost { (result ≡ Err fault.Lost) ↔ (self.old.lost ≡ true) }
@@ -109,7 +109,7 @@ impl<C: Drop, J: Opening, G: Drop> Session<C, J, G> {
 
     /// Whether what was seen has an update number above `seq`.
     fn is_past(&self, seq: u64) -> bool
-        ensures { result ≡ nat_lt seq (now (chronicle_of self.now)).update_seq }
+        ensures { result ≡ nat_lt seq (now (chronicle_of J.base self.now)).update_seq }
     {
         self.version().database().documents().update_seq() > seq
     }

@@ -2,7 +2,7 @@
 ghost use Rattle.std.specs.Prelude.{◌≡◌, ◌≢◌, ◌⊎◌, ◌+◌, ◌-◌, ◌<◌, ◌≤◌, ◌^◌, length, true, false, Err, IfOk, IfErr, IfSome, IfNone, IsTrue, MatchBool};
 ghost use mathlib.Core.List.{IsPrefix};
 ghost use Rattle.model.specs.History.{of_session};
-ghost use Rattle.publications.specs.Histories.{newest, opening_base, Grows};
+ghost use Rattle.publications.specs.Histories.{newest, Grows};
 ghost use Rattle.sessions.specs.Known.{Known, seen};
 ghost use Rattle.sessions.specs.Calls.{Looks, Writes, IsTold, next_seat};
 ghost use Rattle.sessions.specs.declared.fault.Fault.TheVariants as fault;
@@ -29,11 +29,11 @@ impl<R: Wait + Drop, J: Opening, G: Gate + Drop> Session<Core<R, J>, J, G> {
     ///
     /// After a fault but `Lost` it left no entry: the next receipt has exactly the calls with a receipt.
     pub fn write<W: Wait>(&mut self, rt: &W, command: Command) -> Result<Receipt, Fault>
-        ensures receipt { IfOk result (λ receipt. Writes self.old command receipt self.new) }
+        ensures receipt { IfOk result (λ receipt. Writes J.base self.old command receipt self.new) }
         ensures memory { result ≡ Err fault.Memory → self.new ≡ record self.old { pushes = self.new.pushes } }
         ensures busy { result ≡ Err fault.Busy → self.new ≡ self.old }
         ensures when_busy { result ≡ Err fault.Busy → (J.capacity < J.sessions) ⊎ (2 ^ 62 ≤ self.old.pushes) }
-        ensures full { result ≡ Err fault.Full → Looks (record self.old { pushes = self.new.pushes }) self.new }
+        ensures full { result ≡ Err fault.Full → Looks J.base (record self.old { pushes = self.new.pushes }) self.new }
         ensures when_full { result ≡ Err fault.Full → length (seen self.new) ≡ J.max_places }
         ensures lost { result ≡ Err fault.Lost → self.new ≡ record self.old { pushes = self.new.pushes; lost = true } }
         ensures for_ever { self.old.lost ≡ true → result ≡ Err fault.Lost }
@@ -157,9 +157,9 @@ impl<C: Drop, J: Opening, G: Drop> Session<C, J, G> {
     /// What became of the call.
     fn settle(&mut self, outcome: Outcome<J>, asked: &Command, seat: Seat) -> Result<Receipt, Fault>
         requires seat { seat ≡ next_seat self.old }
-        ensures receipt { IfOk result (λ receipt. Writes self.old asked.now receipt self.new) }
+        ensures receipt { IfOk result (λ receipt. Writes J.base self.old asked.now receipt self.new) }
         ensures memory { result ≡ Err fault.Memory → self.new ≡ self.old }
-        ensures full { result ≡ Err fault.Full → Looks self.old self.new }
+        ensures full { result ≡ Err fault.Full → Looks J.base self.old self.new }
         ensures when_full { result ≡ Err fault.Full → length (seen self.new) ≡ J.max_places }
         ensures lost { result ≡ Err fault.Lost → self.new ≡ record self.old { lost = true } }
         ensures pushes { self.new.pushes ≡ self.old.pushes }
@@ -184,7 +184,7 @@ impl<C: Drop, J: Opening, G: Drop> Session<C, J, G> {
         seat: Seat,
     ) -> Result<Receipt, Fault>
         requires seat { seat ≡ next_seat self.old }
-        ensures receipt { IfOk result (λ receipt. Writes self.old asked.now receipt self.new) }
+        ensures receipt { IfOk result (λ receipt. Writes J.base self.old asked.now receipt self.new) }
         ensures lost { IfErr result (λ e. e ≡ fault.Lost) }
         ensures lost_same { IfErr result (λ _. self.new ≡ record self.old { lost = true }) }
         ensures pushes { self.new.pushes ≡ self.old.pushes }
@@ -194,6 +194,7 @@ impl<C: Drop, J: Opening, G: Drop> Session<C, J, G> {
         if !self.latest.precedes(&found) {
             return Err(self.lose());
         }
+        let _place = found.version().place();
         if !is_told(found.version(), place, seat, asked) {
             return Err(self.lose());
         }
@@ -209,7 +210,7 @@ impl<C: Drop, J: Opening, G: Drop> Session<C, J, G> {
     /// The history has no place left.
     pub(crate) fn receive_full(&mut self, filled: Filled<J>) -> Fault
         ensures fault { (result ≡ fault.Full) ⊎ (result ≡ fault.Lost) }
-        ensures full { result ≡ fault.Full → Looks self.old self.new }
+        ensures full { result ≡ fault.Full → Looks J.base self.old self.new }
         ensures when_full { result ≡ fault.Full → length (seen self.new) ≡ J.max_places }
         ensures lost { result ≡ fault.Lost → self.new ≡ record self.old { lost = true } }
         ensures pushes { self.new.pushes ≡ self.old.pushes }
@@ -226,7 +227,7 @@ impl<C: Drop, J: Opening, G: Drop> Session<C, J, G> {
     /// What was found has been seen, with a receipt for each of the session's entries in it.
     fn keep(&mut self, found: Published<J>, calls: u64)
         requires later { IsPrefix self.old.published found }
-        requires grows { Grows found }
+        requires grows { Grows J.base found }
         requires calls { calls ≡ length (of_session self.old.number (newest found)) }
         ensures { self.new ≡ record self.old { published = found; receipts = of_session self.old.number (newest found) } }
     {
@@ -247,7 +248,6 @@ impl<C: Drop, J: Opening, G: Drop> Session<C, J, G> {
 
 /// Whether the entry at the place is what was asked, as the last call of its session.
 fn is_told(version: &Version, place: u64, seat: Seat, asked: &Command) -> bool
-    requires base { version.now.base ≡ opening_base }
     ensures { IsTrue result → IsTold version.now.entries place seat asked.now }
 {
     let Some(entry) = version.entry(place) else {

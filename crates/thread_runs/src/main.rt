@@ -1,15 +1,18 @@
 //! Runs of sessions on threads, whose times and requests for memory are taken from outside.
 //!
 //! `thread_runs write` has the one session of a database write a document, and once more where it had no
-//! receipt; it prints what each write was answered. `thread_runs compact` has it write three documents
-//! and compact, slice by slice, and once more where it had no receipt. `thread_runs looks THREADS TIMES`
-//! has as many threads look so often each at a document, each time with a snapshot of its own, and
-//! `thread_runs refreshes THREADS TIMES` without. `thread_runs writes SESSIONS GATHER TIMES` has as many
-//! threads, none of which is the program's first, write so many documents each, of which so many may be one
-//! publication. The last line is how many entries the history has in the end. The status is 1 where memory
-//! was refused before a session wrote or compacted, or one of many calls was refused, and 2 for other words.
+//! receipt; it prints what each write was answered. `thread_runs successor` has it do so, closes the database,
+//! opens its successor, once more where that was refused, and has the session of that do so too; it prints what
+//! that was answered. `thread_runs compact` has a session write three documents and compact, slice by slice, and
+//! once more where it had no receipt. `thread_runs looks THREADS TIMES` has as many threads look so often each at
+//! a document, each time with a snapshot of its own, and `thread_runs refreshes THREADS TIMES` without.
+//! `thread_runs writes SESSIONS GATHER TIMES` has as many threads, none of which is the program's first, write so
+//! many documents each, of which so many may be one publication. The last line is how many entries the history
+//! has in the end. The status is 1 where memory was refused before a session wrote or compacted, or one of many
+//! calls was refused, and 2 for other words.
 #![tactic(auto)]
 
+mod epochs;
 mod plan;
 mod run;
 mod work;

@@ -22,19 +22,25 @@ pub(crate) enum Work {
 #[derive(Debug, Clone, Copy, Drop)]
 pub(crate) struct Plan {
     pub(crate) config: Config,
-    pub(crate) work: Work,
+    /// Where there is none, one writes a document, and then one of the successor of the database.
+    pub(crate) work: Option<Work>,
 }
 
 /// What the words of the command line ask for.
 pub(crate) fn read(words: &[String]) -> Option<Plan> {
     match words {
-        [_, name] if name.as_str() == "write" => of_numbers(1, 1, Work::Write),
-        [_, name] if name.as_str() == "compact" => of_numbers(1, 1, Work::Compact),
+        [_, name] if name.as_str() == "write" => of_numbers(1, 1, Some(Work::Write)),
+        [_, name] if name.as_str() == "successor" => of_numbers(1, 1, None),
+        [_, name] if name.as_str() == "compact" => of_numbers(1, 1, Some(Work::Compact)),
         [_, name, threads, times] if name.as_str() == "looks" => {
-            of_numbers(number(threads)?, 1, Work::Looks(times.parse().ok()?))
+            of_numbers(number(threads)?, 1, Some(Work::Looks(times.parse().ok()?)))
         }
         [_, name, threads, times] if name.as_str() == "refreshes" => {
-            of_numbers(number(threads)?, 1, Work::Refreshes(times.parse().ok()?))
+            of_numbers(
+                number(threads)?,
+                1,
+                Some(Work::Refreshes(times.parse().ok()?)),
+            )
         }
         [_, name, sessions, gather, times] if name.as_str() == "writes" => {
             let writers = number(sessions)?;
@@ -42,7 +48,7 @@ pub(crate) fn read(words: &[String]) -> Option<Plan> {
             of_numbers(
                 writers.checked_add(1)?,
                 number(gather)?,
-                Work::Writes { writers, times },
+                Some(Work::Writes { writers, times }),
             )
         }
         _ => None,
@@ -53,7 +59,7 @@ fn number(word: &String) -> Option<u16> {
     word.parse().ok()
 }
 
-fn of_numbers(sessions: u16, gather: u16, work: Work) -> Option<Plan> {
+fn of_numbers(sessions: u16, gather: u16, work: Option<Work>) -> Option<Plan> {
     let config = Config::new(Limits {
         sessions,
         queue: 64,

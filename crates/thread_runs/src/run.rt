@@ -1,6 +1,7 @@
 //! A run: a database is opened, its sessions work on threads, and it is closed.
 ghost use Rattle.std.specs.Prelude.{◌≡◌};
 
+use crate::epochs::run_on;
 use crate::plan::{Plan, Work};
 use crate::work::{Told, compact_twice, look_often, refresh_often, write, write_all, write_twice};
 use history_lock::{Opened, open};
@@ -24,10 +25,13 @@ pub(crate) struct Outcome {
 
 /// Does what the plan says, if memory is not refused before, nor a call of many.
 pub(crate) fn run<R: Threads + Wait + Sync>(rt: &R, alloc: Global, plan: Plan) -> Option<Outcome> {
+    let Some(work) = plan.work else {
+        return run_on(rt, alloc, plan.config);
+    };
     let Ok(opened) = Opened::new(alloc, plan.config) else {
         return None;
     };
-    worked::<Brand, _>(rt, alloc, opened, plan.work)
+    worked::<Brand, _>(rt, alloc, opened, work)
 }
 
 fn worked<J: Opening + Send + Sync, R: Threads + Wait + Sync>(
@@ -37,6 +41,7 @@ fn worked<J: Opening + Send + Sync, R: Threads + Wait + Sync>(
     work: Work,
 ) -> Option<Outcome>
     requires book { opened.book ≡ J.book }
+    requires base { opened.base ≡ J.base }
     requires table { opened.queue.table ≡ J.table }
     requires capacity { opened.queue.capacity ≡ J.capacity }
     requires sessions { opened.queue.sessions ≡ J.sessions }
@@ -62,7 +67,7 @@ fn all_work<J: Opening + Send + Sync, R: Threads + Wait + Sync>(
 ) -> Option<[Option<Told>; 2]> {
     let first = sessions.first_mut()?;
     match work {
-        Work::Write => return write_twice(rt, alloc, first),
+        Work::Write => return write_twice(rt, alloc, first, "a"),
         Work::Compact => return compact_twice(rt, alloc, first),
         Work::Looks(_) | Work::Refreshes(_) => {
             write(rt, alloc, first, "a")?;

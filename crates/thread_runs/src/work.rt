@@ -60,12 +60,13 @@ pub(crate) fn write_twice<R: Wait, C: Wait + Drop, J: Opening>(
     rt: &R,
     alloc: Global,
     session: &mut Session<Core<C, J>, J, NoGate>,
+    id: &str,
 ) -> Option<[Option<Told>; 2]> {
-    let told = write(rt, alloc, session, "a")?;
+    let told = write(rt, alloc, session, id)?;
     if matches!(told, Told::Receipt { .. }) {
         return Some([Some(told), None]);
     }
-    Some([Some(told), write(rt, alloc, session, "a")])
+    Some([Some(told), write(rt, alloc, session, id)])
 }
 
 fn compact<R: Wait, C: Wait + Drop, J: Opening>(

@@ -1,5 +1,6 @@
 //! Sessions over one opened database.
 
+mod epochs;
 mod held;
 mod pair;
 mod shares;

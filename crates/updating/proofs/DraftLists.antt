@@ -5,6 +5,7 @@ use Rattle.snapshots.specs.Version.{entry_at}
 use Rattle.std.specs.List.{All}
 use Rattle.std.proofs.lemmas.Option.{none-some, same_Some}
 use Rattle.model.specs.Command.{Entry}
+use Rattle.model.specs.Database.{Database}
 use Rattle.model.specs.History.{Chronicle}
 use Rattle.updating.specs.Outcomes.{Fate, StoodAt, told, all_stand}
 use Rattle.publications.specs.Histories.{IsNewest}
@@ -33,9 +34,9 @@ All-first {X} P x xs p all = at
     at (suc k) d lt = all k d (omega (arith, lt))
 
 -- each draft behind a place is of what was published last
-pub all_published : (published : List (List Entry)) (v : Chronicle) (n : ℕ) (es : List Entry) → IsNewest v published → length published ≤ n + 1 → All (IsPublished published) (drafts_from v n es)
-all_published published v n [] is le = λ k d lt. absurd (omega arith)
-all_published published v n (e ∷ es) is le = All-first (IsPublished published) (draft_of v (n + 1) e) (drafts_from v (n + 1) es) (record { newest = is; counted = le }) (all_published published v (n + 1) es is (omega (arith, le)))
+pub all_published : (base : Option Database) (published : List (List Entry)) (v : Chronicle) (n : ℕ) (es : List Entry) → IsNewest base v published → length published ≤ n + 1 → All (IsPublished base published) (drafts_from v n es)
+all_published base published v n [] is le = λ k d lt. absurd (omega arith)
+all_published base published v n (e ∷ es) is le = All-first (IsPublished base published) (draft_of v (n + 1) e) (drafts_from v (n + 1) es) (record { newest = is; counted = le }) (all_published base published v (n + 1) es is (omega (arith, le)))
 
 pub all_drafts_stand-from : (published : List (List Entry)) (outcomes : List (Option Fate)) (v : Chronicle) (n : ℕ) (es : List Entry) → all_drafts_stand published outcomes (drafts_from v n es) ≡ all_stand published n outcomes es
 all_drafts_stand-from published outcomes v n [] = refl

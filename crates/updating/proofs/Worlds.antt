@@ -1,13 +1,13 @@
 -- What the updater does is what the model's events do.
 use Rattle.std.proofs.Common.{◌≡◌, ℕ, ◌+◌, ◌<◌, ◌≤◌, Bool, List, [], ◌∷◌, ◌++◌, length, refl, ap, sym, ◌∙◌, arith}
-use Rattle.std.specs.Prelude.{◌&&◌, nat_lt, nat_le}
+use Rattle.std.specs.Prelude.{◌&&◌, nat_lt, nat_le, Option}
 use Rattle.std.proofs.lemmas.Bool.{cond-true, cond-false, lt-ltb, le-leb}
 use Rattle.model.specs.Command.{Entry, Job}
 use Rattle.model.specs.Database.{Database}
-use Rattle.model.specs.History.{replay, batch_entries}
+use Rattle.model.specs.History.{replay, batch_entries, base_of}
 use Rattle.model.specs.World.{Config, World, Put, GiveUp, put_batch, step}
 use Rattle.model.proofs.EntryLaws.{put_adds}
-use Rattle.publications.specs.Histories.{newest, opening_base}
+use Rattle.publications.specs.Histories.{newest}
 use Rattle.publications.proofs.Growing.{newest_after-append}
 use Rattle.updating.specs.State.{State, Puts, GivesUpBatch, entries_after}
 use Rattle.updating.specs.Worlds.{IsEvent}
@@ -31,33 +31,33 @@ step-give_up base c w = of w.batch refl
     of (j ∷ js) is = let same = cond-true _ _ _ (lt-ltb 0 (length w.batch) (omega (arith, ap length is))) in (ap (λ (u : World). u.history) same, ap (λ (u : World). u.batch) same)
 
 -- what was put is what the model's event puts
-pub put_is_event : (max : ℕ) (old new : State) → Puts max old new → IsEvent Put max old new
-put_is_event max old new p c w most is =
+pub put_is_event : (base : Option Database) (max : ℕ) (old new : State) → Puts base max old new → IsEvent base Put max old new
+put_is_event base max old new p c w most is =
     let some : 0 < length w.batch = omega (arith, p.some, ap length is.batch) in
     let room : length w.history + length w.batch ≤ c.max_places = omega (arith, p.room, most, ap length is.history, ap length is.batch) in
     record {
       history =
-          put_adds opening_base c w some room
-          ∙ ap (λ (h : List Entry). h ++ batch_entries (replay opening_base h) w.batch) is.history
-          ∙ ap (λ (js : List Job). newest old.published ++ entries_after old.published js) is.batch
-          ∙ sym (newest_after-append [] old.published ((newest old.published ++ entries_after old.published old.batch) ∷ []))
+          put_adds (base_of base) c w some room
+          ∙ ap (λ (h : List Entry). h ++ batch_entries (replay (base_of base) h) w.batch) is.history
+          ∙ ap (λ (js : List Job). newest old.published ++ entries_after base old.published js) is.batch
+          ∙ sym (newest_after-append [] old.published ((newest old.published ++ entries_after base old.published old.batch) ∷ []))
           ∙ ap (λ (s : State). newest s.published) (sym p.put);
-      batch = ap (λ (u : World). u.batch) (step-put opening_base c w some room) ∙ ap (λ (s : State). s.batch) (sym p.put);
+      batch = ap (λ (u : World). u.batch) (step-put (base_of base) c w some room) ∙ ap (λ (s : State). s.batch) (sym p.put);
     }
 
 -- nothing is put of an empty batch
-pub put_nothing_is_event : (max : ℕ) (old new : State) → length old.batch ≡ 0 → new ≡ old → IsEvent Put max old new
-put_nothing_is_event max old new none same c w most is =
-    let stepped = step-put-none opening_base c w (ap length is.batch ∙ none) in
+pub put_nothing_is_event : (base : Option Database) (max : ℕ) (old new : State) → length old.batch ≡ 0 → new ≡ old → IsEvent base Put max old new
+put_nothing_is_event base max old new none same c w most is =
+    let stepped = step-put-none (base_of base) c w (ap length is.batch ∙ none) in
     record {
       history = ap (λ (u : World). u.history) stepped ∙ is.history ∙ ap (λ (s : State). newest s.published) (sym same);
       batch = ap (λ (u : World). u.batch) stepped ∙ is.batch ∙ ap (λ (s : State). s.batch) (sym same);
     }
 
 -- a batch is given up as by the model's event
-pub give_up_is_event : (max : ℕ) (old new : State) → GivesUpBatch max old new → IsEvent GiveUp max old new
-give_up_is_event max old new g c w most is =
-    let stepped = step-give_up opening_base c w in
+pub give_up_is_event : (base : Option Database) (max : ℕ) (old new : State) → GivesUpBatch max old new → IsEvent base GiveUp max old new
+give_up_is_event base max old new g c w most is =
+    let stepped = step-give_up (base_of base) c w in
     record {
       history = stepped.0 ∙ is.history ∙ ap (λ (s : State). newest s.published) (sym g.others);
       batch = stepped.1 ∙ ap (λ (s : State). s.batch) (sym g.others);

@@ -1,6 +1,7 @@
 -- Entries of a version that is not yet published.
 use Rattle.std.specs.Prelude.{◌≡◌, ℕ, ◌+◌, ◌≤◌, List, [], ◌∷◌, length, Option, Some, option_map}
 use Rattle.model.specs.Command.{Entry, Reply}
+use Rattle.model.specs.Database.{Database}
 use Rattle.model.specs.History.{Chronicle}
 use Rattle.snapshots.specs.Version.{entry_at}
 use Rattle.publications.specs.Histories.{IsNewest}
@@ -18,8 +19,8 @@ pub record IsDraft (d : Drafted) : Type 0 where
   pub stands : option_map (λ (e : Entry). e.reply) (entry_at d.version.entries d.place) ≡ Some d.reply
 
 -- the version was published last, with at most as many publications as the draft's place
-pub record IsPublished (published : List (List Entry)) (d : Drafted) : Type 0 where
-  pub newest : IsNewest d.version published
+pub record IsPublished (base : Option Database) (published : List (List Entry)) (d : Drafted) : Type 0 where
+  pub newest : IsNewest base d.version published
   pub counted : length published ≤ d.place
 
 abbrev pub draft_of : Chronicle → ℕ → Entry → Drafted

@@ -3,8 +3,8 @@ use Rattle.std.specs.Prelude.{◌≡◌, ℕ, ◌+◌, ◌<◌, ◌≤◌, if◌
 use Rattle.std.specs.Coded.{Coded, code_by, coded×, coded_ℕ, coded_list, coded_option}
 use Rattle.model.specs.Command.{Entry, Job}
 use Rattle.model.specs.Database.{Database}
-use Rattle.model.specs.History.{replay, batch_entries}
-use Rattle.publications.specs.Histories.{newest, opening_base}
+use Rattle.model.specs.History.{replay, batch_entries, base_of}
+use Rattle.publications.specs.Histories.{newest}
 use Rattle.updater.specs.Batches.{joins}
 use Rattle.updating.specs.Answers.{Stands}
 use Rattle.updating.specs.Outcomes.{Fate, coded_fate, LeftOut, told, outcome_of, all_stand, GivesUp}
@@ -24,8 +24,8 @@ coded_state stands published jobs = code_by (ℕ × (List (List Entry) × (List 
     (λ s. (s.gather, (s.published, (s.popped, (s.batch, s.outcomes))))) (λ t. record { gather = t.0; published = t.1.0; popped = t.1.1.0; batch = t.1.1.1.0; outcomes = t.1.1.1.1 }) (λ _. refl)
 
 -- the database after what was published last
-abbrev pub database_of : State → Database
-database_of s = replay opening_base (newest s.published)
+abbrev pub database_of : Option Database → State → Database
+database_of base s = replay (base_of base) (newest s.published)
 
 -- a popped job goes last in the batch, or is dropped
 abbrev pub batch_after : Database → List Job → Job → List Job
@@ -34,41 +34,41 @@ batch_after d batch job = if joins d batch job then batch ++ job ∷ [] else bat
 abbrev pub outcomes_after : Database → List Job → Job → List (Option Fate) → List (Option Fate)
 outcomes_after d batch job outcomes = if joins d batch job then outcomes else told outcomes job.seat.session LeftOut
 
-abbrev pub after_pop : State → Job → State
-after_pop s job = record s {
+abbrev pub after_pop : Option Database → State → Job → State
+after_pop base s job = record s {
   popped = s.popped ++ job ∷ [];
-  batch = batch_after (database_of s) s.batch job;
-  outcomes = outcomes_after (database_of s) s.batch job s.outcomes;
+  batch = batch_after (database_of base s) s.batch job;
+  outcomes = outcomes_after (database_of base s) s.batch job s.outcomes;
 }
 
 -- a job is popped into a batch that may have one more; its session has a place for its outcome
-pub record Pops (old new : State) : Type 0 where
+pub record Pops (base : Option Database) (old new : State) : Type 0 where
   pub job : Job
   pub few : length old.batch < old.gather
   pub known : job.seat.session < length old.outcomes
-  pub popped : new ≡ after_pop old job
+  pub popped : new ≡ after_pop base old job
 
 -- the entries of jobs, after what was published last
-abbrev pub entries_after : List (List Entry) → List Job → List Entry
-entries_after published jobs = batch_entries (replay opening_base (newest published)) jobs
+abbrev pub entries_after : Option Database → List (List Entry) → List Job → List Entry
+entries_after base published jobs = batch_entries (replay (base_of base) (newest published)) jobs
 
 -- one publication more, whose history gains the entries of the jobs
-abbrev pub published_with : List (List Entry) → List Job → List (List Entry)
-published_with published jobs = published ++ (newest published ++ entries_after published jobs) ∷ []
+abbrev pub published_with : Option Database → List (List Entry) → List Job → List (List Entry)
+published_with base published jobs = published ++ (newest published ++ entries_after base published jobs) ∷ []
 
 -- the batch is published: its entries stand
-abbrev pub after_put : State → State
-after_put s = record s {
-  published = published_with s.published s.batch;
+abbrev pub after_put : Option Database → State → State
+after_put base s = record s {
+  published = published_with base s.published s.batch;
   batch = [];
-  outcomes = all_stand (published_with s.published s.batch) (length (newest s.published)) s.outcomes (entries_after s.published s.batch);
+  outcomes = all_stand (published_with base s.published s.batch) (length (newest s.published)) s.outcomes (entries_after base s.published s.batch);
 }
 
 -- a batch that is not empty, and leaves no place missing, is published
-pub record Puts (max_places : ℕ) (old new : State) : Type 0 where
+pub record Puts (base : Option Database) (max_places : ℕ) (old new : State) : Type 0 where
   pub some : 0 < length old.batch
   pub room : length (newest old.published) + length old.batch ≤ max_places
-  pub put : new ≡ after_put old
+  pub put : new ≡ after_put base old
 
 -- the batch is given up, with no entry
 pub record GivesUpBatch (max_places : ℕ) (old new : State) : Type 0 where
@@ -80,21 +80,21 @@ abbrev pub after_taking : State → ℕ → State
 after_taking s session = record s { outcomes = slice_set s.outcomes session None }
 
 -- pops into a batch that may have one more, publications of a batch that is not empty and leaves no place missing, and batches given up
-pub data Goes (max_places : ℕ) : State → State → Type 0 where
-  stays : (s : State) → Goes max_places s s
-  pops : (s t : State) (job : Job) → Goes max_places s t → length t.batch < t.gather → Goes max_places s (after_pop t job)
-  puts : (s t : State) → Goes max_places s t → 0 < length t.batch → length (newest t.published) + length t.batch ≤ max_places → Goes max_places s (after_put t)
-  gives_up : (s t u : State) → Goes max_places s t → GivesUpBatch max_places t u → Goes max_places s u
+pub data Goes (base : Option Database) (max_places : ℕ) : State → State → Type 0 where
+  stays : (s : State) → Goes base max_places s s
+  pops : (s t : State) (job : Job) → Goes base max_places s t → length t.batch < t.gather → Goes base max_places s (after_pop base t job)
+  puts : (s t : State) → Goes base max_places s t → 0 < length t.batch → length (newest t.published) + length t.batch ≤ max_places → Goes base max_places s (after_put base t)
+  gives_up : (s t u : State) → Goes base max_places s t → GivesUpBatch max_places t u → Goes base max_places s u
 
 -- such steps, at the end of which this session's outcome is taken, if there is one, and no other's
-pub record Serves (max_places session : ℕ) (old new : State) : Type 0 where
+pub record Serves (base : Option Database) (max_places session : ℕ) (old new : State) : Type 0 where
   pub before : State
-  pub goes : Goes max_places old before
+  pub goes : Goes base max_places old before
   pub taken : new ≡ after_taking before session
 
 -- at the end of such steps this session's outcome is taken, which is this one
-pub record Takes (max_places session : ℕ) (old new : State) (outcome : Fate) : Type 0 where
+pub record Takes (base : Option Database) (max_places session : ℕ) (old new : State) (outcome : Fate) : Type 0 where
   pub before : State
-  pub goes : Goes max_places old before
+  pub goes : Goes base max_places old before
   pub found : outcome_of before.outcomes session ≡ Some outcome
   pub taken : new ≡ after_taking before session

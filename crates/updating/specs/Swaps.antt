@@ -1,48 +1,49 @@
 -- The copy of a compaction is swapped in.
-use Rattle.std.specs.Prelude.{◌≡◌, ℕ, ◌<◌, ◌≤◌, Bool, false, [], ◌∷◌, length, Some}
+use Rattle.std.specs.Prelude.{◌≡◌, ℕ, ◌<◌, ◌≤◌, Bool, false, [], ◌∷◌, length, Some, Option}
 use Rattle.model.specs.Command.{Compact, Job, Seat}
+use Rattle.model.specs.Database.{Database}
 use Rattle.model.specs.PurgeLog.{is_overrun}
-use Rattle.model.specs.History.{Chronicle}
+use Rattle.model.specs.History.{Chronicle, base_of}
 use Rattle.model.specs.Compaction.{touched}
 use Rattle.model.specs.World.{Config, World, Swap, step}
-use Rattle.publications.specs.Histories.{newest, opening_base}
+use Rattle.publications.specs.Histories.{newest}
 use Rattle.compactor.specs.Copy.{CopyView}
 use Rattle.updating.specs.State.{State, database_of, published_with}
 use Rattle.updating.specs.Worlds.{IsOf}
 
 -- the history that was published last, with its base
-abbrev pub latest_of : State → Chronicle
-latest_of s = record { base = opening_base; entries = newest s.published }
+abbrev pub latest_of : Option Database → State → Chronicle
+latest_of base s = record { base = base; entries = newest s.published }
 
 -- a place is left
 abbrev pub HasPlace : ℕ → State → Type 0
 HasPlace max_places s = length (newest s.published) < max_places
 
 -- a purge that the copy lacks is no longer in the log
-abbrev pub is_past : CopyView → State → Bool
-is_past copy s = is_overrun (database_of s).purges copy.marks.purge
+abbrev pub is_past : Option Database → CopyView → State → Bool
+is_past base copy s = is_overrun (database_of base s).purges copy.marks.purge
 
 -- how many documents were touched that the copy has not taken over
-abbrev pub behind_by : CopyView → State → ℕ
-behind_by copy s = length (touched (database_of s) copy.marks)
+abbrev pub behind_by : Option Database → CopyView → State → ℕ
+behind_by base copy s = length (touched (database_of base s) copy.marks)
 
 -- a compaction of this seat, as a job
 abbrev pub compaction_of : Seat → Job
 compaction_of seat = record { seat = seat; command = Compact }
 
 -- one publication more, whose history gains the entry of the compaction
-abbrev pub after_swap : State → Seat → State
-after_swap s seat = record s { published = published_with s.published (compaction_of seat ∷ []) }
+abbrev pub after_swap : Option Database → State → Seat → State
+after_swap base s seat = record s { published = published_with base s.published (compaction_of seat ∷ []) }
 
 -- a compaction is published, where a place is left, and the copy lacks no lost purge and at most so many touched documents
-pub record Swaps (max_places slack : ℕ) (copy : CopyView) (seat : Seat) (old new : State) : Type 0 where
+pub record Swaps (base : Option Database) (max_places slack : ℕ) (copy : CopyView) (seat : Seat) (old new : State) : Type 0 where
   pub place : HasPlace max_places old
-  pub within : is_past copy old ≡ false
-  pub few : behind_by copy old ≤ slack
-  pub swapped : new ≡ after_swap old seat
+  pub within : is_past base copy old ≡ false
+  pub few : behind_by base copy old ≤ slack
+  pub swapped : new ≡ after_swap base old seat
 
 -- The end of a compaction does to a world's history and batch what was done to the updater's, where the copy that is open
 -- in the world is this one, and of this session.
-abbrev pub IsSwap : ℕ → ℕ → CopyView → ℕ → State → State → Type 0
-IsSwap max_places slack copy session old new = (c : Config) (w : World) → c.max_places ≡ max_places → c.slack ≡ slack
-    → w.copy ≡ Some (record { session = session; left = copy.left; marks = copy.marks }) → IsOf w old → IsOf (step opening_base c w Swap) new
+abbrev pub IsSwap : Option Database → ℕ → ℕ → CopyView → ℕ → State → State → Type 0
+IsSwap base max_places slack copy session old new = (c : Config) (w : World) → c.max_places ≡ max_places → c.slack ≡ slack
+    → w.copy ≡ Some (record { session = session; left = copy.left; marks = copy.marks }) → IsOf w old → IsOf (step (base_of base) c w Swap) new

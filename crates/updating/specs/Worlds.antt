@@ -1,7 +1,9 @@
 -- What the updater does, as events of a world.
-use Rattle.std.specs.Prelude.{◌≡◌, ℕ}
+use Rattle.std.specs.Prelude.{◌≡◌, ℕ, Option}
+use Rattle.model.specs.Database.{Database}
 use Rattle.model.specs.World.{Config, World, Event, step}
-use Rattle.publications.specs.Histories.{newest, opening_base}
+use Rattle.model.specs.History.{base_of}
+use Rattle.publications.specs.Histories.{newest}
 use Rattle.updating.specs.State.{State}
 
 -- the world has the history that was published last, and the updater's batch
@@ -9,6 +11,6 @@ pub record IsOf (w : World) (s : State) : Type 0 where
   pub history : w.history ≡ newest s.published
   pub batch : w.batch ≡ s.batch
 
--- the event does to a world's history and batch what was done to the updater's
-abbrev pub IsEvent : Event → ℕ → State → State → Type 0
-IsEvent event max_places old new = (c : Config) (w : World) → c.max_places ≡ max_places → IsOf w old → IsOf (step opening_base c w event) new
+-- over this base the event does to a world's history and batch what was done to the updater's
+abbrev pub IsEvent : Option Database → Event → ℕ → State → State → Type 0
+IsEvent base event max_places old new = (c : Config) (w : World) → c.max_places ≡ max_places → IsOf w old → IsOf (step (base_of base) c w event) new

@@ -38,13 +38,13 @@ impl<J: Naming> Model for Answer<J> {
 
     ghost view = { λ a. record { published = a.found; place = a.place; reply = a.reply } };
 
-    ghost invariant = { λ a. IsAnswer (record { published = a.found; place = a.place; reply = a.reply }) };
+    ghost invariant = { λ a. IsAnswer J.base (record { published = a.found; place = a.place; reply = a.reply }) };
 }
 
 impl<J: Naming> Answer<J> {
     /// The answer at a place of a published version.
     pub(crate) fn new(found: Published<J>, place: u64, reply: Reply) -> Answer<J>
-        requires grows { Grows found }
+        requires grows { Grows J.base found }
         requires counted { length found ≤ place }
         requires stands { option_map (λ (e : Entry). e.reply) (entry_at (newest found) place) ≡ Some reply }
         ensures { result ≡ record { published = found; place = place; reply = reply } }
@@ -59,7 +59,7 @@ impl<J: Naming> Answer<J> {
     /// The version, the entry's place in it, and its reply.
     pub fn into_parts(self) -> (Published<J>, u64, Reply)
         ensures parts { (result.0 ≡ self.published) × (result.1 ≡ self.place) × (result.2 ≡ self.reply) }
-        ensures grows { Grows result.0 }
+        ensures grows { Grows J.base result.0 }
         ensures counted { length result.0 ≤ result.1 }
         ensures stands { option_map (λ (e : Entry). e.reply) (entry_at (newest result.0) result.1) ≡ Some result.2 }
     {

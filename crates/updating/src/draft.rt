@@ -54,7 +54,7 @@ impl Model for Draft {
 impl Draft {
     /// The answer that the entry stands, once its version is published.
     fn into_outcome<J: Opening>(self, front: Front<J>) -> Outcome<J>
-        requires { IsPublished front self }
+        requires { IsPublished J.base front self }
         ensures { result ≡ StoodAt (stands_of front self) }
     {
         let Draft {
@@ -116,7 +116,7 @@ pub(crate) fn drafts_after(
 
 /// The entry stands.
 fn answer<J: Opening>(outcomes: &mut Outcomes<J>, draft: Draft, front: &Front<J>)
-    requires { IsPublished front.now draft }
+    requires { IsPublished J.base front.now draft }
     ensures { outcomes.new.items ≡ told outcomes.old.items draft.session (StoodAt (stands_of front.now draft)) }
 {
     let session = draft.session();
@@ -129,7 +129,7 @@ pub(crate) fn answer_all<J: Opening>(
     drafts: Vec<Draft>,
     front: &Front<J>,
 )
-    requires { All (IsPublished front.now) drafts.items }
+    requires { All (IsPublished J.base front.now) drafts.items }
     ensures told { outcomes.new.items ≡ all_drafts_stand front.now outcomes.old.items drafts.items }
     ensures count { length outcomes.new.items ≡ length outcomes.old.items }
 {

@@ -54,8 +54,8 @@ impl<R: Wait + Drop, J: Opening> Model for Core<R, J> {
     ghost use Rattle.std.specs.Coded.{codes};
     ghost use Rattle.model.specs.JsonCode.{coded_members};
     ghost use Rattle.std.specs.Prelude.{◌≡◌, ◌≤◌, length, vec_capacity};
-    ghost use Rattle.model.specs.History.{replay};
-    ghost use Rattle.publications.specs.Histories.{newest, opening_base};
+    ghost use Rattle.model.specs.History.{replay, base_of};
+    ghost use Rattle.publications.specs.Histories.{newest};
     ghost use Rattle.updater.specs.Batches.{MayFollow};
     ghost use Rattle.updating.specs.State.{State, coded_state};
 
@@ -65,7 +65,7 @@ impl<R: Wait + Drop, J: Opening> Model for Core<R, J> {
 
     ghost view = { λ c. record { gather = c.gather; published = c.current; popped = c.clerk.taken; batch = c.batch.items; outcomes = c.outcomes.items } };
 
-    ghost invariant = { λ c. (c.max_places ≡ J.max_places) × (c.gather ≤ vec_capacity c.batch) × (c.clerk.made ≤ length c.outcomes.items) × (length (newest c.current) ≤ J.max_places) × MayFollow (replay opening_base (newest c.current)) c.batch.items };
+    ghost invariant = { λ c. (c.max_places ≡ J.max_places) × (c.gather ≤ vec_capacity c.batch) × (c.clerk.made ≤ length c.outcomes.items) × (length (newest c.current) ≤ J.max_places) × MayFollow (replay (base_of J.base) (newest c.current)) c.batch.items };
 }
 
 impl<R: Wait + Drop, J: Opening> Core<R, J> {
@@ -121,9 +121,9 @@ impl<R: Wait + Drop, J: Opening> Core<R, J> {
     /// All that grows, grows before the entries stand.
     pub fn put(&mut self) -> Result<(), PutFault>
         ensures empty { self.old.batch ≡ [] → (result ≡ Ok tt) × (self.new ≡ self.old) }
-        ensures put { OnOk result (0 < length self.old.batch → Puts J.max_places self.old self.new) }
+        ensures put { OnOk result (0 < length self.old.batch → Puts J.base J.max_places self.old self.new) }
         ensures kept { OnErr result (self.new ≡ self.old) }
-        ensures event { OnOk result (IsEvent Put J.max_places self.old self.new) }
+        ensures event { OnOk result (IsEvent J.base Put J.max_places self.old self.new) }
         ensures full { 0 < length self.old.batch → (result ≡ Err Full) ↔ (J.max_places < length (newest self.old.published) + length self.old.batch) }
     {
         if self.batch.is_empty() {
@@ -148,7 +148,7 @@ impl<R: Wait + Drop, J: Opening> Core<R, J> {
     /// left. It takes no memory.
     pub fn give_up(&mut self)
         ensures given_up { GivesUpBatch J.max_places self.old self.new }
-        ensures event { IsEvent GiveUp J.max_places self.old self.new }
+        ensures event { IsEvent J.base GiveUp J.max_places self.old self.new }
     {
         let is_full = self.current.version().place() == self.max_places as u64;
         give_up_all(

@@ -1,7 +1,7 @@
 //! One publication: a batch is applied to what was published last, and the history that it makes is published.
 ghost use Rattle.std.specs.Prelude.{◌≡◌, ◌+◌, ◌<◌, ◌≤◌, List, Option, All, length, IfOk};
-ghost use Rattle.model.specs.History.{replay};
-ghost use Rattle.publications.specs.Histories.{opening_base, newest};
+ghost use Rattle.model.specs.History.{replay, base_of};
+ghost use Rattle.publications.specs.Histories.{newest};
 ghost use Rattle.updater.specs.Batches.{MayFollow};
 ghost use Rattle.updating.specs.Outcomes.{Fate, all_stand};
 ghost use Rattle.updating.specs.Drafts.{all_drafts_stand, IsPublished};
@@ -29,12 +29,12 @@ pub(crate) fn publish<J: Naming>(
     current: &Published<J>,
     jobs: &[Job],
 ) -> Result<Publication<J>, AllocError>
-    requires next { MayFollow (replay opening_base (newest current.now)) jobs.now }
+    requires next { MayFollow (replay (base_of J.base) (newest current.now)) jobs.now }
     requires some { 0 < length jobs.now }
     requires room { length (newest current.now) + length jobs.now ≤ 4294967295 }
-    ensures found { IfOk result (λ p. p.found ≡ published_with current.now jobs.now) }
-    ensures drafts { IfOk result (λ p. (outcomes : List (Option Fate)) → all_drafts_stand p.found outcomes p.drafts.items ≡ all_stand p.found (length (newest current.now)) outcomes (entries_after current.now jobs.now)) }
-    ensures published { IfOk result (λ p. All (IsPublished p.found) p.drafts.items) }
+    ensures found { IfOk result (λ p. p.found ≡ published_with J.base current.now jobs.now) }
+    ensures drafts { IfOk result (λ p. (outcomes : List (Option Fate)) → all_drafts_stand p.found outcomes p.drafts.items ≡ all_stand p.found (length (newest current.now)) outcomes (entries_after J.base current.now jobs.now)) }
+    ensures published { IfOk result (λ p. All (IsPublished J.base p.found) p.drafts.items) }
 {
     let _count = current.publication();
     let latest = current.version();

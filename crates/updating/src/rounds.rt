@@ -45,7 +45,7 @@ impl<R: Wait + Drop, J: Opening> Core<R, J> {
     /// its session's next call or the session has a job in the batch. It answers whether a job was
     /// popped, and pops none where the batch has as many as it may.
     pub fn pop<W: Wait>(&mut self, rt: &W, line: &Line<J>) -> bool
-        ensures { MatchBool result (Pops self.old self.new) (self.new ≡ self.old) }
+        ensures { MatchBool result (Pops J.base self.old self.new) (self.new ≡ self.old) }
     {
         if self.batch.len() >= self.gather as usize {
             return false;
@@ -72,7 +72,7 @@ impl<R: Wait + Drop, J: Opening> Core<R, J> {
 
     /// Pops a batch.
     fn gather<W: Wait>(&mut self, rt: &W, line: &Line<J>)
-        ensures { Goes J.max_places self.old self.new }
+        ensures { Goes J.base J.max_places self.old self.new }
     {
         for _ in 0..self.most() {
             if !self.pop(rt, line) {
@@ -83,7 +83,7 @@ impl<R: Wait + Drop, J: Opening> Core<R, J> {
 
     /// Pops a batch, and publishes it or gives it up.
     fn round<W: Wait, G: Gate>(&mut self, rt: &W, line: &Line<J>, gate: &G, session: u16)
-        ensures { Goes J.max_places self.old self.new }
+        ensures { Goes J.base J.max_places self.old self.new }
     {
         self.gather(rt, line);
         if self.batch.is_empty() {
@@ -134,8 +134,8 @@ impl<R: Wait + Drop, J: Opening> Core<R, J> {
         session: u16,
         most: u16,
     ) -> Option<Told<J>>
-        ensures goes { Serves J.max_places session self.old self.new }
-        ensures own { IfSome result (λ told. Takes J.max_places session self.old self.new told.outcome) }
+        ensures goes { Serves J.base J.max_places session self.old self.new }
+        ensures own { IfSome result (λ told. Takes J.base J.max_places session self.old self.new told.outcome) }
         ensures word { IfSome result (λ told. told.word ≡ record { number = session; gone = count session self.new.popped }) }
     {
         for _ in 0..most {

@@ -2,10 +2,10 @@
 ghost use Rattle.std.specs.Prelude.{◌≡◌, ◌≢◌, ◌↔◌, ◌+◌, ◌<◌, ◌≤◌, [], ◌∷◌, true, false, Err, length, IfOk, OnErr, OnOk};
 ghost use Rattle.model.specs.Command.{Done};
 ghost use Rattle.model.specs.Database.{calls_of};
-ghost use Rattle.model.specs.History.{now, replay, Extends};
+ghost use Rattle.model.specs.History.{now, replay, Extends, base_of};
 ghost use Rattle.model.specs.Compaction.{touched};
 ghost use Rattle.model.specs.PurgeLog.{is_overrun};
-ghost use Rattle.publications.specs.Histories.{newest, opening_base};
+ghost use Rattle.publications.specs.Histories.{newest};
 ghost use Rattle.updater.specs.Batches.{joins};
 ghost use Rattle.updating.specs.State.{database_of, published_with};
 ghost use Rattle.updating.specs.Swaps.{HasPlace, Swaps, IsSwap, latest_of, compaction_of, is_past, behind_by};
@@ -34,14 +34,14 @@ fn publish_copy<J: Naming>(
     slack: u64,
 ) -> Result<(Published<J>, Answer<J>), SwapFault>
     requires sliced { copy.old.left ≡ 0 }
-    requires follows { Extends (record { base = opening_base; entries = newest current.now }) copy.old.seen }
-    requires next { seat.call ≡ calls_of (replay opening_base (newest current.now)) seat.session + 1 }
+    requires follows { Extends (record { base = J.base; entries = newest current.now }) copy.old.seen }
+    requires next { seat.call ≡ calls_of (replay (base_of J.base) (newest current.now)) seat.session + 1 }
     requires room { length (newest current.now) < 4294967295 }
-    ensures found { IfOk result (λ p. p.0 ≡ published_with current.now (compaction_of seat ∷ [])) }
+    ensures found { IfOk result (λ p. p.0 ≡ published_with J.base current.now (compaction_of seat ∷ [])) }
     ensures answer { IfOk result (λ p. p.1 ≡ record { published = p.0; place = length (newest current.now) + 1; reply = Done }) }
-    ensures overrun { (result ≡ Err Overrun) ↔ (is_overrun (replay opening_base (newest current.now)).purges copy.old.marks.purge ≡ true) }
-    ensures behind { (result ≡ Err Behind) ↔ ((is_overrun (replay opening_base (newest current.now)).purges copy.old.marks.purge ≡ false)
-        × (slack < length (touched (replay opening_base (newest current.now)) copy.old.marks))) }
+    ensures overrun { (result ≡ Err Overrun) ↔ (is_overrun (replay (base_of J.base) (newest current.now)).purges copy.old.marks.purge ≡ true) }
+    ensures behind { (result ≡ Err Behind) ↔ ((is_overrun (replay (base_of J.base) (newest current.now)).purges copy.old.marks.purge ≡ false)
+        × (slack < length (touched (replay (base_of J.base) (newest current.now)) copy.old.marks))) }
     ensures room_left { result ≢ Err Full }
     ensures visits { copy.new.visited ≤ slack }
     ensures copy { copy.new ≡ record copy.old { visited = copy.new.visited } }
@@ -70,7 +70,7 @@ impl<R: Wait + Drop, J: Opening> Core<R, J> {
     /// Whether a compaction of this seat may be swapped in: it is its session's next call, and no job of
     /// the batch is of the session.
     pub fn may_swap(&self, seat: Seat) -> bool
-        ensures { result ≡ joins (database_of self.now) self.now.batch (compaction_of seat) }
+        ensures { result ≡ joins (database_of J.base self.now) self.now.batch (compaction_of seat) }
     {
         let job = Job {
             seat,
@@ -91,16 +91,16 @@ impl<R: Wait + Drop, J: Opening> Core<R, J> {
         slack: u64,
     ) -> Result<Answer<J>, SwapFault>
         requires sliced { copy.old.left ≡ 0 }
-        requires follows { Extends (latest_of self.old) copy.old.seen }
-        requires next { joins (database_of self.old) self.old.batch (compaction_of seat) ≡ true }
-        ensures swaps { OnOk result (Swaps J.max_places slack copy.old seat self.old self.new) }
+        requires follows { Extends (latest_of J.base self.old) copy.old.seen }
+        requires next { joins (database_of J.base self.old) self.old.batch (compaction_of seat) ≡ true }
+        ensures swaps { OnOk result (Swaps J.base J.max_places slack copy.old seat self.old self.new) }
         ensures answer { IfOk result (λ answer. answer ≡ record { published = self.new.published; place = length (newest self.old.published) + 1; reply = Done }) }
         ensures kept { OnErr result (self.new ≡ self.old) }
-        ensures event { result ≢ Err Memory → IsSwap J.max_places slack copy.old seat.session self.old self.new }
+        ensures event { result ≢ Err Memory → IsSwap J.base J.max_places slack copy.old seat.session self.old self.new }
         ensures full { (result ≡ Err Full) ↔ (J.max_places ≤ length (newest self.old.published)) }
-        ensures overrun { (result ≡ Err Overrun) ↔ (HasPlace J.max_places self.old × (is_past copy.old self.old ≡ true)) }
-        ensures behind { (result ≡ Err Behind) ↔ (HasPlace J.max_places self.old × (is_past copy.old self.old ≡ false)
-            × (slack < behind_by copy.old self.old)) }
+        ensures overrun { (result ≡ Err Overrun) ↔ (HasPlace J.max_places self.old × (is_past J.base copy.old self.old ≡ true)) }
+        ensures behind { (result ≡ Err Behind) ↔ (HasPlace J.max_places self.old × (is_past J.base copy.old self.old ≡ false)
+            × (slack < behind_by J.base copy.old self.old)) }
         ensures visits { result ≢ Err Full → copy.new.visited ≤ slack }
         ensures no_visits { result ≡ Err Full → copy.new ≡ copy.old }
         ensures copy { copy.new ≡ record copy.old { visited = copy.new.visited } }

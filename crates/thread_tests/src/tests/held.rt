@@ -115,6 +115,7 @@ fn run<J: Opening + Send + Sync, R: Threads + Wait + Clock + Sync>(
     opened: Opened,
 ) -> Option<u64>
     requires book { opened.book ≡ J.book }
+    requires base { opened.base ≡ J.base }
     requires table { opened.queue.table ≡ J.table }
     requires capacity { opened.queue.capacity ≡ J.capacity }
     requires sessions { opened.queue.sessions ≡ J.sessions }

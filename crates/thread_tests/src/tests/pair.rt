@@ -73,6 +73,7 @@ fn writes_and_meets<J: Opening, R: Wait + Clock + Abort>(
     second: Command,
 ) -> Result<(), Fail>
     requires book { opened.book ≡ J.book }
+    requires base { opened.base ≡ J.base }
     requires table { opened.queue.table ≡ J.table }
     requires capacity { opened.queue.capacity ≡ J.capacity }
     requires sessions { opened.queue.sessions ≡ J.sessions }

@@ -111,6 +111,7 @@ fn soaked<J: Opening + Send + Sync, R: Threads + Wait + Sync>(
     opened: Opened,
 ) -> Option<(u64, u64)>
     requires book { opened.book ≡ J.book }
+    requires base { opened.base ≡ J.base }
     requires table { opened.queue.table ≡ J.table }
     requires capacity { opened.queue.capacity ≡ J.capacity }
     requires sessions { opened.queue.sessions ≡ J.sessions }

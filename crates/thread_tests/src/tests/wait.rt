@@ -33,6 +33,7 @@ fn a_wait_lasts_as_long_turn_by_turn(rt: HostRuntime) -> Result<(), Fail> {
 /// Has a session wait in vain, at once and turn by turn, and closes the database.
 fn waits_in_vain<J: Opening, R: Wait + Clock + Abort>(rt: &R, opened: Opened) -> Result<(), Fail>
     requires book { opened.book ≡ J.book }
+    requires base { opened.base ≡ J.base }
     requires table { opened.queue.table ≡ J.table }
     requires capacity { opened.queue.capacity ≡ J.capacity }
     requires sessions { opened.queue.sessions ≡ J.sessions }

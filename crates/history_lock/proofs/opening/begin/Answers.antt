@@ -1,15 +1,14 @@
 use Rattle.std.proofs.Common.{ap, sym, ◌∙◌}
 use Rattle.model.specs.History.{Chronicle}
-use Rattle.publications.specs.Histories.{newest, opening_base}
+use Rattle.publications.specs.Histories.{newest}
 use Rattle.history_lock.proofs.Refused.{passed_on}
 use Rattle.history_lock.proofs.opening.begin.Goals as goal
 
 pub new-first-requires : goal.new-first-requires
-unfolding opening_base
 new-first-requires g c = record {
   newest = record {
-    base = ap (λ (k : Chronicle). k.base) (c.in-Ok.ensures.ok ∙ c.empty.ensures);
-    entries = ap (λ (k : Chronicle). k.entries) (c.in-Ok.ensures.ok ∙ c.empty.ensures) ∙ sym (ap newest c.requires.front);
+    base = ap (λ (k : Chronicle). k.base) (c.in-Ok.ensures.ok ∙ c.requires.empty);
+    entries = ap (λ (k : Chronicle). k.entries) (c.in-Ok.ensures.ok ∙ c.requires.empty) ∙ sym (ap newest c.requires.front);
   };
 }
 

@@ -1,4 +1,4 @@
-use Rattle.publications.proofs.OneBook.{finds}
+use Rattle.publications.proofs.OneStore.{finds}
 use Rattle.publications.proofs.press.look_through.Goals as goal
 
 pub enter_as-requires : goal.enter_as-requires

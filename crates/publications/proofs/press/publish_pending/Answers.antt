@@ -1,5 +1,5 @@
 use Rattle.left_right.specs.Sides.{view as known}
-use Rattle.publications.proofs.OneBook.{keeps, next_of, same_book}
+use Rattle.publications.proofs.OneStore.{keeps, next_of, same_store}
 use Rattle.publications.proofs.press.publish_pending.Goals as goal
 
 pub publish_as-requires : goal.publish_as-requires
@@ -8,4 +8,4 @@ publish_as-requires g c next is =
     keeps desk.place.id (known desk.place) desk.shown.value next (next_of desk.shown.value next _ is c.requires)
 
 pub returns-clause-shows : goal.returns-clause-shows
-returns-clause-shows g c = same_book _ _ _ _ _ _ _ c.publish_as.ensures.rule c.publish_as.ensures.values
+returns-clause-shows g c = same_store _ _ _ _ _ _ _ c.publish_as.ensures.rule c.publish_as.ensures.values

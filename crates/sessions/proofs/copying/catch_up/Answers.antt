@@ -1,9 +1,12 @@
 use Rattle.std.proofs.Common.{◌∙◌, ap, sym, length, length-drop}
 use Rattle.model.specs.Database.{Database}
-use Rattle.model.specs.History.{now}
+use Rattle.model.specs.History.{now, extends}
 use Rattle.model.specs.Compaction.{Marks, touched}
 use Rattle.model.proofs.TouchedLaws.{touched-rest}
 use Rattle.sessions.proofs.copying.catch_up.Goals as goal
+
+pub catch_up-requires-clause-follows : goal.catch_up-requires-clause-follows
+catch_up-requires-clause-follows c = extends c.args.version.now c.args.copy.now.seen c.requires.follows
 
 pub returns-clause-rest : goal.returns-clause-rest
 returns-clause-rest c =

@@ -16,9 +16,9 @@ returns g c =
     let grows = all.last.1 in
     let items = c.as_slice.ensures.value ∙ all.ended in
     record {
-      end = subst (λ (e : Ending). Ends c.args.sessions.items e) (sym c.new.ensures) (record {
-        legal = newest_legal [] last tt grows;
-        extends = subst (All (λ (k : Known). IsPrefix (newest k.published) h)) all.ended (λ i d lt. newest_grows _ last grows (all.extends i d lt));
+      end = subst (λ (e : Ending). Ends g.J.Naming.base c.args.sessions.items e) (sym c.new.ensures) (record {
+        legal = newest_legal g.J.Naming.base [] last tt grows;
+        extends = subst (All (λ (k : Known). IsPrefix (newest k.published) h)) all.ended (λ i d lt. newest_grows g.J.Naming.base _ last grows (all.extends i d lt));
         exact = subst (All (IsExact h)) items c.lost_of-lost.ensures.exact;
         lost = c.lost_of-lost.ensures.lost ∙ ap (λ (l : List Known). map (λ (k : Known). k.number) (filter (is_lost h) l)) items;
       });

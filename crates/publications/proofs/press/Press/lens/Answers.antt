@@ -1,4 +1,4 @@
-use Rattle.publications.proofs.OneBook.{admits, tells, learns}
+use Rattle.publications.proofs.OneStore.{admits, tells, learns}
 use Rattle.publications.proofs.press.Press.lens.Goals as goal
 
 pub reader-requires : goal.reader-requires

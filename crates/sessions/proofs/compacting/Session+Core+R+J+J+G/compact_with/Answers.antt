@@ -6,10 +6,10 @@ use Rattle.sessions.proofs.compacting.Session+Core+R+J+J+G.compact_with.Goals as
 
 pub loop-try-init : goal.loop-try-init
 loop-try-init g c = record {
-  looked = looks_self c.args.self.now c.place-place.ensures.legal c.place-place.ensures.own;
+  looked = looks_self g.J.Naming.base c.args.self.now c.place-place.ensures.legal c.place-place.ensures.own;
   known = c.requires.known;
   sliced = c.in_ok-slice_all.ensures.sliced;
-  follows = subst (Extends (chronicle_of c.args.self.now)) (sym c.in_ok-slice_all.ensures.seen) c.requires.follows;
+  follows = subst (Extends (chronicle_of g.J.Naming.base c.args.self.now)) (sym c.in_ok-slice_all.ensures.seen) c.requires.follows;
 }
 
 pub returns-in_err-slice_all-clause-fault : goal.returns-in_err-slice_all-clause-fault
@@ -17,7 +17,7 @@ returns-in_err-slice_all-clause-fault g c =
     let max = g.J.Opening.max_places in
     let old = c.args.self.now in
     let e = c.in_err-slice_all.field-0.0 in
-    passed_with (λ f. Leaves max f old old) c.from_residual.result e c.from_residual.ensures.1 (of_copy-leaves max e old old c.in_err-slice_all.ensures.fault (looks_self old c.place-place.ensures.legal c.place-place.ensures.own))
+    passed_with (λ f. Leaves g.J.Naming.base max f old old) c.from_residual.result e c.from_residual.ensures.1 (of_copy-leaves g.J.Naming.base max e old old c.in_err-slice_all.ensures.fault (looks_self g.J.Naming.base old c.place-place.ensures.legal c.place-place.ensures.own))
 
 pub returns-in_err-receipt-clause-fault : goal.returns-in_err-receipt-clause-fault
 returns-in_err-receipt-clause-fault g c =
@@ -25,4 +25,4 @@ returns-in_err-receipt-clause-fault g c =
     let old = c.args.self.now in
     let new = c.attempt.new.self in
     let e = c.in_err-receipt.field-0.0 in
-    passed_with (λ f. Leaves max f old new) c.from_residual-in_err-receipt.result e c.from_residual-in_err-receipt.ensures.1 (leaves_then max e old c.loop-try.self new c.loop-try.invariant.looked c.in_err-receipt.ensures.fault)
+    passed_with (λ f. Leaves g.J.Naming.base max f old new) c.from_residual-in_err-receipt.result e c.from_residual-in_err-receipt.ensures.1 (leaves_then g.J.Naming.base max e old c.loop-try.self new c.loop-try.invariant.looked c.in_err-receipt.ensures.fault)

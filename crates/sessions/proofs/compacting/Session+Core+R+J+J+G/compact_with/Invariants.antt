@@ -7,8 +7,8 @@ use Rattle.sessions.proofs.compacting.Session+Core+R+J+J+G.compact_with.Given as
 -- no try has ended otherwise than behind
 abbrev pub invariant-loop-try : goal.invariant-loop-try
 invariant-loop-try g l = record {
-  looked : Looks l.fn.self l.self;
+  looked : Looks g.J.Naming.base l.fn.self l.self;
   known : l.self.lost ≡ false;
   sliced : l.copy.left ≡ 0;
-  follows : Extends (chronicle_of l.self) l.copy.seen;
+  follows : Extends (chronicle_of g.J.Naming.base l.self) l.copy.seen;
 }

@@ -1,7 +1,8 @@
 use Rattle.std.proofs.Common.{ap, sym, ◌∙◌, refl, subst, arith, ◌≡◌, ◌+◌, List, length}
 use mathlib.Core.List.{IsPrefix}
+use Rattle.model.specs.Map.{empty}
 use Rattle.model.specs.Command.{Entry, Seat}
-use Rattle.model.specs.History.{Chronicle, of_session}
+use Rattle.model.specs.History.{Chronicle, of_session, base_of}
 use Rattle.publications.specs.Histories.{newest}
 use Rattle.sessions.specs.Known.{Known, SeesOwn}
 use Rattle.sessions.specs.Calls.{Told, IsTold}
@@ -17,11 +18,12 @@ returns-clause-receipt g c =
     let seat = c.args.seat in
     let asked = c.args.asked.now in
     let old = c.args.self.now in
+    let uncalled : (base_of g.J.Naming.base).calls ≡ empty = ap (λ (v : Chronicle). (base_of v.base).calls) (sym c.version.ensures.newest) ∙ c.place-place.ensures.history.base.uncalled in
     let receipt : Told = record { place = place; seat = seat; reply = c.into_parts-found.result.2; publication = c.publication-publication.result } in
-    let t : IsTold (newest found) place seat asked = subst (λ (v : Chronicle). IsTold v.entries place seat asked) c.version.ensures.newest (c.if-not-is_told.ensures refl) in
+    let t : IsTold (newest found) place seat asked = subst (λ (v : Chronicle). IsTold v.entries place seat asked) c.version-2.ensures.newest (c.if-not-is_told.ensures refl) in
     let seat_is = c.requires.seat in
     let count : length (of_session old.number (newest found)) ≡ length old.receipts + 1 = ap (λ (q : Seat). length (of_session q.session (newest found))) (sym seat_is) ∙ t.last ∙ ap (λ (q : Seat). q.call) seat_is in
-    writes old c.keep.new.self found asked receipt t.entry
+    writes g.J.Naming.base uncalled old c.keep.new.self found asked receipt t.entry
     (subst SeesOwn view refl)
     (subst (λ (l : List (List Entry)). IsPrefix l found) (ap (λ (k : Known). k.published) view) c.if-not-precedes.ensures.published)
     parts.grows

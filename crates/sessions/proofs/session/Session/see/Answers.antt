@@ -26,8 +26,8 @@ returns-clause-looks g c =
     let number : c.self.inside.number ≡ c.args.self.now.number = ap (λ (k : Known). k.number) view in
     let own = ap (λ n. of_session n (newest c.args.found)) number ∙ c.requires.own in
     record {
-      legal = newest_legal [] c.args.found tt c.requires.grows;
-      extends = newest_grows c.args.self.now.published c.args.found c.requires.grows c.requires.later;
+      legal = newest_legal g.J.Naming.base [] c.args.found tt c.requires.grows;
+      extends = newest_grows g.J.Naming.base c.args.self.now.published c.args.found c.requires.grows c.requires.later;
       own = refl;
       same = λ i. record { number = number i; published = c.args.found; receipts = own i; pushes = (view i).pushes; waited = c.self.inside.waited; lost = (view i).lost };
     }

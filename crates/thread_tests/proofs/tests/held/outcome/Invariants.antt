@@ -2,7 +2,7 @@ use Rattle.thread_tests.proofs.tests.held.outcome.Given as goal
 
 -- the database that was just opened
 abbrev pub ghosts-run-J-Naming : goal.ghosts-run-J-Naming
-ghosts-run-J-Naming g a = record { book = a.opened.book }
+ghosts-run-J-Naming g a = record { book = a.opened.book; base = a.opened.base }
 
 abbrev pub ghosts-run-J-Queued : goal.ghosts-run-J-Queued
 ghosts-run-J-Queued g a = record { table = a.opened.queue.table; capacity = a.opened.queue.capacity; sessions = a.opened.queue.sessions }

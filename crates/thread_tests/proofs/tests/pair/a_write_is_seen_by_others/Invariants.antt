@@ -2,7 +2,7 @@ use Rattle.thread_tests.proofs.tests.pair.a_write_is_seen_by_others.Given as goa
 
 -- the database that was just opened
 abbrev pub ghosts-writes_and_meets-J-Naming : goal.ghosts-writes_and_meets-J-Naming
-ghosts-writes_and_meets-J-Naming g a = record { book = a.opened.book }
+ghosts-writes_and_meets-J-Naming g a = record { book = a.opened.book; base = a.opened.base }
 
 abbrev pub ghosts-writes_and_meets-J-Queued : goal.ghosts-writes_and_meets-J-Queued
 ghosts-writes_and_meets-J-Queued g a = record { table = a.opened.queue.table; capacity = a.opened.queue.capacity; sessions = a.opened.queue.sessions }

@@ -2,7 +2,7 @@ use Rattle.thread_tests.proofs.tests.soak.each_receipt_is_told_once.Given as goa
 
 -- the database that was just opened
 abbrev pub ghosts-soaked-J-Naming : goal.ghosts-soaked-J-Naming
-ghosts-soaked-J-Naming g a = record { book = a.opened.book }
+ghosts-soaked-J-Naming g a = record { book = a.opened.book; base = a.opened.base }
 
 abbrev pub ghosts-soaked-J-Queued : goal.ghosts-soaked-J-Queued
 ghosts-soaked-J-Queued g a = record { table = a.opened.queue.table; capacity = a.opened.queue.capacity; sessions = a.opened.queue.sessions }

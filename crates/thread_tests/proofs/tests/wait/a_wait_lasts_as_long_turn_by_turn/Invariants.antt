@@ -2,7 +2,7 @@ use Rattle.thread_tests.proofs.tests.wait.a_wait_lasts_as_long_turn_by_turn.Give
 
 -- the database that was just opened
 abbrev pub ghosts-waits_in_vain-J-Naming : goal.ghosts-waits_in_vain-J-Naming
-ghosts-waits_in_vain-J-Naming g a = record { book = a.opened.book }
+ghosts-waits_in_vain-J-Naming g a = record { book = a.opened.book; base = a.opened.base }
 
 abbrev pub ghosts-waits_in_vain-J-Queued : goal.ghosts-waits_in_vain-J-Queued
 ghosts-waits_in_vain-J-Queued g a = record { table = a.opened.queue.table; capacity = a.opened.queue.capacity; sessions = a.opened.queue.sessions }

@@ -1,6 +1,6 @@
 use Rattle.std.proofs.Common.{rules, subst, sym, arith}
-use Rattle.model.specs.History.{replay}
-use Rattle.publications.specs.Histories.{opening_base, newest}
+use Rattle.model.specs.History.{replay, base_of}
+use Rattle.publications.specs.Histories.{newest}
 use Rattle.updater.specs.Batches.{MayFollow}
 use Rattle.updating.proofs.Slots.{length-given_up}
 use Rattle.updating.proofs.Worlds.{give_up_is_event}
@@ -13,8 +13,8 @@ invariant_of-self g c =
       omega (arith, old.1, c.clear.ensures.capacity),
       omega (arith, old.2, length-given_up _ _ _ c.self.inside.outcomes.items c.give_up_all.new.outcomes.items c.give_up_all.ensures),
       old.3,
-      subst (MayFollow (replay opening_base (newest c.self.inside.current))) (sym c.clear.ensures.items) tt,
+      subst (MayFollow (replay (base_of g.J.Naming.base) (newest c.self.inside.current))) (sym c.clear.ensures.items) tt,
     )
 
 pub returns-clause-event : goal.returns-clause-event
-returns-clause-event g c = give_up_is_event g.J.Opening.max_places c.args.self.now _ (search rules)
+returns-clause-event g c = give_up_is_event g.J.Naming.base g.J.Opening.max_places c.args.self.now _ (search rules)

@@ -1,6 +1,6 @@
 use Rattle.std.proofs.Common.{rules, refl, subst, sym, ap, length, arith}
-use Rattle.model.specs.History.{replay}
-use Rattle.publications.specs.Histories.{opening_base, newest}
+use Rattle.model.specs.History.{replay, base_of}
+use Rattle.publications.specs.Histories.{newest}
 use Rattle.updater.specs.Batches.{MayFollow}
 use Rattle.updating.specs.State.{State}
 use Rattle.updating.proofs.Swaps.{few_with}
@@ -13,13 +13,13 @@ invariant_of-self g c =
       old.0,
       omega (arith, old.1, c.clear.ensures.capacity),
       omega (arith, old.2, c.answer_all.ensures.count),
-      few_with g.J.Opening.max_places c.self.inside.current c.put_in_place.new.current c.self.inside.batch.items (search rules)
+      few_with g.J.Naming.base g.J.Opening.max_places c.self.inside.current c.put_in_place.new.current c.self.inside.batch.items (search rules)
           (omega (arith, c.if-len-room.false, c.len.ensures, c.room.ensures, old.3, ap (λ (s : State). length (newest s.published)) c.self.view_is)),
-      subst (MayFollow (replay opening_base (newest c.put_in_place.new.current))) (sym c.clear.ensures.items) tt,
+      subst (MayFollow (replay (base_of g.J.Naming.base) (newest c.put_in_place.new.current))) (sym c.clear.ensures.items) tt,
     )
 
 pub returns-clause-event : goal.returns-clause-event
-returns-clause-event g c = put_is_event g.J.Opening.max_places c.args.self.now _ (search rules)
+returns-clause-event g c = put_is_event g.J.Naming.base g.J.Opening.max_places c.args.self.now _ (search rules)
 
 pub returns-then-is_empty-clause-event : goal.returns-then-is_empty-clause-event
-returns-then-is_empty-clause-event g c = put_nothing_is_event g.J.Opening.max_places c.args.self.now c.args.self.now (search rules) refl
+returns-then-is_empty-clause-event g c = put_nothing_is_event g.J.Naming.base g.J.Opening.max_places c.args.self.now c.args.self.now (search rules) refl

@@ -1,0 +1,11 @@
+use Rattle.thread_tests.proofs.tests.epochs.goes_on.Given as goal
+
+-- the database that was just opened
+abbrev pub ghosts-last_epoch-J-Naming : goal.ghosts-last_epoch-J-Naming
+ghosts-last_epoch-J-Naming g a = record { book = a.opened.book; base = a.opened.base }
+
+abbrev pub ghosts-last_epoch-J-Queued : goal.ghosts-last_epoch-J-Queued
+ghosts-last_epoch-J-Queued g a = record { table = a.opened.queue.table; capacity = a.opened.queue.capacity; sessions = a.opened.queue.sessions }
+
+abbrev pub ghosts-last_epoch-J-Opening : goal.ghosts-last_epoch-J-Opening
+ghosts-last_epoch-J-Opening g a = record { max_places = a.opened.max_places }
