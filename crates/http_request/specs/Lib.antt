@@ -6,3 +6,4 @@ pub mod Opened
 pub mod Local
 pub mod Decide
 pub mod Forms
+pub mod Extent

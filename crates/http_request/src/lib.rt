@@ -6,6 +6,7 @@
 
 mod asked;
 mod changes;
+mod extent;
 mod feed;
 mod identity;
 pub mod laws;
@@ -17,5 +18,6 @@ mod rejection;
 
 pub use asked::{Asked, Form};
 pub use changes::{ChangesAsked, Feed, Since};
+pub use extent::{Extent, extent_of};
 pub use read::read_request;
 pub use rejection::Rejection;

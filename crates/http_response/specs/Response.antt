@@ -12,6 +12,8 @@ use Rattle.http_response.specs.declared.head.Allow.{Allow}
 use Rattle.http_response.specs.declared.head.Allow.TheVariants as allow
 use Rattle.http_response.specs.declared.connection.Connection.{Connection}
 use Rattle.http_response.specs.declared.connection.Connection.TheVariants as connection
+use Rattle.http_request.specs.declared.extent.Extent.{Extent}
+use Rattle.http_request.specs.declared.extent.Extent.TheVariants as extent
 
 -- RFC 9112, 2.1 "Message Format"
 abbrev pub crlf : List ℕ
@@ -75,10 +77,17 @@ head_text status len place allow connection =
     ((((((((codes "HTTP/1.1 " ++ status_text status) ++ content_head) ++ decimal len) ++ place_head) ++ decimal place)
     ++ crlf) ++ allow_line allow) ++ connection_line connection) ++ crlf
 
--- the text of a response with this body
--- RFC 9112, 2.1 "Message Format"
-abbrev pub response_text : StatusCode → ℕ → Allow → Connection → List ℕ → List ℕ
-response_text status place allow connection body = head_text status (length body) place allow connection ++ body
+-- what a request of this extent takes of a body
+-- RFC 9112, 6.3 "Message Body Length"
+abbrev pub taken_body : Extent → List ℕ → List ℕ
+taken_body extent.Whole body = body
+taken_body extent.HeadAlone body = []
+
+-- the text of a response with this body, as far as its request takes it; the length is that of the whole body
+-- RFC 9112, 2.1 "Message Format"; RFC 9110, 8.6 "Content-Length"
+abbrev pub response_text : StatusCode → ℕ → Allow → Connection → Extent → List ℕ → List ℕ
+response_text status place allow connection extent body =
+    head_text status (length body) place allow connection ++ taken_body extent body
 
 -- the text of a body
 abbrev pub bytes_of : BodyText → List ℕ

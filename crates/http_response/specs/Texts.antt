@@ -4,6 +4,8 @@ use Rattle.model.specs.Command.{Command, Reply}
 use Rattle.model.specs.Query.{Query, Answer}
 use Rattle.http_framing.specs.declared.FramingFault.{FramingFault}
 use Rattle.http_request.specs.declared.asked.Form.{Form}
+use Rattle.http_request.specs.declared.extent.Extent.{Extent}
+use Rattle.http_request.specs.declared.extent.Extent.TheVariants as extent
 use Rattle.http_request.specs.declared.rejection.Rejection.{Rejection}
 use Rattle.http_response.specs.Response.{response_text}
 use Rattle.http_response.specs.Problem.{problem_text, refusal_status, refusal_allow, refusal_body, closing_status, closing_body}
@@ -19,22 +21,22 @@ use Rattle.http_response.specs.declared.no_service.Unavailable.TheVariants as un
 
 -- ---- what is told of no call of the database
 
--- a request that is refused
-unfoldable pub refusal_text : ℕ → Connection → Rejection → List ℕ
-refusal_text place connection refusal =
-    response_text (refusal_status refusal) place (refusal_allow refusal) connection (refusal_body refusal)
+-- a request that is refused, as far as it takes the response
+unfoldable pub refusal_text : ℕ → Connection → Extent → Rejection → List ℕ
+refusal_text place connection extent refusal =
+    response_text (refusal_status refusal) place (refusal_allow refusal) connection extent (refusal_body refusal)
 
 -- bytes that are refused, with all that follows them
 unfoldable pub closing_text : ℕ → FramingFault → List ℕ
-closing_text place fault = response_text (closing_status fault) place allow.Unsaid connection.Close (closing_body fault)
+closing_text place fault = response_text (closing_status fault) place allow.Unsaid connection.Close extent.Whole (closing_body fault)
 
 -- `GET /`
 -- CouchDB: GET /
 unfoldable pub welcome_text : ℕ → Connection → List ℕ
-welcome_text place connection = response_text status.Ok place allow.Unsaid connection (codes "{\"couchdb\":\"Welcome\"}")
+welcome_text place connection = response_text status.Ok place allow.Unsaid connection extent.Whole (codes "{\"couchdb\":\"Welcome\"}")
 
 abbrev pub told_text : ℕ → Connection → Told → List ℕ
-told_text place connection told = response_text told.0 place allow.Unsaid connection told.1
+told_text place connection told = response_text told.0 place allow.Unsaid connection extent.Whole told.1
 
 -- what became of a command, where its reply is told in this form
 unfoldable pub reply_text : ℕ → Connection → Form → Command → Reply → Option (List ℕ)
@@ -60,7 +62,7 @@ unavailable_body why = problem_text (codes "unavailable") (unavailable_reason wh
 -- RFC 9110, 15.6.4 "503 Service Unavailable"
 unfoldable pub unavailable_text : ℕ → Connection → Unavailable → List ℕ
 unavailable_text place connection why =
-    response_text status.ServiceUnavailable place allow.Unsaid connection (unavailable_body why)
+    response_text status.ServiceUnavailable place allow.Unsaid connection extent.Whole (unavailable_body why)
 
 -- ---- want of memory
 
@@ -73,5 +75,6 @@ no_memory_body wanted = problem_text (codes "no_memory") (wanted_name wanted)
 
 -- memory was refused, and the connection closes
 -- RFC 4918, 11.5 "507 Insufficient Storage"
-unfoldable pub no_memory_text : ℕ → MemoryFor → List ℕ
-no_memory_text place wanted = response_text status.InsufficientStorage place allow.Unsaid connection.Close (no_memory_body wanted)
+unfoldable pub no_memory_text : ℕ → Extent → MemoryFor → List ℕ
+no_memory_text place extent wanted =
+    response_text status.InsufficientStorage place allow.Unsaid connection.Close extent (no_memory_body wanted)

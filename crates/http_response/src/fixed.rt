@@ -10,18 +10,18 @@ use crate::problem::body_of_absent;
 use crate::response::Response;
 use crate::status::StatusCode;
 use document_json::Reason;
-use http_request::Rejection;
+use http_request::{Extent, Rejection};
 use model::Absent;
 
-/// The response to a request that is refused.
+/// The response to a request that is refused, as far as it takes that.
 #[tactic(auto, unfolding(crate::specs::Texts::refusal_text))]
-pub fn refused(place: u64, connection: Connection, refusal: Rejection) -> Response
-    ensures text { result ≡ refusal_text place connection refusal }
+pub fn refused(place: u64, connection: Connection, extent: Extent, refusal: Rejection) -> Response
+    ensures text { result ≡ refusal_text place connection extent refusal }
 {
     let status = status_of(refusal);
     let allow = allow_of(refusal);
     let body = BodyText::Fixed(body_of(refusal));
-    Response::new(status, place, allow, connection, body)
+    Response::new(status, place, allow, connection, extent, body)
 }
 
 fn status_of(refusal: Rejection) -> StatusCode

@@ -4,8 +4,10 @@ ghost use Rattle.http_response.specs.Texts.{no_memory_body, no_memory_text};
 
 use crate::body::BodyText;
 use crate::connection::Connection;
+use crate::head::Allow;
 use crate::response::Response;
 use crate::status::StatusCode;
+use http_request::Extent;
 
 /// What memory was refused for.
 #[derive(Clone, Copy, Debug, PartialEq, Eq)]
@@ -16,16 +18,19 @@ pub enum MemoryFor {
     Reply,
 }
 
-/// The response for want of memory, after which the connection closes.
+/// The response for want of memory, as far as the request takes it, after which the connection
+/// closes.
 #[tactic(auto, unfolding(crate::specs::Texts::no_memory_text))]
-pub fn no_memory(place: u64, wanted: MemoryFor) -> Response
-    ensures text { result ≡ no_memory_text place wanted }
+pub fn no_memory(place: u64, extent: Extent, wanted: MemoryFor) -> Response
+    ensures text { result ≡ no_memory_text place extent wanted }
 {
     let body = BodyText::Fixed(body_of(wanted));
-    Response::plain(
+    Response::new(
         StatusCode::InsufficientStorage,
         place,
+        Allow::Unsaid,
         Connection::Close,
+        extent,
         body,
     )
 }

@@ -1,4 +1,4 @@
-//! A response: a head, which takes no memory, and a body.
+//! A response: a head, which takes no memory, and a body, unless the request takes the head alone.
 ghost use Rattle.std.specs.Prelude.{◌≡◌, ◌++◌};
 ghost use Rattle.http_response.specs.Response.{bytes_of, response_text};
 
@@ -7,6 +7,7 @@ use crate::connection::Connection;
 use crate::head::{Allow, HEAD_ROOM, head};
 use crate::status::StatusCode;
 use arrayvec::ArrayString;
+use http_request::Extent;
 use std::marker::Model;
 
 /// A response. Clauses see its bytes.
@@ -31,29 +32,41 @@ impl Model for Response {
 }
 
 impl Response {
+    /// A response of which the body is left out where the request takes the head alone.
     pub(crate) fn new(
         status: StatusCode,
         place: u64,
         allow: Allow,
         connection: Connection,
+        extent: Extent,
         body: BodyText,
     ) -> Response
-        ensures { result ≡ response_text status place allow connection (bytes_of body) }
+        ensures { result ≡ response_text status place allow connection extent (bytes_of body) }
     {
         let head = head(status, body.as_str().len(), place, allow, connection);
-        Response { head, body }
+        Response {
+            head,
+            body: body.taken(extent),
+        }
     }
 
-    /// A response that lists no methods.
+    /// A whole response that lists no methods.
     pub(crate) fn plain(
         status: StatusCode,
         place: u64,
         connection: Connection,
         body: BodyText,
     ) -> Response
-        ensures { result ≡ response_text status place Allow.Unsaid connection (bytes_of body) }
+        ensures { result ≡ response_text status place Allow.Unsaid connection Extent.Whole (bytes_of body) }
     {
-        Response::new(status, place, Allow::Unsaid, connection, body)
+        Response::new(
+            status,
+            place,
+            Allow::Unsaid,
+            connection,
+            Extent::Whole,
+            body,
+        )
     }
 
     /// The head and the body.
