@@ -8,6 +8,7 @@ use Rattle.std.proofs.lemmas.List.Elements.{All-head, All-map}
 use Rattle.std.proofs.lemmas.List.FromFn.{get_or-map-range_with_len, length-map-range_with_len}
 use mathlib.Core.List.{IsPrefix}
 use Rattle.model.specs.Command.{Entry}
+use Rattle.model.specs.Database.{Database}
 use Rattle.model.proofs.ListLaws.{by_cases}
 use Rattle.serving.specs.Served.{Streams}
 use Rattle.serving.specs.declared.outcome.Ended.{Ended}
@@ -26,39 +27,39 @@ abbrev pub streams_of : {R W : Type 0} → (R → Option (List ℕ)) → (R → 
 streams_of left failed_reads taken failed_writes r w = record { left = left r; failed_reads = failed_reads r; taken = taken w; failed_writes = failed_writes w }
 
 -- each session served from what it knew of the opened database on
-abbrev pub ServesEach : ℕ → ℕ → List KnownOfThreads → List KnownOfThreads → Type 0
-ServesEach room connections before after =
-    (i : ℕ) (d : KnownOfThreads) → i < length before → ServesAll connections (known_of room (slice_index_or before i d)) (known_of room (slice_index_or after i d))
+abbrev pub ServesEach : Option Database → ℕ → ℕ → List KnownOfThreads → List KnownOfThreads → Type 0
+ServesEach base room connections before after =
+    (i : ℕ) (d : KnownOfThreads) → i < length before → ServesAll connections (known_of base room (slice_index_or before i d)) (known_of base room (slice_index_or after i d))
 
-pub serves_sessions : (workers connections room : ℕ) (before after : List KnownOfThreads) (closed : Ending) → room ≡ max_places
-    → before ≡ map fresh (range_with_len 0 workers) → length after ≡ length before → ServesEach room connections before after → Ends after closed
-    → ServesSessions workers connections
-serves_sessions workers connections room before after closed same new long serves ends =
+pub serves_sessions : (base : Option Database) (workers connections room : ℕ) (before after : List KnownOfThreads) (closed : Ending) → room ≡ max_places
+    → before ≡ map fresh (range_with_len 0 workers) → length after ≡ length before → ServesEach base room connections before after → Ends base after closed
+    → ServesSessions base workers connections
+serves_sessions base workers connections room before after closed same new long serves ends =
     let count : length before ≡ workers = ap length new ∙ length-map-range_with_len fresh 0 workers in
     record {
-      finals = map (known_of max_places) after;
-      count = length-map after (known_of max_places) ∙ long ∙ count;
+      finals = map (known_of base max_places) after;
+      count = length-map after (known_of base max_places) ∙ long ∙ count;
       each = λ i d within.
           let inside : i < length before = omega (arith, count) in
           let inside_after : i < length after = omega (arith, long, inside) in
           let from = ap (λ (items : List KnownOfThreads). slice_index_or items i (fresh 0)) new ∙ get_or-map-range_with_len fresh 0 workers i i (fresh 0) within (omega arith) in
-          let to = get_or-map (known_of max_places) after i (fresh 0) d inside_after in
-          let here = subst (λ (r : ℕ). ServesAll connections (known_of r (slice_index_or before i (fresh 0))) (known_of r (slice_index_or after i (fresh 0)))) same (serves i (fresh 0) inside) in
-          let started = subst (λ (k : KnownOfThreads). ServesAll connections (known_of max_places k) (known_of max_places (slice_index_or after i (fresh 0)))) from here in
-          subst (ServesAll connections (opened_as i)) (sym to) started;
+          let to = get_or-map (known_of base max_places) after i (fresh 0) d inside_after in
+          let here = subst (λ (r : ℕ). ServesAll connections (known_of base r (slice_index_or before i (fresh 0))) (known_of base r (slice_index_or after i (fresh 0)))) same (serves i (fresh 0) inside) in
+          let started = subst (λ (k : KnownOfThreads). ServesAll connections (known_of base max_places k) (known_of base max_places (slice_index_or after i (fresh 0)))) from here in
+          subst (ServesAll connections (opened_as base i)) (sym to) started;
       history = closed.history;
       legal = ends.legal;
-      one = All-map (λ (k : Known). IsPrefix k.seen closed.history) (known_of max_places) after ends.extends;
+      one = All-map (λ (k : Known). IsPrefix k.seen closed.history) (known_of base max_places) after ends.extends;
     }
 
 -- the same of sessions that are lent as a slice, and come back as long as they were
-pub serves_closed : (workers connections room count len : ℕ) (items lent new : List KnownOfThreads) (closed : Ending) → room ≡ max_places
+pub serves_closed : (base : Option Database) (workers connections room count len : ℕ) (items lent new : List KnownOfThreads) (closed : Ending) → room ≡ max_places
     → items ≡ map fresh (range_with_len 0 count) → count ≡ workers → lent ≡ items → length lent ≡ len → length new ≡ length lent
-    → ServesEach room connections lent new → Ends (take len (new ++ drop (length new) items)) closed → ServesListener workers connections 0
-serves_closed workers connections room count len items lent new closed same opened counted is long kept serves ends =
+    → ServesEach base room connections lent new → Ends base (take len (new ++ drop (length new) items)) closed → ServesListener base workers connections 0
+serves_closed base workers connections room count len items lent new closed same opened counted is long kept serves ends =
     let all : take len (new ++ drop (length new) items) ≡ new = take-append-le len new (drop (length new) items) (omega (arith, long, kept)) ∙ take_all len new (omega (arith, long, kept)) in
     let begun : lent ≡ map fresh (range_with_len 0 workers) = is ∙ opened ∙ ap (λ (n : ℕ). map fresh (range_with_len 0 n)) counted in
-    inl (serves_sessions workers connections room lent new closed same begun kept serves (subst (λ (after : List KnownOfThreads). Ends after closed) all ends), refl)
+    inl (serves_sessions base workers connections room lent new closed same begun kept serves (subst (λ (after : List KnownOfThreads). Ends base after closed) all ends), refl)
 
 -- the first of the sessions of a database with one
 first_fresh : (items : List KnownOfThreads) (count : ℕ) (d : KnownOfThreads) → items ≡ map fresh (range_with_len 0 count) → count ≡ 1 → d ≡ slice_index_or items 0 d → d ≡ fresh 0
@@ -97,14 +98,14 @@ not_lost h k none =
     (λ no. no)
 
 -- the only session served a connection, and was closed
-pub serves_database : (before after : Streams) (room : ℕ) (old new : KnownOfThreads) (sessions : List KnownOfThreads) (ended : Ended) (closed : Ending) → room ≡ max_places → old ≡ fresh 0
-    → IsConnection before after (known_of room old) (known_of room new) ended → SeesOwn new → sessions ≡ new ∷ [] → Ends sessions closed → ServesDatabase before after ended closed
-serves_database before after room old new sessions ended closed same first connection owns one ends =
-    let here = subst (λ (r : ℕ). IsConnection before after (known_of r old) (known_of r new) ended) same connection in
-    let all : Ends (new ∷ []) closed = subst (λ (ks : List KnownOfThreads). Ends ks closed) one ends in
+pub serves_database : (base : Option Database) (before after : Streams) (room : ℕ) (old new : KnownOfThreads) (sessions : List KnownOfThreads) (ended : Ended) (closed : Ending) → room ≡ max_places → old ≡ fresh 0
+    → IsConnection before after (known_of base room old) (known_of base room new) ended → SeesOwn new → sessions ≡ new ∷ [] → Ends base sessions closed → ServesDatabase base before after ended closed
+serves_database base before after room old new sessions ended closed same first connection owns one ends =
+    let here = subst (λ (r : ℕ). IsConnection before after (known_of base r old) (known_of base r new) ended) same connection in
+    let all : Ends base (new ∷ []) closed = subst (λ (ks : List KnownOfThreads). Ends base ks closed) one ends in
     record {
-      final = known_of max_places new;
-      connection = subst (λ (k : KnownOfThreads). IsConnection before after (known_of max_places k) (known_of max_places new) ended) first here;
+      final = known_of base max_places new;
+      connection = subst (λ (k : KnownOfThreads). IsConnection before after (known_of base max_places k) (known_of base max_places new) ended) first here;
       legal = all.legal;
       extends = All-head (λ (k : KnownOfThreads). IsPrefix (seen_by k) closed.history) new [] all.extends;
       own = λ none. All-head (IsExact closed.history) new [] all.exact (not_lost closed.history new (sym all.lost ∙ none)) ∙ sym owns;

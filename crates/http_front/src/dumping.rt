@@ -1,5 +1,5 @@
 //! What the program does with its standard streams where the history is asked for.
-ghost use Rattle.std.specs.Prelude.{◌≡◌};
+ghost use Rattle.std.specs.Prelude.{◌≡◌, None};
 ghost use Rattle.serving.specs.Served.{Streams};
 ghost use Rattle.http_front.specs.Once.{max_places};
 ghost use Rattle.http_front.specs.Dumping.{DumpsOnce, WritesDump};
@@ -27,7 +27,7 @@ pub fn run_dump<R: Source, W: Sink, A: AllocGlobal + Wait + Clock>(
     writer: &mut W,
     rt: &A,
 ) -> u8
-    ensures { DumpsOnce
+    ensures { DumpsOnce None
         (record {
           left = R.left reader.old;
           failed_reads = R.failed_reads reader.old;
@@ -57,13 +57,14 @@ fn dump_opened<J: Opening, T: Wait + Drop, R: Source, W: Sink, A: AllocGlobal + 
     opened: Opened,
 ) -> u8
     requires book { opened.book ≡ J.book }
+    requires base { opened.base ≡ J.base }
     requires table { opened.queue.table ≡ J.table }
     requires capacity { opened.queue.capacity ≡ J.capacity }
     requires sessions { opened.queue.sessions ≡ J.sessions }
     requires max_places { opened.max_places ≡ J.max_places }
     requires one { opened.queue.sessions ≡ 1 }
     requires room { opened.max_places ≡ max_places }
-    ensures { DumpsOnce
+    ensures { DumpsOnce J.base
         (record {
           left = R.left reader.old;
           failed_reads = R.failed_reads reader.old;
@@ -99,7 +100,7 @@ fn write_dump<J: Opening, W: Sink>(
     status: u8,
 ) -> u8
     ensures { WritesDump (W.taken writer.old) (W.taken writer.new) (W.failed_writes writer.old)
-        (W.failed_writes writer.new) closed.now.history status result }
+        (W.failed_writes writer.new) (record { base = J.base; entries = closed.now.history }) status result }
 {
     let Ok(text) = dump_version(alloc, closed.version()) else {
         return NO_MEMORY;

@@ -1,5 +1,5 @@
 //! What the program does with its standard streams.
-ghost use Rattle.std.specs.Prelude.{◌≡◌, [], ◌∷◌, IfSome, IfNone};
+ghost use Rattle.std.specs.Prelude.{◌≡◌, [], ◌∷◌, IfSome, IfNone, None};
 ghost use Rattle.serving.specs.Served.{Streams};
 ghost use Rattle.sessions.specs.Known.{fresh};
 ghost use Rattle.http_front.specs.Once.{ServesDatabase, ServesOnce, exit_status, max_places};
@@ -35,7 +35,7 @@ pub fn run_once<R: Source, W: Sink, A: AllocGlobal + Wait + Clock>(
     writer: &mut W,
     rt: &A,
 ) -> u8
-    ensures { ServesOnce
+    ensures { ServesOnce None
         (record {
           left = R.left reader.old;
           failed_reads = R.failed_reads reader.old;
@@ -65,13 +65,14 @@ fn once_opened<J: Opening, T: Wait + Drop, R: Source, W: Sink, A: AllocGlobal + 
     opened: Opened,
 ) -> u8
     requires book { opened.book ≡ J.book }
+    requires base { opened.base ≡ J.base }
     requires table { opened.queue.table ≡ J.table }
     requires capacity { opened.queue.capacity ≡ J.capacity }
     requires sessions { opened.queue.sessions ≡ J.sessions }
     requires max_places { opened.max_places ≡ J.max_places }
     requires one { opened.queue.sessions ≡ 1 }
     requires room { opened.max_places ≡ max_places }
-    ensures { ServesOnce
+    ensures { ServesOnce J.base
         (record {
           left = R.left reader.old;
           failed_reads = R.failed_reads reader.old;
@@ -111,13 +112,14 @@ pub(crate) fn serve_opened<
     opened: Opened,
 ) -> Option<(Ended, Closed<J>)>
     requires book { opened.book ≡ J.book }
+    requires base { opened.base ≡ J.base }
     requires table { opened.queue.table ≡ J.table }
     requires capacity { opened.queue.capacity ≡ J.capacity }
     requires sessions { opened.queue.sessions ≡ J.sessions }
     requires max_places { opened.max_places ≡ J.max_places }
     requires one { opened.queue.sessions ≡ 1 }
     requires room { opened.max_places ≡ max_places }
-    ensures served { IfSome result (λ served. ServesDatabase
+    ensures served { IfSome result (λ served. ServesDatabase J.base
         (record {
           left = R.left reader.old;
           failed_reads = R.failed_reads reader.old;

@@ -1,5 +1,5 @@
 //! What the program does with a listener.
-ghost use Rattle.std.specs.Prelude.{◌≡◌, ◌≤◌};
+ghost use Rattle.std.specs.Prelude.{◌≡◌, ◌≤◌, None};
 ghost use Rattle.http_front.specs.Once.{max_places};
 ghost use Rattle.http_front.specs.Server.{ServesListener};
 
@@ -30,7 +30,7 @@ pub fn run_server<A: AllocGlobal + Threads + Wait + Clock + Sync>(
     rt: &A,
 ) -> u8
     requires workers { (1 ≤ workers) × (workers ≤ 64) }
-    ensures { ServesListener workers connections result }
+    ensures { ServesListener None workers connections result }
 {
     let Ok(opened) = Opened::new(rt.alloc(), config(workers)) else {
         return NOT_OPENED;
@@ -52,13 +52,14 @@ fn serve_opened<
     opened: Opened,
 ) -> u8
     requires book { opened.book ≡ J.book }
+    requires base { opened.base ≡ J.base }
     requires table { opened.queue.table ≡ J.table }
     requires capacity { opened.queue.capacity ≡ J.capacity }
     requires sessions { opened.queue.sessions ≡ J.sessions }
     requires max_places { opened.max_places ≡ J.max_places }
     requires workers { opened.queue.sessions ≡ workers }
     requires room { opened.max_places ≡ max_places }
-    ensures { ServesListener workers connections result }
+    ensures { ServesListener J.base workers connections result }
 {
     let Ok((master, mut sessions)) = open::<R, J, NoGate>(writer_rt, opened, NoGate) else {
         return NOT_OPENED;

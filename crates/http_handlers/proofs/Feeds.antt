@@ -12,7 +12,7 @@ use Rattle.streams.specs.Writes.{Writes}
 use Rattle.streams.specs.declared.traits.Failed.{Failed}
 use Rattle.model.specs.Query.{Row}
 use Rattle.model.specs.Database.{Database}
-use Rattle.model.specs.History.{IsLegal, now}
+use Rattle.model.specs.History.{IsLegal, now, base_of}
 use Rattle.model.specs.Changes.{last_seq_of, rows_since, wanted_by}
 use Rattle.model.specs.Told.{NoneFalls}
 use Rattle.http_response.specs.Feed.{feed_last_text}
@@ -56,7 +56,7 @@ pub record Going (old here : Known) (start state : Progress) (text : List ℕ) :
   pub places : NoneFalls (length old.seen) (places_of pieces ++ length here.seen ∷ [])
   pub said : text ≡ pieces_text pieces
 
-pub going-start : (k : Known) (start : Progress) → IsLegal k.base k.seen → Going k k start start []
+pub going-start : (k : Known) (start : Progress) → IsLegal (base_of k.base) k.seen → Going k k start start []
 going-start k start legal = record { looks = looks_itself k legal; pieces = []; runs = refl; places = (omega arith, tt); said = refl }
 
 module _ {old here : Known} {start state : Progress} {text : List ℕ} (going : Going old here start state text) where

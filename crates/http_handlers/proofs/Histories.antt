@@ -9,7 +9,7 @@ use Rattle.model.specs.Command.{Entry, Id, numbers}
 use Rattle.model.specs.declared.style.Style.{Style}
 use Rattle.model.specs.Changes.{row}
 use Rattle.model.specs.Database.{Database, Record, act, reply_to}
-use Rattle.model.specs.History.{IsLegal, now, of_session, replay}
+use Rattle.model.specs.History.{IsLegal, now, of_session, replay, base_of}
 use Rattle.model.specs.Told.{NoneFalls}
 use Rattle.model.proofs.TellLaws.{Tells-within}
 use Rattle.snapshots.specs.Version.{entry_at}
@@ -41,11 +41,11 @@ entry_there k zero entry told = absurd (omega (arith, told.0))
 entry_there k (suc n) entry told = let one : n ≡ suc n - 1 = omega arith in ap (slice_get k.seen) one ∙ told.1
 
 pub place_within : (k : Known) (place : ℕ) (entry : Entry) → HasEntryAt k place entry → place ≤ length k.seen
-place_within k place entry told = (Tells-within k.base k.seen entry.seat entry.command place entry.reply told).1
+place_within k place entry told = (Tells-within (base_of k.base) k.seen entry.seat entry.command place entry.reply told).1
 
 -- ---- looks
 
-pub looks_itself : (k : Known) → IsLegal k.base k.seen → Looks k k
+pub looks_itself : (k : Known) → IsLegal (base_of k.base) k.seen → Looks k k
 looks_itself k legal = record { legal = legal; more = []; extends = (λ i. record k { seen = sym (append-nil k.seen) i }); none = refl }
 
 pub looks_length : (old new : Known) → Looks old new → length old.seen ≤ length new.seen
@@ -66,11 +66,11 @@ looks_then a b c p q =
 
 -- what was seen is what is seen at its place
 pub database_seen : (k : Known) → now (history_of k) ≡ database_at k (length k.seen)
-database_seen k = ap (replay k.base) (sym (take_all (length k.seen) k.seen (omega arith)))
+database_seen k = ap (replay (base_of k.base)) (sym (take_all (length k.seen) k.seen (omega arith)))
 
 -- it stays
 pub database-more : (k : Known) (more : List Entry) (place : ℕ) → place ≤ length k.seen → database_at k place ≡ database_at (sees_more k more) place
-database-more k more place within = ap (replay k.base) (sym (take-append-le place k.seen more within))
+database-more k more place within = ap (replay (base_of k.base)) (sym (take-append-le place k.seen more within))
 
 pub database-append : (old new : Known) → Looks old new → (place : ℕ) → place ≤ length old.seen → database_at old place ≡ database_at new place
 database-append old new looks place within = database-more old looks.more place within ∙ ap (λ (k : Known). database_at k place) (sym looks.extends)

@@ -4,7 +4,7 @@ use Rattle.std.specs.Prelude.{IsSome, option_map}
 use Rattle.model.specs.Command.{Command, Edits, Merges, PutLocal, Purge, SetLimit, SetPurgedLimit, Compact, Reply, Entry}
 use Rattle.model.specs.Query.{Query, Get, OpenRevs, RevsDiff, Changes, AllDocuments, Info, GetLocal, RevsLimit, PurgedInfosLimit, Answer}
 use Rattle.model.specs.Database.{Database, reply_to}
-use Rattle.model.specs.History.{IsLegal}
+use Rattle.model.specs.History.{IsLegal, base_of}
 use Rattle.model.specs.Answers.{answer_to}
 use Rattle.http_request.specs.Forms.{IsFormOf}
 use Rattle.http_request.specs.declared.asked.Form.{Form}
@@ -58,9 +58,9 @@ answer-told d RevsLimit = refl
 answer-told d PurgedInfosLimit = refl
 
 -- the reply of an entry of a legal history, whose command is asked for in this form
-pub entry-told : (k : Known) (place : ℕ) (entry : Entry) (form : Form) → IsLegal k.base k.seen → HasEntryAt k place entry → IsFormOf form entry.command → IsSome (reply_told form entry.command entry.reply)
+pub entry-told : (k : Known) (place : ℕ) (entry : Entry) (form : Form) → IsLegal (base_of k.base) k.seen → HasEntryAt k place entry → IsFormOf form entry.command → IsSome (reply_told form entry.command entry.reply)
 entry-told k place entry form legal told fits =
-    let replied = legal_reply k.base k.seen (place - 1) entry legal told.1 in
+    let replied = legal_reply (base_of k.base) k.seen (place - 1) entry legal told.1 in
     subst (λ (reply : Reply). IsSome (reply_told form entry.command reply)) (sym replied.1) (reply-told replied.0 form entry.command fits)
 
 -- what has a text to tell has one

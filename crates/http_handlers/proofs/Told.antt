@@ -6,7 +6,7 @@ use Rattle.std.proofs.lemmas.List.{append-nil}
 use Rattle.model.specs.Command.{Entry}
 use Rattle.model.specs.Changes.{rows_since, wanted_by}
 use Rattle.model.specs.Database.{Database}
-use Rattle.model.specs.History.{IsLegal, of_session}
+use Rattle.model.specs.History.{IsLegal, of_session, base_of}
 use Rattle.model.specs.World.{WroteAt, Asked as AskedAt}
 use Rattle.model.specs.Told.{NoneFalls}
 use Rattle.model.proofs.TellLaws.{Tells-append}
@@ -27,7 +27,7 @@ module _ (k : Known) (more : List Entry) where
   written-append {place = place} {entry = entry} w = record {
     asked = w.asked;
     own = w.own;
-    told = Tells-append k.base k.seen more (WroteAt entry.seat entry.command place entry.reply) w.told;
+    told = Tells-append (base_of k.base) k.seen more (WroteAt entry.seat entry.command place entry.reply) w.told;
   }
 
   asks-append : {item : _} {first place : ℕ} {query : _} → first ≤ length k.seen → AsksQuery k item first place query → AsksQuery (sees_more k more) item first place query
@@ -42,7 +42,7 @@ module _ (k : Known) (more : List Entry) where
   read-append : {item : _} {first place : ℕ} {query : _} {answer : _} → first ≤ place → IsRead k item first place query answer → IsRead (sees_more k more) item first place query answer
   read-append {item = item} {first = first} {place = place} {query = query} {answer = answer} before r = record {
     asked = asks-append (omega (arith, before, r.told.0)) r.asked;
-    told = Tells-append k.base k.seen more (AskedAt k.number query place answer) r.told;
+    told = Tells-append (base_of k.base) k.seen more (AskedAt k.number query place answer) r.told;
   }
 
   gives-append : (before : Progress) (piece : Piece) (after : Progress) → GivesPiece k before piece after → GivesPiece (sees_more k more) before piece after
@@ -147,7 +147,7 @@ module _ {T N : Type 0} (known : T → Known) (name : T → N) where
   same_name old [] final same = sym (ap name same)
   same_name old (turn ∷ turns) final (new, answers, runs) = same_name new turns final runs ∙ answers.1
 
-  pub served_lent : (before after : Streams) (old final : T) (ended : Ended) → Served AnswersLent before after old final ended → IsLegal (known final).base (known final).seen
+  pub served_lent : (before after : Streams) (old final : T) (ended : Ended) → Served AnswersLent before after old final ended → IsLegal (base_of (known final).base) (known final).seen
       → IsConnection before after (known old) (known final) ended
   served_lent before after old final ended served legal =
       let turns = all_turns served.turns served.cut in

@@ -5,7 +5,7 @@ use Rattle.model.specs.Command.{Command, Entry}
 use Rattle.model.specs.Query.{Query}
 use Rattle.model.specs.Changes.{rows_since, wanted_by}
 use Rattle.model.specs.Database.{Database}
-use Rattle.model.specs.History.{now, replay, of_session}
+use Rattle.model.specs.History.{now, replay, of_session, base_of}
 use Rattle.model.specs.Answers.{answer_to}
 use Rattle.http_framing.specs.Request.{Request}
 use Rattle.http_framing.specs.Input.{Item, Requested, closes_connection}
@@ -13,10 +13,14 @@ use Rattle.http_request.specs.Decide.{decide}
 use Rattle.http_request.specs.declared.asked.Asked.{Asked as Asking}
 use Rattle.http_request.specs.declared.asked.Asked.TheVariants as asked
 use Rattle.http_request.specs.declared.asked.Form.{Form}
+use Rattle.http_request.specs.Extent.{extent_of}
+use Rattle.http_request.specs.declared.extent.Extent.{Extent}
+use Rattle.http_request.specs.declared.extent.Extent.TheVariants as extent
+use Rattle.http_request.proofs.WholeAnswers.{asked-whole}
 use Rattle.http_request.specs.declared.changes.ChangesAsked.{ChangesAsked}
 use Rattle.http_request.specs.declared.changes.Feed.{Feed}
 use Rattle.http_request.specs.declared.changes.Feed.TheVariants as feed
-use Rattle.http_response.specs.Texts.{reply_text, answer_text, unavailable_text}
+use Rattle.http_response.specs.Texts.{reply_text, answer_text, unavailable_text, no_memory_text}
 use Rattle.http_response.specs.declared.memory.MemoryFor.TheVariants as memory_for
 use Rattle.http_response.specs.declared.no_service.Unavailable.TheVariants as unavailable
 use Rattle.http_handlers.specs.Known.{Known, history_of, database_at}
@@ -29,6 +33,11 @@ use Rattle.http_handlers.specs.declared.calls.CallFault.{CallFault}
 use Rattle.http_handlers.specs.declared.calls.CallFault.TheVariants as fault
 use Rattle.http_handlers.specs.declared.response.Sent.{Sent}
 use Rattle.http_handlers.proofs.Histories.{of_session-append, falls_from, looks_length, place_within, database_seen, database_before}
+
+-- what asks a query takes the whole response
+query-whole : (k : Known) (request : Request) (first place : ℕ) (query : Query) → AsksQuery k (Requested request) first place query → extent_of request ≡ extent.Whole
+query-whole k request first place query (inl asks) = asked-whole request (asked.Query query) asks.1
+query-whole k request first place query (inr asks) = asked-whole request (asked.Changes asks.changes) asks.asked
 
 -- a turn after a look
 pub answers_after : (a b c : Known) (turn : _) → Looks a b → Answers b turn c → Answers a turn c
@@ -67,8 +76,10 @@ module _ (k : Known) (place : ℕ) (place_is : place ≡ length k.seen) (sent : 
   }
 
   -- memory was refused
-  pub answers_lost : (request : Request) → SaysLost place memory_for.Call sent → Answers k (turn_of (Requested request) sent) k
-  answers_lost request says = unchanged (Requested request) Memory refl refl place_is (tt, says.0, says.1)
+  pub answers_lost : (request : Request) (extent : Extent) → extent ≡ extent_of request → SaysLost place extent memory_for.Call sent
+      → Answers k (turn_of (Requested request) sent) k
+  answers_lost request extent is says =
+      unchanged (Requested request) Memory refl refl place_is (says.0 ∙ ap (λ (e : Extent). no_memory_text place e memory_for.Call) is, says.1)
 
   -- the text of a refusal, or of `/`
   pub answers_fixed : (item : Item) (text : List ℕ) → HasFixedText place item text → Sends text (closes_connection item) sent
@@ -77,18 +88,19 @@ module _ (k : Known) (place : ℕ) (place_is : place ≡ length k.seen) (sent : 
 
   module _ (request : Request) (closes : Bool) (closes_is : request.closes ≡ closes) where
     -- the text of what was decided, where that is a refusal or `/`
-    pub answers_decided : (decided : _) (text : List ℕ) → decided ≡ decide request → IsFixedText place closes decided text
+    pub answers_decided : (decided : _) (text : List ℕ) → decided ≡ decide request → IsFixedText place closes (extent_of request) decided text
         → Sends text closes sent → Answers k (turn_of (Requested request) sent) k
     answers_decided decided text is fixed sends =
         answers_fixed (Requested request) text
-        (subst (λ (c : Bool). IsFixedText place c (decide request) text) (sym closes_is) (subst (λ d. IsFixedText place closes d text) is fixed))
+        (subst (λ (c : Bool). IsFixedText place c (extent_of request) (decide request) text) (sym closes_is)
+        (subst (λ d. IsFixedText place closes (extent_of request) d text) is fixed))
         (sends.0, sends.1 ∙ sym closes_is)
 
     -- the call has no answer
     says_fault : (asking : Asking) → decide request ≡ Ok asking → (why : CallFault) → FailsFor (CanFail asking) why
         → (why ≡ fault.Unavailable unavailable.Full → length k.seen ≡ k.room)
         → SaysFault place closes why sent → Answers k (turn_of (Requested request) sent) k
-    says_fault asking asks fault.Memory can full says = answers_lost request says
+    says_fault asking asks fault.Memory can full says = answers_lost request extent.Whole (sym (asked-whole request asking asks)) says
     says_fault asking asks (fault.Unavailable why) can full says =
         unchanged (Requested request) (Failed why) refl refl place_is (
           record { asking = asking; asked = asks; fails = can; full = λ is. place_is ∙ full (ap fault.Unavailable is) },
@@ -116,7 +128,7 @@ module _ (old new : Known) (sent : Sent) (request : Request) (closes : Bool) (cl
       record {
         placed = record { place = place; outcome = Read first query answer; seen = new.seen };
         told = (
-          record { asked = asks; told = (omega arith, ap (λ (es : List Entry). answer_to (replay new.base es) query) (sym all)) },
+          record { asked = asks; told = (omega arith, ap (λ (es : List Entry). answer_to (replay (base_of new.base) es) query) (sym all)) },
           sends.0 ∙ ap (λ (c : Bool). answer_text place (after_closing c) query answer) (sym sends.1),
           sends.1 ∙ sym closes_is,
         );
@@ -129,7 +141,7 @@ module _ (old new : Known) (sent : Sent) (request : Request) (closes : Bool) (cl
         };
         new_is = looks.extends ∙ (λ i. record old { seen = sym (ap (λ (k : Known). k.seen) looks.extends) i });
       }
-  answers_query looks first from to query asks (inr says) = answers_after old new new _ looks (answers_lost new (length new.seen) refl sent request says)
+  answers_query looks first from to query asks (inr says) = answers_after old new new _ looks (answers_lost new (length new.seen) refl sent request extent.Whole (sym (query-whole new request first (length new.seen) query asks)) says)
 
   -- the answer to a query by what was seen last
   pub answers_asked : Looks old new → (query : Query) → decide request ≡ Ok (asked.Query query)

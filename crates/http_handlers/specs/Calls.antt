@@ -1,7 +1,7 @@
 -- What the calls of a session do.
 use Rattle.std.specs.Prelude.{◌≡◌, ℕ, ◌<◌, List, [], ◌∷◌, length, Bool, true, false, ⊤}
 use Rattle.model.specs.Command.{Command, Entry}
-use Rattle.model.specs.History.{IsLegal, of_session}
+use Rattle.model.specs.History.{IsLegal, of_session, base_of}
 use Rattle.model.specs.World.{is_compact}
 use Rattle.http_response.specs.declared.no_service.Unavailable.{Unavailable}
 use Rattle.http_response.specs.declared.no_service.Unavailable.TheVariants as unavailable
@@ -11,7 +11,7 @@ use Rattle.http_handlers.specs.declared.calls.CallFault.TheVariants as fault
 
 -- A look: a legal history is seen, which goes on from what was seen, with no new entry of the session's own.
 pub record Looks (old new : Known) : Type 0 where
-  pub legal : IsLegal new.base new.seen
+  pub legal : IsLegal (base_of new.base) new.seen
   pub more : List Entry
   pub extends : new ≡ sees_more old more
   pub none : of_session old.number more ≡ []
@@ -19,7 +19,7 @@ pub record Looks (old new : Known) : Type 0 where
 -- A command was written: a legal history is seen, which goes on from what was seen, has the command's entry at the
 -- place, and no other new entry of the session's own.
 pub record WritesCall (old : Known) (command : Command) (place : ℕ) (new : Known) : Type 0 where
-  pub legal : IsLegal new.base new.seen
+  pub legal : IsLegal (base_of new.base) new.seen
   pub more : List Entry
   pub extends : new ≡ sees_more old more
   pub entry : Entry

@@ -7,7 +7,7 @@ use Rattle.serving.specs.Turn.{Turn, all_turns, items_of, responses_of}
 use Rattle.serving.specs.Served.{Streams, IsPartOf, EndsBy, CountsReads, CountsWrites}
 use Rattle.serving.specs.declared.outcome.Ended.{Ended}
 use Rattle.model.specs.Command.{Entry}
-use Rattle.model.specs.History.{IsLegal, of_session}
+use Rattle.model.specs.History.{IsLegal, of_session, base_of}
 use Rattle.model.specs.Told.{NoneFalls}
 use Rattle.http_handlers.specs.Known.{Known, sees_more}
 use Rattle.http_handlers.specs.Outcome.{Placed, IsToldAt, places_spoken, written}
@@ -40,7 +40,7 @@ pub record IsConnection (before after : Streams) (old final : Known) (ended : En
   pub splits : Splits read (items_of (all_turns turns cut)) rest
   -- each text is told by the final history
   pub told : AllZip (IsToldAt final) (all_turns turns cut) outcomes
-  pub legal : IsLegal final.base final.seen
+  pub legal : IsLegal (base_of final.base) final.seen
   pub extends : final ≡ sees_more old more
   -- the session's new entries are those of the responses
   pub entries : of_session old.number more ≡ entries_written outcomes

@@ -5,11 +5,15 @@ use Rattle.model.specs.Command.{Entry}
 use Rattle.model.specs.Query.{Query, Answer}
 use Rattle.model.specs.World.{Asked as AskedAt}
 use Rattle.model.specs.Told.{Tells}
+use Rattle.model.specs.History.{base_of}
 use Rattle.http_framing.specs.Input.{Item, Requested, Refused, closes_connection}
 use Rattle.http_request.specs.Decide.{decide}
 use Rattle.http_request.specs.declared.asked.Asked.{Asked as Asking}
 use Rattle.http_request.specs.declared.asked.Asked.TheVariants as asked
 use Rattle.http_request.specs.declared.asked.Form.{Form}
+use Rattle.http_request.specs.Extent.{extent_of}
+use Rattle.http_request.specs.declared.extent.Extent.{Extent}
+use Rattle.http_request.specs.declared.extent.Extent.TheVariants as extent
 use Rattle.http_request.specs.declared.changes.ChangesAsked.{ChangesAsked}
 use Rattle.http_request.specs.declared.changes.Feed.TheVariants as feed
 use Rattle.http_request.specs.declared.rejection.Rejection.{Rejection}
@@ -80,11 +84,6 @@ NamesSeen (Fed pieces ending) place seen = ⊤
 NamesSeen Memory place seen = place ≡ length seen
 NamesSeen (Failed why) place seen = place ≡ length seen
 
--- the item is a request
-abbrev pub IsRequest : Item → Type 0
-IsRequest (Requested request) = ⊤
-IsRequest (Refused fault) = ⊥
-
 -- the item is a request that asks this
 abbrev pub Asks : Item → Asking → Type 0
 Asks (Requested request) asking = decide request ≡ Ok asking
@@ -101,18 +100,23 @@ CanFail (asked.Changes changes) why = LookFails why
 abbrev pub after_closing : Bool → After
 after_closing closes = if closes then after.Close else after.Open
 
--- the text is that of a refusal, or of `/`
-abbrev pub IsFixedText : ℕ → Bool → Result Asking Rejection → List ℕ → Type 0
-IsFixedText place closes (Err refusal) text = text ≡ refusal_text place (after_closing closes) refusal
-IsFixedText place closes (Ok asked.Welcome) text = text ≡ welcome_text place (after_closing closes)
-IsFixedText place closes (Ok (asked.Command form command)) text = ⊥
-IsFixedText place closes (Ok (asked.Query query)) text = ⊥
-IsFixedText place closes (Ok (asked.Changes changes)) text = ⊥
+-- the text is that of a refusal, as far as the request takes it, or of `/`
+abbrev pub IsFixedText : ℕ → Bool → Extent → Result Asking Rejection → List ℕ → Type 0
+IsFixedText place closes extent (Err refusal) text = text ≡ refusal_text place (after_closing closes) extent refusal
+IsFixedText place closes extent (Ok asked.Welcome) text = text ≡ welcome_text place (after_closing closes)
+IsFixedText place closes extent (Ok (asked.Command form command)) text = ⊥
+IsFixedText place closes extent (Ok (asked.Query query)) text = ⊥
+IsFixedText place closes extent (Ok (asked.Changes changes)) text = ⊥
 
 -- the text is the one that is fixed for the item at this place
 abbrev pub HasFixedText : ℕ → Item → List ℕ → Type 0
-HasFixedText place (Requested request) text = IsFixedText place request.closes (decide request) text
+HasFixedText place (Requested request) text = IsFixedText place request.closes (extent_of request) (decide request) text
 HasFixedText place (Refused fault) text = text ≡ closing_text place fault
+
+-- the item is a request, and the text says that memory for it was refused, as far as the request takes that
+abbrev pub SaysNoMemory : ℕ → Item → List ℕ → Type 0
+SaysNoMemory place (Requested request) text = text ≡ no_memory_text place (extent_of request) memory_for.Call
+SaysNoMemory place (Refused fault) text = ⊥
 
 -- a full history has as many entries as there is room for
 abbrev pub IsFullAt : Known → ℕ → Unavailable → Type 0
@@ -140,7 +144,7 @@ module _ (k : Known) where
   -- the item asks for a query of the first entries, as many as the place says, which they answer so
   pub record IsRead (item : Item) (first place : ℕ) (query : Query) (answer : Answer) : Type 0 where
     pub asked : AsksQuery item first place query
-    pub told : Tells k.base k.seen (AskedAt k.number query place answer)
+    pub told : Tells (base_of k.base) k.seen (AskedAt k.number query place answer)
 
   -- The item is a request for a feed that goes on: its head names the place where it begins, and then come its pieces.
   pub record IsFed (item : Item) (place : ℕ) (pieces : List Piece) (ending : Option Ending) (text : List ℕ) : Type 0 where
@@ -168,13 +172,15 @@ module _ (k : Known) where
       × (Some turn.text ≡ reply_text place (after_closing turn.closes) form entry.command entry.reply)
       × (turn.closes ≡ closes_connection turn.item)
   TellsAt turn place (WroteUntold form entry) =
-      IsWritten turn.item place form entry × (turn.text ≡ no_memory_text place memory_for.Reply) × (turn.closes ≡ true)
+      IsWritten turn.item place form entry
+      × (turn.text ≡ no_memory_text place extent.Whole memory_for.Reply)
+      × (turn.closes ≡ true)
   TellsAt turn place (Read first query answer) =
       IsRead turn.item first place query answer
       × (Some turn.text ≡ answer_text place (after_closing turn.closes) query answer)
       × (turn.closes ≡ closes_connection turn.item)
   TellsAt turn place (Fed pieces ending) = IsFed turn.item place pieces ending turn.text × (turn.closes ≡ true)
-  TellsAt turn place Memory = IsRequest turn.item × (turn.text ≡ no_memory_text place memory_for.Call) × (turn.closes ≡ true)
+  TellsAt turn place Memory = SaysNoMemory place turn.item turn.text × (turn.closes ≡ true)
   TellsAt turn place (Failed why) =
       IsNotTaken turn.item place why
       × (turn.text ≡ unavailable_text place (after_closing turn.closes) why)

@@ -1,6 +1,6 @@
 -- Sessions on threads, as connections see them.
-use Rattle.std.specs.Prelude.{ℕ}
-use Rattle.publications.specs.Histories.{opening_base}
+use Rattle.std.specs.Prelude.{ℕ, Option}
+use Rattle.model.specs.Database.{Database}
 use Rattle.sessions.specs.Known.{Known as KnownOfThreads, seen}
 use Rattle.sessions.specs.declared.fault.Fault.{Fault}
 use Rattle.sessions.specs.declared.fault.Fault.TheVariants as of_threads
@@ -9,9 +9,9 @@ use Rattle.http_handlers.specs.Known.{Known}
 use Rattle.http_handlers.specs.declared.calls.CallFault.{CallFault}
 use Rattle.http_handlers.specs.declared.calls.CallFault.TheVariants as fault
 
--- what such a session knows, where the history has room for so many entries
-abbrev pub known_of : ℕ → KnownOfThreads → Known
-known_of room k = record { number = k.number; base = opening_base; room = room; seen = seen k }
+-- what such a session knows of a history over this base, which has room for so many entries
+abbrev pub known_of : Option Database → ℕ → KnownOfThreads → Known
+known_of base room k = record { number = k.number; base = base; room = room; seen = seen k }
 
 abbrev pub call_fault : Fault → CallFault
 call_fault of_threads.Memory = fault.Memory

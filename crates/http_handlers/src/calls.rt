@@ -3,7 +3,7 @@ ghost use Rattle.http_handlers.specs.Known.{Known, history_of};
 ghost use Rattle.http_handlers.specs.Calls.{CommandFails, FailsFor, LookFails, Looks, WritesCall};
 ghost use Rattle.http_handlers.specs.declared.calls.CallFault.TheVariants as fault;
 ghost use Rattle.http_response.specs.declared.no_service.Unavailable.TheVariants as unavailable;
-ghost use Rattle.model.specs.History.{IsLegal, now};
+ghost use Rattle.model.specs.History.{IsLegal, now, base_of};
 ghost use Rattle.std.specs.Prelude.{◌≡◌, ◌≢◌, length, nat_lt, Err, IfOk, IfErr, OnErr};
 
 use commands::Command;
@@ -28,7 +28,7 @@ pub trait Viewer {
     /// The number of entries that were seen.
     fn place(&self) -> u64
         ensures place { result ≡ length (known self.now).seen }
-        ensures legal { IsLegal (known self.now).base (known self.now).seen };
+        ensures legal { IsLegal (base_of (known self.now).base) (known self.now).seen };
 
     /// The version that was seen.
     fn version(&self) -> &Version

@@ -4,6 +4,7 @@ ghost use Rattle.http_handlers.specs.Response.{SaysFault};
 
 use crate::calls::{CallFault, Viewer};
 use crate::response::{Sent, connection_after};
+use http_request::Extent;
 use http_response::{MemoryFor, service_unavailable};
 
 /// Says why a call has no answer.
@@ -12,7 +13,7 @@ pub(crate) fn fail<S: Viewer>(session: &S, fault: CallFault, closes: bool) -> Se
 {
     let place = session.place();
     match fault {
-        CallFault::Memory => Sent::no_memory(place, MemoryFor::Call),
+        CallFault::Memory => Sent::no_memory(place, Extent::Whole, MemoryFor::Call),
         CallFault::Unavailable(why) => Sent {
             response: service_unavailable(place, connection_after(closes), why),
             closes,

@@ -21,7 +21,7 @@ use crate::response::{Sent, connection_after};
 use crate::setting::Setting;
 use crate::waiting::{has_changes, wait_for_changes};
 use changes_feed::answer;
-use http_request::{Asked, ChangesAsked, Feed, Since};
+use http_request::{Asked, ChangesAsked, Extent, Feed, Since};
 use http_response::{Connection, MemoryFor, Response};
 use queries::{Answer, Query, QueryKind};
 use std::alloc::{AllocError, Global};
@@ -158,7 +158,7 @@ fn read_seen<S: Viewer>(session: &S, alloc: Global, query: &Query, closes: bool)
 {
     let place = session.place();
     let Ok(found) = answer(alloc, session.version(), query) else {
-        return Sent::no_memory(place, MemoryFor::Call);
+        return Sent::no_memory(place, Extent::Whole, MemoryFor::Call);
     };
     let response = answer_with(alloc, place, connection_after(closes), query, &found);
     Sent::made(response, closes, place, MemoryFor::Call)

@@ -5,7 +5,7 @@ ghost use Rattle.streams.specs.Writes.{Writes};
 ghost use Rattle.http_handlers.specs.Outcome.{after_closing};
 ghost use Rattle.http_handlers.specs.Response.{SaysLost, SendsDue};
 
-use http_request::ChangesAsked;
+use http_request::{ChangesAsked, Extent};
 use http_response::{Connection, MemoryFor, Response, no_memory};
 use serving::write_response;
 use std::alloc::AllocError;
@@ -28,12 +28,13 @@ pub(crate) enum Reply {
 }
 
 impl Sent {
-    /// Says that memory was refused, after which the connection closes.
-    pub(crate) fn no_memory(place: u64, wanted: MemoryFor) -> Sent
-        ensures { SaysLost place wanted result }
+    /// Says that memory was refused, as far as the request takes that, after which the connection
+    /// closes.
+    pub(crate) fn no_memory(place: u64, extent: Extent, wanted: MemoryFor) -> Sent
+        ensures { SaysLost place extent wanted result }
     {
         Sent {
-            response: no_memory(place, wanted),
+            response: no_memory(place, extent, wanted),
             closes: true,
         }
     }
@@ -50,7 +51,7 @@ impl Sent {
     {
         match response {
             Ok(response) => Sent { response, closes },
-            Err(_) => Sent::no_memory(place, wanted),
+            Err(_) => Sent::no_memory(place, Extent::Whole, wanted),
         }
     }
 }

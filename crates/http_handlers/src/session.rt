@@ -16,7 +16,7 @@ use std::time::Clock;
 use updating::{Core, Gate, Opening};
 
 impl<C: Drop, J: Opening, G: Drop> Viewer for Session<C, J, G> {
-    ghost known = { λ s. known_of J.max_places s };
+    ghost known = { λ s. known_of J.base J.max_places s };
 
     fn place(&self) -> u64 {
         self.place()
@@ -59,13 +59,13 @@ fn edit<R: Wait + Drop, J: Opening, G: Gate + Drop, X: Wait>(
     rt: &X,
     command: Command,
 ) -> Result<u64, CallFault>
-    ensures written { IfOk result (λ place. WritesCall (known_of J.max_places session.old)
-        command place (known_of J.max_places session.new)) }
-    ensures none { OnErr result (Looks (known_of J.max_places session.old)
-        (known_of J.max_places session.new)) }
+    ensures written { IfOk result (λ place. WritesCall (known_of J.base J.max_places session.old)
+        command place (known_of J.base J.max_places session.new)) }
+    ensures none { OnErr result (Looks (known_of J.base J.max_places session.old)
+        (known_of J.base J.max_places session.new)) }
     ensures fault { IfErr result (FailsFor EditFails) }
     ensures full { result ≡ Err (fault.Unavailable unavailable.Full)
-        → length (known_of J.max_places session.new).seen ≡ J.max_places }
+        → length (known_of J.base J.max_places session.new).seen ≡ J.max_places }
 {
     let _place = session.place();
     match session.write(rt, command) {
@@ -79,13 +79,13 @@ fn compact<R: Wait + Drop, J: Opening, G: Gate + Drop, X: Wait>(
     session: &mut Session<Core<R, J>, J, G>,
     rt: &X,
 ) -> Result<u64, CallFault>
-    ensures written { IfOk result (λ place. WritesCall (known_of J.max_places session.old)
-        Compact place (known_of J.max_places session.new)) }
-    ensures none { OnErr result (Looks (known_of J.max_places session.old)
-        (known_of J.max_places session.new)) }
+    ensures written { IfOk result (λ place. WritesCall (known_of J.base J.max_places session.old)
+        Compact place (known_of J.base J.max_places session.new)) }
+    ensures none { OnErr result (Looks (known_of J.base J.max_places session.old)
+        (known_of J.base J.max_places session.new)) }
     ensures fault { IfErr result (FailsFor CompactionFails) }
     ensures full { result ≡ Err (fault.Unavailable unavailable.Full)
-        → length (known_of J.max_places session.new).seen ≡ J.max_places }
+        → length (known_of J.base J.max_places session.new).seen ≡ J.max_places }
 {
     let _place = session.place();
     match session.compact(rt) {

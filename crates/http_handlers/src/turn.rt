@@ -15,7 +15,7 @@ use crate::setting::Setting;
 use crate::writing::write;
 use http_framing::FramingFault;
 use http_framing::request::Request;
-use http_request::{Asked, ChangesAsked, Feed, read_request};
+use http_request::{Asked, ChangesAsked, Feed, extent_of, read_request};
 use http_response::{MemoryFor, closing, refused, welcome};
 
 /// Does what a request asks, and answers it.
@@ -28,13 +28,14 @@ pub(crate) fn respond<X, S: Calls<X>>(
 {
     let place = session.place();
     let closes = request.closes();
+    let extent = extent_of(request);
     let Ok(asked) = read_request(setting.alloc, &setting.routes, request) else {
-        return Reply::Sent(Sent::no_memory(place, MemoryFor::Call));
+        return Reply::Sent(Sent::no_memory(place, extent, MemoryFor::Call));
     };
     match asked {
         Ok(asked) => carry_out(session, setting, asked, closes),
         Err(refusal) => {
-            let response = refused(place, connection_after(closes), refusal);
+            let response = refused(place, connection_after(closes), extent, refusal);
             Reply::Sent(Sent { response, closes })
         }
     }

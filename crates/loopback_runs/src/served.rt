@@ -103,6 +103,7 @@ fn worked<
     opened: Opened,
 ) -> Option<io::Result<String>>
     requires book { opened.book ≡ J.book }
+    requires base { opened.base ≡ J.base }
     requires table { opened.queue.table ≡ J.table }
     requires capacity { opened.queue.capacity ≡ J.capacity }
     requires sessions { opened.queue.sessions ≡ J.sessions }

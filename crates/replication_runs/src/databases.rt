@@ -50,6 +50,7 @@ fn tell_from<J: Opening, T: Wait + Drop, R: Wait + Clock + Print + AllocGlobal +
     source: Opened,
 ) -> io::Result<()>
     requires book { source.book ≡ J.book }
+    requires base { source.base ≡ J.base }
     requires table { source.queue.table ≡ J.table }
     requires capacity { source.queue.capacity ≡ J.capacity }
     requires sessions { source.queue.sessions ≡ J.sessions }
@@ -68,6 +69,7 @@ fn tell_between<
     S: Calls<R> + Drop,
 >(rt: &R, target_rt: T, case: Case, source: S, target: Opened) -> io::Result<()>
     requires book { target.book ≡ J.book }
+    requires base { target.base ≡ J.base }
     requires table { target.queue.table ≡ J.table }
     requires capacity { target.queue.capacity ≡ J.capacity }
     requires sessions { target.queue.sessions ≡ J.sessions }
@@ -113,6 +115,7 @@ fn session_of<J: Opening, T: Wait + Drop>(
     opened: Opened,
 ) -> Result<Session<Core<T, J>, J, NoGate>, AllocError>
     requires book { opened.book ≡ J.book }
+    requires base { opened.base ≡ J.base }
     requires table { opened.queue.table ≡ J.table }
     requires capacity { opened.queue.capacity ≡ J.capacity }
     requires sessions { opened.queue.sessions ≡ J.sessions }

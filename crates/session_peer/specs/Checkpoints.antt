@@ -1,5 +1,5 @@
 -- Checkpoints, as local documents.
-use Rattle.std.specs.Prelude.{ℕ, ◌^◌, Option, Some, option_and_then, option_map, codes}
+use Rattle.std.specs.Prelude.{ℕ, ◌^◌, Option, option_and_then, option_map, codes}
 use Rattle.serde_json.specs.Data.{unsigned, number, no_members, member, object}
 use Rattle.serde_json.specs.Find.{as_number, as_u64, get}
 use Rattle.model.specs.Body.{Body}

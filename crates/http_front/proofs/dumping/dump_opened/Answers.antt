@@ -9,7 +9,7 @@ returns g c =
       ended = _;
       end = _;
       served = c.in-Some.ensures.served;
-      written = subst (λ (n : ℕ). WritesDump (g.W.Sink.taken c.args.writer.now) (g.W.Sink.taken c.write_dump.new.writer) (g.W.Sink.failed_writes c.args.writer.now) (g.W.Sink.failed_writes c.write_dump.new.writer) c.in-Some.closed.history n c.write_dump.result) c.exit_status.ensures c.write_dump.ensures;
+      written = subst (λ (n : ℕ). WritesDump (g.W.Sink.taken c.args.writer.now) (g.W.Sink.taken c.write_dump.new.writer) (g.W.Sink.failed_writes c.args.writer.now) (g.W.Sink.failed_writes c.write_dump.new.writer) (record { base = g.J.Naming.base; entries = c.in-Some.closed.history }) n c.write_dump.result) c.exit_status.ensures c.write_dump.ensures;
     })
 
 pub returns-in_default : goal.returns-in_default

@@ -1,8 +1,9 @@
+use Rattle.std.specs.Prelude.{None}
 use Rattle.http_front.proofs.dumping.run_dump.Given as goal
 
--- the database that was just opened
+-- the database that was just opened, in its first epoch
 abbrev pub ghosts-dump_opened-J-Naming : goal.ghosts-dump_opened-J-Naming
-ghosts-dump_opened-J-Naming g a = record { book = a.opened.book }
+ghosts-dump_opened-J-Naming g a = record { book = a.opened.book; base = None }
 
 abbrev pub ghosts-dump_opened-J-Queued : goal.ghosts-dump_opened-J-Queued
 ghosts-dump_opened-J-Queued g a = record { table = a.opened.queue.table; capacity = a.opened.queue.capacity; sessions = a.opened.queue.sessions }

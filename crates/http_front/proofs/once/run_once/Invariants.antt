@@ -1,8 +1,9 @@
+use Rattle.std.specs.Prelude.{None}
 use Rattle.http_front.proofs.once.run_once.Given as goal
 
--- the database that was just opened
+-- the database that was just opened, in its first epoch
 abbrev pub ghosts-once_opened-J-Naming : goal.ghosts-once_opened-J-Naming
-ghosts-once_opened-J-Naming g a = record { book = a.opened.book }
+ghosts-once_opened-J-Naming g a = record { book = a.opened.book; base = None }
 
 abbrev pub ghosts-once_opened-J-Queued : goal.ghosts-once_opened-J-Queued
 ghosts-once_opened-J-Queued g a = record { table = a.opened.queue.table; capacity = a.opened.queue.capacity; sessions = a.opened.queue.sessions }

@@ -17,5 +17,5 @@ close-closed-requires g c =
 pub returns : goal.returns
 returns g c =
     let lent = c.as_mut_slice in
-    serves_closed _ _ _ _ c.in-Ok.sessions.len c.in-Ok.sessions.items lent.result.now _ _ (sym c.requires.max_places ∙ c.requires.room) c.in-Ok.ensures.sessions c.requires.workers lent.ensures.value lent.ensures.len
+    serves_closed g.J.Naming.base _ _ _ _ c.in-Ok.sessions.len c.in-Ok.sessions.items lent.result.now _ _ (sym c.requires.max_places ∙ c.requires.room) c.in-Ok.ensures.sessions c.requires.workers lent.ensures.value lent.ensures.len
     c.listen.ensures.same_number c.listen.ensures.each c.close-closed.ensures.end

@@ -3,8 +3,10 @@ use Rattle.std.specs.Prelude.{IfOk}
 use Rattle.http_request.specs.Rejections.{Decided}
 use Rattle.http_request.specs.Forms.{HasForm}
 use Rattle.http_request.specs.declared.asked.Asked.{Asked}
+use Rattle.http_request.specs.declared.extent.Extent.{Extent}
 use Rattle.http_request.proofs.Forms.{decided-fits}
 use Rattle.http_response.specs.Texts.{refusal_text}
+use Rattle.http_handlers.specs.Outcome.{after_closing}
 use Rattle.http_response.specs.declared.connection.Connection.{Connection}
 use Rattle.http_handlers.proofs.Turns.{answers_decided, answers_lost}
 use Rattle.http_handlers.proofs.turn.respond.Goals as goal
@@ -14,12 +16,16 @@ carry_out-requires g c =
     subst (λ (decided : Decided Asked). IfOk decided HasForm) (sym (sym c.in-Ok-asked.is ∙ c.in-Ok.ensures.decides)) (decided-fits c.args.request.now)
 
 pub returns-in_default : goal.returns-in_default
-returns-in_default g c = answers_lost _ _ c.place-place.ensures.place _ c.args.request.now c.no_memory.ensures
+returns-in_default g c = answers_lost _ _ c.place-place.ensures.place _ c.args.request.now c.extent_of-extent.result c.extent_of-extent.ensures c.no_memory.ensures
 
 pub returns-in-Err : goal.returns-in-Err
 returns-in-Err g c =
     let place = c.place-place.result in
     let closes = c.closes-closes.result in
     answers_decided _ place c.place-place.ensures.place _ c.args.request.now closes (sym c.closes-closes.ensures) (Err c.in-Err.refusal) _
-    (sym c.in-Err.is ∙ c.in-Ok.ensures.decides) refl
-    (c.refused-response.ensures.text ∙ ap (λ (k : Connection). refusal_text place k c.in-Err.refusal) c.connection_after.ensures, refl)
+    (sym c.in-Err.is ∙ c.in-Ok.ensures.decides) refl (
+      c.refused-response.ensures.text
+          ∙ ap (λ (k : Connection). refusal_text place k c.extent_of-extent.result c.in-Err.refusal) c.connection_after.ensures
+          ∙ ap (λ (e : Extent). refusal_text place (after_closing closes) e c.in-Err.refusal) c.extent_of-extent.ensures,
+      refl,
+    )

@@ -2,7 +2,7 @@ use Rattle.loopback_runs.proofs.served.with_sessions.Given as goal
 
 -- the database that was just opened
 abbrev pub ghosts-worked-J-Naming : goal.ghosts-worked-J-Naming
-ghosts-worked-J-Naming g a = record { book = a.opened.book }
+ghosts-worked-J-Naming g a = record { book = a.opened.book; base = a.opened.base }
 
 abbrev pub ghosts-worked-J-Queued : goal.ghosts-worked-J-Queued
 ghosts-worked-J-Queued g a = record { table = a.opened.queue.table; capacity = a.opened.queue.capacity; sessions = a.opened.queue.sessions }

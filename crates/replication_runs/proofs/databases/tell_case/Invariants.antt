@@ -2,7 +2,7 @@ use Rattle.replication_runs.proofs.databases.tell_case.Given as goal
 
 -- the database that was just opened, as the source
 abbrev pub ghosts-tell_from-J-Naming : goal.ghosts-tell_from-J-Naming
-ghosts-tell_from-J-Naming g a = record { book = a.source.book }
+ghosts-tell_from-J-Naming g a = record { book = a.source.book; base = a.source.base }
 
 abbrev pub ghosts-tell_from-J-Queued : goal.ghosts-tell_from-J-Queued
 ghosts-tell_from-J-Queued g a = record { table = a.source.queue.table; capacity = a.source.queue.capacity; sessions = a.source.queue.sessions }

@@ -2,7 +2,7 @@ use Rattle.replication_runs.proofs.databases.tell_from.Given as goal
 
 -- the database that was just opened, as the target
 abbrev pub ghosts-tell_between-J-Naming : goal.ghosts-tell_between-J-Naming
-ghosts-tell_between-J-Naming g a = record { book = a.target.book }
+ghosts-tell_between-J-Naming g a = record { book = a.target.book; base = a.target.base }
 
 abbrev pub ghosts-tell_between-J-Queued : goal.ghosts-tell_between-J-Queued
 ghosts-tell_between-J-Queued g a = record { table = a.target.queue.table; capacity = a.target.queue.capacity; sessions = a.target.queue.sessions }

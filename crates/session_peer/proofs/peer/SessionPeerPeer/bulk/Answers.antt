@@ -1,6 +1,5 @@
 use Rattle.std.proofs.Common.{rules, ◌≡◌, true, false, sym, ◌∙◌, inl}
 use Rattle.model.specs.Command.{Merges}
-use Rattle.session_peer.specs.Commands.{are_taken}
 use Rattle.session_peer.proofs.Replied.{writes}
 use Rattle.session_peer.proofs.peer.SessionPeerPeer.bulk.Goals as goal
 
