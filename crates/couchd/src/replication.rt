@@ -10,8 +10,9 @@ use std::net::{SocketAddr, TcpStream};
 use std::process::ExitCode;
 use streams::{Stream, set_up};
 
-/// Tells of each batch by a line on standard error, where that is a terminal.
-#[derive(Drop)]
+/// Tells of each batch by a line on standard error, where that is a terminal, and there in any case what
+/// keeps the replication from going on.
+#[derive(Clone, Copy, Drop)]
 struct Lines<'r> {
     rt: &'r HostRuntime,
     shown: bool,
@@ -24,6 +25,19 @@ impl Watch for Lines<'_> {
                 "checkpoint {last_seq}: documents read {documents_read}"
             );
         }
+    }
+
+    fn large_document(&self, id: &DocId, len: usize) {
+        let id = id.as_str();
+        let _printed = eprintln!(self.rt;
+            "couchd: no bulk can hold the document {id:?}, which has {len} bytes"
+        );
+    }
+
+    fn past_end(&self, since: u64, last_seq: u64) {
+        let _printed = eprintln!(self.rt;
+            "couchd: the checkpoint at {since} is past the source's end, which is at {last_seq}"
+        );
     }
 }
 

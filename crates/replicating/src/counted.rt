@@ -1,8 +1,9 @@
-//! An end that counts the documents that pass it.
+//! An end that counts the documents that pass it, and tells what keeps a replication from going on.
 ghost use Rattle.std.specs.Prelude.{◌≡◌, ◌≤◌, length};
 ghost use Rattle.replicator.specs.Wanted.{given_in, given_of};
 ghost use Rattle.replicating.specs.Counted.{Counts, and_more};
 
+use crate::large::large_in;
 use crate::watch::Watch;
 use commands::{Merge, NamedRevisions};
 use document_id::{DocId, DocIds};
@@ -12,7 +13,8 @@ use revision_id::RevId;
 use std::alloc::Global;
 use std::marker::Model;
 
-/// An end, and how many documents it gave or took. Where it has written its checkpoint, this is told.
+/// An end, and how many documents it gave or took. It is told where it has written its checkpoint, where
+/// it ends before the number after which changes are asked for, and of a document that no bulk can hold.
 #[derive(Drop)]
 pub(crate) struct Counted<P, W> {
     peer: P,
@@ -77,13 +79,37 @@ fn documents_in(revision: &Result<Merge, RevId>) -> usize
     }
 }
 
+/// Tells where the changes end before the number after which they were asked for.
+fn tell_end<W: Watch>(watch: &W, since: u64, last_seq: u64) {
+    if last_seq < since {
+        watch.past_end(since, last_seq);
+    }
+}
+
+/// Tells of a document that no bulk can hold, where the answer to its bulk can't be read.
+fn tell_large<W: Watch>(watch: &W, alloc: Global, documents: &[Merge], fault: PeerFault) {
+    let PeerFault::Unreadable = fault else {
+        return;
+    };
+    let Ok(Some((id, len))) = large_in(alloc, documents) else {
+        return;
+    };
+    watch.large_document(id, len);
+}
+
 impl<P: Peer, W: Watch> Peer for Counted<P, W> {
     ghost goes = { Counts P.goes };
 
     ghost failed_calls = { λ c. P.failed_calls c.end };
 
     fn changes(&mut self, alloc: Global, since: u64, limit: u64) -> Result<ChangesPage, PeerFault> {
-        self.peer.changes(alloc, since, limit)
+        match self.peer.changes(alloc, since, limit) {
+            Ok(page) => {
+                tell_end(&self.watch, since, page.last_seq);
+                Ok(page)
+            }
+            Err(fault) => Err(fault),
+        }
     }
 
     fn changes_of(
@@ -93,7 +119,13 @@ impl<P: Peer, W: Watch> Peer for Counted<P, W> {
         since: u64,
         limit: u64,
     ) -> Result<ChangesPage, PeerFault> {
-        self.peer.changes_of(alloc, ids, since, limit)
+        match self.peer.changes_of(alloc, ids, since, limit) {
+            Ok(page) => {
+                tell_end(&self.watch, since, page.last_seq);
+                Ok(page)
+            }
+            Err(fault) => Err(fault),
+        }
     }
 
     fn diff(&mut self, alloc: Global, asked: &NamedRevisions) -> Result<Differences, PeerFault> {
@@ -121,7 +153,10 @@ impl<P: Peer, W: Watch> Peer for Counted<P, W> {
                 self.count(documents.len());
                 Ok(())
             }
-            Err(fault) => Err(fault),
+            Err(fault) => {
+                tell_large(&self.watch, alloc, documents, fault);
+                Err(fault)
+            }
         }
     }
 

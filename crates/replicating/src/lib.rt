@@ -2,6 +2,7 @@
 #![tactic(auto)]
 
 mod counted;
+mod large;
 mod report;
 mod run;
 mod watch;

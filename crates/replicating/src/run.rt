@@ -6,7 +6,7 @@ ghost use Rattle.replicating.specs.Report.{Replicates, fresh};
 
 use crate::counted::Counted;
 use crate::report::Report;
-use crate::watch::{Unwatched, Watch};
+use crate::watch::{OfTarget, Watch};
 use document_id::{DocId, DocIds};
 use http_peer::HttpPeer;
 use replicator::{MAX_BATCH, Peer, Worker};
@@ -14,9 +14,9 @@ use std::alloc::Global;
 use streams::{Sink, Source};
 
 /// Brings the changes of a source to a target, those of some documents alone where they are named, with
-/// checkpoints of this id, and tells of each batch. It ends where there are no more changes, or at the
-/// first fault.
-pub(crate) fn replicate<S: Peer + Drop, T: Peer + Drop, W: Watch + Drop>(
+/// checkpoints of this id, and tells of each batch and of what keeps it from going on. It ends where there
+/// are no more changes, or at the first fault.
+pub(crate) fn replicate<S: Peer + Drop, T: Peer + Drop, W: Watch + Copy + Drop>(
     alloc: Global,
     id: DocId,
     ids: Option<DocIds>,
@@ -27,7 +27,7 @@ pub(crate) fn replicate<S: Peer + Drop, T: Peer + Drop, W: Watch + Drop>(
     ensures { Replicates S.goes T.goes S.failed_calls T.failed_calls id ids source target result }
 {
     let mut source = Counted::new(source, watch);
-    let mut target = Counted::new(target, Unwatched);
+    let mut target = Counted::new(target, OfTarget { watch });
     let mut worker = worker_of(id, ids);
     let ended = worker.run(alloc, &mut source, &mut target, u64::MAX);
     Report {
@@ -78,7 +78,7 @@ pub fn run_replication<
     B: Sink + Drop,
     C: Source + Drop,
     D: Sink + Drop,
-    W: Watch + Drop,
+    W: Watch + Copy + Drop,
 >(alloc: Global, id: DocId, ids: Option<DocIds>, source: (A, B), target: (C, D), watch: W) -> Report
     ensures { Replicates Goes Goes (λ c. c.failed_calls) (λ c. c.failed_calls) id ids
         (record {
