@@ -1,6 +1,6 @@
 //! The command line of `replay`.
-ghost use Rattle.std.specs.Prelude.{◌≡◌, [], map, true, false, IfOk, IfErr};
-ghost use Rattle.clap.specs.Words.{app_of, fault_of};
+ghost use Rattle.std.specs.Prelude.{◌≡◌, [], map, true, false, codes, IfOk, IfErr};
+ghost use Rattle.clap.specs.Words.{app_of, fault_of, new_app};
 ghost use Rattle.clap.specs.declared.builder.command.Command.TheViews.{out-Command as fields_of};
 ghost use Rattle.command_line.specs.Replay.{replay, IsRunOf};
 
@@ -15,6 +15,8 @@ use std::convert::AsStr;
 pub enum Run {
     /// Tells whether standard input is the dump of a legal history.
     Check,
+    /// Writes the first line of the next history's dump, if standard input is the dump of a legal one.
+    Base,
 }
 
 /// The command line as `clap` takes it.
@@ -23,15 +25,32 @@ fn command<'a>(alloc: Global) -> Result<Command<'a>, AllocError>
     ensures local { IfOk result (λ c. (fields_of c).has_globals ≡ false) }
     ensures subcommand { IfOk result (λ c. (fields_of c).subcommand_required ≡ true) }
 {
-    let check = Command::new(alloc, "check").about(
-        "Tells whether standard input is the dump of a legal history",
-    );
     let replay = program(
         alloc,
         "replay",
         "An audit of the histories of a document store",
     );
-    with_subcommand(replay, check)
+    let replay = with_subcommand(replay, check(alloc))?;
+    let replay = with_subcommand(replay, base(alloc))?;
+    Ok(replay)
+}
+
+fn check<'a>(alloc: Global) -> Command<'a>
+    ensures app { app_of result ≡ new_app (codes "check") }
+    ensures local { (fields_of result).has_globals ≡ false }
+{
+    Command::new(alloc, "check").about(
+        "Tells whether standard input is the dump of a legal history",
+    )
+}
+
+fn base<'a>(alloc: Global) -> Command<'a>
+    ensures app { app_of result ≡ new_app (codes "base") }
+    ensures local { (fields_of result).has_globals ≡ false }
+{
+    Command::new(alloc, "base").about(
+        "Writes the first line of the next history's dump, if standard input is the dump of a legal one",
+    )
 }
 
 /// Why words that are not all UTF-8 name no run: the text that `clap` has for them.
@@ -60,6 +79,7 @@ pub fn read_words<S: AsStr>(alloc: Global, words: &[S]) -> Result<Run, WordsFaul
     };
     match matches.subcommand_name().unwrap() {
         "check" => Ok(Run::Check),
+        "base" => Ok(Run::Base),
         _ => unreachable!(),
     }
 }

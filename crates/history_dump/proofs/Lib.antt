@@ -1,1 +1,3 @@
+pub mod Begun
+pub mod Snocs
 pub mod Taken

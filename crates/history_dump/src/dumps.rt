@@ -3,13 +3,11 @@ ghost use Rattle.std.specs.Prelude.{◌≡◌, ◌++◌, IfOk, OnOk, string_byte
 ghost use Rattle.std.specs.List.{flat_map};
 ghost use Rattle.history_dump.specs.Dump.{dump_text, entry_line};
 
+use crate::first::first_line;
 use commands::Entry;
 use history_json::put_line;
 use snapshots::Version;
 use std::alloc::{AllocError, Global};
-
-/// The first line of a dump, with its line feed.
-pub const FIRST_LINE: &str = "{\"couch_history\":1}\n";
 
 /// The dump of a version's history: the first line, and the line of each entry from place 1 on.
 ///
@@ -17,9 +15,9 @@ pub const FIRST_LINE: &str = "{\"couch_history\":1}\n";
 ///
 /// Memory may be refused.
 pub fn dump_version(alloc: Global, version: &Version) -> Result<Vec<u8>, AllocError>
-    ensures text { IfOk result (λ text. text.items ≡ dump_text version.now.entries) }
+    ensures text { IfOk result (λ text. text.items ≡ dump_text version.now) }
 {
-    let mut text = String::from_str(alloc, FIRST_LINE)?;
+    let mut text = first_line(alloc, version)?;
     put_entries(&mut text, alloc, version)?;
     Ok(text.into_bytes())
 }

@@ -9,7 +9,7 @@ use std::alloc::{AllocError, Global};
 use std::sync::Arc;
 
 /// The body that a value is, if it is one.
-pub(crate) fn read_body(alloc: Global, value: Json) -> Result<Option<Arc<Body>>, AllocError>
+pub fn read_body(alloc: Global, value: Json) -> Result<Option<Arc<Body>>, AllocError>
     ensures found { IfOk result (λ found. (body : Members) → IsBody body → value ≡ object body
         → option_map arc_value found ≡ Some body) }
 {

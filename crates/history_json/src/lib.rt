@@ -21,4 +21,8 @@ mod purge;
 mod reply;
 mod seat;
 
+pub use bodies::read_body;
 pub use line::{put_line, read_line};
+pub use line_value::{LineValue, put_list, read_list};
+pub use local::{body_in, put_body};
+pub use number::{number_in, small_number_in};

@@ -9,7 +9,7 @@ use json_profile::Json;
 use std::alloc::{AllocError, Global};
 
 /// What a line has as a JSON value.
-pub(crate) trait LineValue: Drop {
+pub trait LineValue: Drop {
     /// The value that it stands as.
     ghost data_of: { Self → Data };
 
@@ -27,7 +27,7 @@ pub(crate) trait LineValue: Drop {
 }
 
 /// Writes a list of values.
-pub(crate) fn put_list<T: LineValue>(
+pub fn put_list<T: LineValue>(
     text: &mut String,
     alloc: Global,
     items: &[T],
@@ -62,10 +62,7 @@ fn read_items<T: LineValue>(alloc: Global, values: Vec<Json>) -> Result<Option<V
 }
 
 /// What stands as a list of values, if something does.
-pub(crate) fn read_list<T: LineValue>(
-    alloc: Global,
-    value: Json,
-) -> Result<Option<Vec<T>>, AllocError>
+pub fn read_list<T: LineValue>(alloc: Global, value: Json) -> Result<Option<Vec<T>>, AllocError>
     ensures within { IfOk result (λ found. IfSome found (λ list. All T.is_within list.items)) }
     ensures found { IfOk result (λ found. (items : List T) → All T.is_within items → value ≡ array (items_of (map T.data_of items))
         → option_map (λ list. list.items) found ≡ Some items) }

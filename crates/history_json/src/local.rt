@@ -35,7 +35,7 @@ pub(crate) fn put_local(
 }
 
 /// Writes the beginning, with the body where there is one.
-fn put_body(text: &mut String, body: Option<&Body>) -> Result<(), AllocError>
+pub fn put_body(text: &mut String, body: Option<&Body>) -> Result<(), AllocError>
     ensures { OnOk result (string_bytes text.new ≡ string_bytes text.old ++ body_front (option_copied body.entry)) }
 {
     match body {
@@ -94,7 +94,7 @@ fn counter_in(rev: Option<Json>) -> Option<Option<u32>>
 }
 
 /// The body, if what is there is one.
-fn body_in(alloc: Global, body: Option<Json>) -> Result<Option<Option<Arc<Body>>>, AllocError>
+pub fn body_in(alloc: Global, body: Option<Json>) -> Result<Option<Option<Arc<Body>>>, AllocError>
     ensures { IfOk result (λ found. (of : Option Members) → IfSome of IsBody
         → body ≡ option_map object of → option_map (option_map arc_value) found ≡ Some of) }
 {

@@ -1,9 +1,9 @@
-//! The program `replay`: an audit of the histories of a document store.
+//! The program `replay`: an audit of the histories of a document store, and what they end with.
 #![tactic(auto)]
 
 use command_line::given_words;
 use command_line::replay::{Run, read_words, refuse_bytes};
-use replay_cli::run_check;
+use replay_cli::{run_base, run_check};
 use std::io;
 use std::process::ExitCode;
 use streams::Stream;
@@ -20,6 +20,11 @@ fn main(rt: HostRuntime) -> io::Result<ExitCode> {
             let mut reader = Stream::new(rt.reader());
             let mut writer = Stream::new(io::writer(&rt));
             Ok(ExitCode::from(run_check(&mut reader, &mut writer, &rt)))
+        }
+        Ok(Run::Base) => {
+            let mut reader = Stream::new(rt.reader());
+            let mut writer = Stream::new(io::writer(&rt));
+            Ok(ExitCode::from(run_base(&mut reader, &mut writer, &rt)))
         }
         Err(fault) => Ok(fault.tell(&rt, UNREADABLE_WORDS)),
     }

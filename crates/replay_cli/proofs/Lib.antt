@@ -1,7 +1,7 @@
 pub mod Cuts
+pub mod Followed
 pub mod Forks
-pub mod Nested
+pub mod Given
 pub mod Readable
-pub mod Snocs
 pub mod Texts
 pub mod Verdicts

@@ -1,15 +1,18 @@
 -- Which lines are readable.
 use Rattle.std.proofs.Common.{◌≡◌, ℕ, suc, ◌+◌, ◌<◌, ◌≤◌, List, [], ◌∷◌, ◌++◌, length, All, inl, inr, map, refl, sym, ap, subst, ◌∙◌, arith}
+use Rattle.std.specs.Prelude.{Option}
 use Rattle.std.specs.List.{AllZip}
 use Rattle.std.proofs.lemmas.List.{length-map}
 use Rattle.std.proofs.lemmas.List.Elements.{All-head, All-tail, All-cons, All-nil}
 use Rattle.model.specs.Command.{Entry}
+use Rattle.model.specs.Database.{Database}
+use Rattle.model.specs.History.{Chronicle}
 use Rattle.history_json.specs.Line.{IsLine}
-use Rattle.history_dump.specs.Dump.{first_line, entry_line}
+use Rattle.history_dump.specs.Dump.{first_line, entry_line, IsFirst}
 use Rattle.replay_cli.specs.Lines.{lines, lines_or_one}
 use Rattle.replay_cli.specs.Places.{last_place}
 use Rattle.replay_cli.specs.Readable.{IsReadable, AreReadable, IsFirstUnreadable}
-use Rattle.replay_cli.specs.Verdicts.{IsDump}
+use Rattle.replay_cli.specs.Verdicts.{IsDump, begun_with}
 use Rattle.replay_cli.specs.Reading.{IsRead}
 use Rattle.replay_cli.proofs.Forks.{GoesOn, forks}
 use Rattle.replay_cli.proofs.Texts.{lines-dump, dump-lines}
@@ -52,10 +55,10 @@ readable-entries n [] within few = tt
 readable-entries n (e ∷ es) within few =
     ((omega arith, e, All-head IsLine e es within, refl), readable-entries (suc n) es (All-tail IsLine e es within) (omega arith))
 
-pub readable-dump : (text : List ℕ) (es : List Entry) → IsDump text es → AreReadable 1 (lines_or_one text)
-readable-dump text es dump =
-    subst (AreReadable 1) (sym (ap lines_or_one dump.text_is ∙ lines-dump es dump.within))
-    (refl, readable-entries 0 es dump.within (omega (arith, dump.places)))
+pub readable-dump : (text : List ℕ) (h : Chronicle) → IsDump text h → AreReadable 1 (lines_or_one text)
+readable-dump text h dump =
+    subst (AreReadable 1) (sym (ap lines_or_one dump.text_is ∙ lines-dump h dump.first dump.within))
+    ((h.base, dump.first, refl), readable-entries 0 h.entries dump.within (omega (arith, dump.places)))
 
 -- ---- the first that isn't
 
@@ -115,29 +118,37 @@ stops ls taken es line after number is read few number_is none =
     refused : IsReadable (suc (suc (length es))) line → ⊥
     refused (low, e, within, text) = none e (omega (arith, low)) within text
 
-module _ (text rest : List ℕ) (cut : lines_or_one text ≡ first_line ∷ lines rest) where
-  pub dump-read : (es : List Entry) → AllZip IsRead (lines rest) es → length es ≤ last_place → IsDump text es
+module _ (text rest : List ℕ) (base : Option Database) (first : IsFirst base) (cut : lines_or_one text ≡ first_line base ∷ lines rest) where
+  pub dump-read : (es : List Entry) → AllZip IsRead (lines rest) es → length es ≤ last_place → IsDump text (begun_with base es)
   dump-read es read few = record {
-    text_is = dump-lines text es (cut ∙ ap (λ (ls : List (List ℕ)). first_line ∷ ls) (lines-read (lines rest) es read));
+    text_is = dump-lines text (begun_with base es) (cut ∙ ap (λ (ls : List (List ℕ)). first_line base ∷ ls) (lines-read (lines rest) es read));
+    first = first;
     within = within-read (lines rest) es read;
     places = few;
   }
 
-  pub dump-only : (es : List Entry) → AllZip IsRead (lines rest) es → (others : List Entry) → IsDump text others → others ≡ es
-  dump-only es read others dump =
-      let told : first_line ∷ lines rest ≡ first_line ∷ map entry_line others = sym cut ∙ ap lines_or_one dump.text_is ∙ lines-dump others dump.within in
-      only-read (lines rest) es others read dump.within (behind told)
+  -- of a base that is alone with its line
+  pub dump-only : ((other : Option Database) → IsFirst other → first_line base ≡ first_line other → other ≡ base)
+      → (es : List Entry) → AllZip IsRead (lines rest) es → (other : Chronicle) → IsDump text other → other ≡ begun_with base es
+  dump-only alone es read other dump =
+      let told : first_line base ∷ lines rest ≡ first_line other.base ∷ map entry_line other.entries = sym cut ∙ ap lines_or_one dump.text_is ∙ lines-dump other dump.first dump.within in
+      let same = alone other.base dump.first (front told) in
+      let all = only-read (lines rest) es other.entries read dump.within (behind told) in
+      λ i. record { base = same i; entries = all i }
     where
-      behind : {x : List ℕ} {xs ys : List (List ℕ)} → x ∷ xs ≡ x ∷ ys → xs ≡ ys
+      front : {x y : List ℕ} {xs ys : List (List ℕ)} → x ∷ xs ≡ y ∷ ys → x ≡ y
+      front is = cc
+
+      behind : {x y : List ℕ} {xs ys : List (List ℕ)} → x ∷ xs ≡ y ∷ ys → xs ≡ ys
       behind is = cc
 
   pub unreadable-behind : (number : ℕ) → IsFirstUnreadable 2 (lines rest) number → IsFirstUnreadable 1 (lines_or_one text) number
-  unreadable-behind number first = record {
-    before = first_line ∷ first.before;
-    line = first.line;
-    after = first.after;
-    lines_are = cut ∙ ap (λ (ls : List (List ℕ)). first_line ∷ ls) first.lines_are;
-    readable = (refl, first.readable);
-    unreadable = first.unreadable;
-    number_is = omega (arith, first.number_is);
+  unreadable-behind number unreadable = record {
+    before = first_line base ∷ unreadable.before;
+    line = unreadable.line;
+    after = unreadable.after;
+    lines_are = cut ∙ ap (λ (ls : List (List ℕ)). first_line base ∷ ls) unreadable.lines_are;
+    readable = ((base, first, refl), unreadable.readable);
+    unreadable = unreadable.unreadable;
+    number_is = omega (arith, unreadable.number_is);
   }

@@ -1,15 +1,17 @@
 -- The lines of a dump.
 use Rattle.std.proofs.Common.{◌≡◌, ℕ, List, [], ◌∷◌, ◌++◌, Bool, true, false, All, map, refl, sym, ap, ◌∙◌}
-use Rattle.std.specs.Prelude.{◌==◌, not, codes}
+use Rattle.std.specs.Prelude.{◌==◌, not}
 use Rattle.std.specs.List.{concat, flat_map}
 use Rattle.std.proofs.lemmas.Bool.{and_parts}
 use Rattle.std.proofs.lemmas.List.{append_assoc}
 use Rattle.std.proofs.lemmas.List.Elements.{All-head, All-tail}
 use Rattle.model.specs.Command.{Entry}
+use Rattle.model.specs.History.{Chronicle}
 use Rattle.history_json.specs.Line.{IsLine, line_text}
 use Rattle.history_json.specs.Lines.{is_one_line}
 use Rattle.history_json.proofs.InProfile.{line-one}
-use Rattle.history_dump.specs.Dump.{first_line, entry_line, dump_text}
+use Rattle.history_dump.specs.Dump.{first_text, first_line, entry_line, dump_text, IsFirst}
+use Rattle.history_dump.proofs.Begun.{first-one}
 use Rattle.replay_cli.specs.Lines.{onto, lines, lines_or_one}
 use Rattle.replay_cli.proofs.Cuts.{goes_on, concat-lines_or_one}
 
@@ -32,16 +34,23 @@ lines-entries (e ∷ es) within =
     ∙ lines-feed (line_text e) rest (line-one e (All-head IsLine e es within))
     ∙ ap (λ (ls : List (List ℕ)). entry_line e ∷ ls) (lines-entries es (All-tail IsLine e es within))
 
-pub lines-dump : (es : List Entry) → All IsLine es → lines_or_one (dump_text es) ≡ first_line ∷ map entry_line es
-lines-dump es within =
-    lines-feed (codes "{\"couch_history\":1}") (flat_map entry_line es) refl
-    ∙ ap (λ (ls : List (List ℕ)). first_line ∷ ls) (lines-entries es within)
+-- the same of a text that isn't empty
+lines_or_one-feed : (front rest : List ℕ) → is_one_line front ≡ true → lines_or_one (front ++ 10 ∷ rest) ≡ (front ++ 10 ∷ []) ∷ lines rest
+lines_or_one-feed [] rest one = refl
+lines_or_one-feed (byte ∷ front) rest one = lines-feed (byte ∷ front) rest one
+
+pub lines-dump : (h : Chronicle) → IsFirst h.base → All IsLine h.entries → lines_or_one (dump_text h) ≡ first_line h.base ∷ map entry_line h.entries
+lines-dump h first within =
+    let rest = flat_map entry_line h.entries in
+    ap lines_or_one (append_assoc (first_text h.base) (10 ∷ []) rest)
+    ∙ lines_or_one-feed (first_text h.base) rest (first-one h.base first)
+    ∙ ap (λ (ls : List (List ℕ)). first_line h.base ∷ ls) (lines-entries h.entries within)
 
 concat-map : {X : Type 0} (f : X → List ℕ) (xs : List X) → concat (map f xs) ≡ flat_map f xs
 concat-map f [] = refl
 concat-map f (x ∷ xs) = ap (λ t. f x ++ t) (concat-map f xs)
 
 -- a text of these lines is that dump
-pub dump-lines : (text : List ℕ) (es : List Entry) → lines_or_one text ≡ first_line ∷ map entry_line es → text ≡ dump_text es
-dump-lines text es is =
-    sym (concat-lines_or_one text) ∙ ap concat is ∙ ap (λ t. first_line ++ t) (concat-map entry_line es)
+pub dump-lines : (text : List ℕ) (h : Chronicle) → lines_or_one text ≡ first_line h.base ∷ map entry_line h.entries → text ≡ dump_text h
+dump-lines text h is =
+    sym (concat-lines_or_one text) ∙ ap concat is ∙ ap (λ t. first_line h.base ++ t) (concat-map entry_line h.entries)

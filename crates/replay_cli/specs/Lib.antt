@@ -4,4 +4,6 @@ pub mod Places
 pub mod Readable
 pub mod Reading
 pub mod Run
+pub mod RunBase
+pub mod Successors
 pub mod Verdicts

@@ -37,10 +37,14 @@ told_status (Judged v) = verdict_status v
 told_status NoMemory = 4
 told_status ReadFailed = 1
 
+-- this holds of all of the input, and no read failed
+abbrev pub IsOfInput : Streams → Streams → (List ℕ → Type 0) → Type 0
+IsOfInput before after holds =
+    ((text : List ℕ) × Consumes before.left after.left text × holds text) × IsAtEnd after.left × (after.failed_reads ≡ before.failed_reads)
+
 -- A verdict is the one on all of the input.
 abbrev pub IsFound : Streams → Streams → Told → Type 0
-IsFound before after (Judged v) =
-    ((text : List ℕ) × Consumes before.left after.left text × IsVerdict text v) × IsAtEnd after.left × (after.failed_reads ≡ before.failed_reads)
+IsFound before after (Judged v) = IsOfInput before after (λ text. IsVerdict text v)
 IsFound before after NoMemory = after.failed_reads ≡ before.failed_reads
 IsFound before after ReadFailed = CountRose before.failed_reads after.failed_reads
 

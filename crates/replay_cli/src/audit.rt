@@ -1,10 +1,13 @@
 //! Whether a text is the dump of a legal history.
-ghost use Rattle.std.specs.Prelude.{◌≡◌, ◌↔◌, ℕ, IfOk};
-ghost use Rattle.replay_cli.specs.Verdicts.{IsLegalDump, IsUnreadable, IsVerdict, IsWrongDump};
+ghost use Rattle.std.specs.Prelude.{◌≡◌, ◌↔◌, ℕ, IfOk, IfErr};
+ghost use Rattle.model.specs.History.{Chronicle};
+ghost use Rattle.replay_cli.specs.Verdicts.{IsDump, IsLegalDump, IsUnreadable, IsVerdict, IsWrongDump};
+ghost use Rattle.replay_cli.specs.Successors.{IsDumpOfLegal, IsRefused};
 
-use crate::judge::first_wrong;
+use crate::judge::judge;
 use crate::read::read_dump;
 use crate::verdict::Verdict;
+use snapshots::Version;
 use std::alloc::{AllocError, Global};
 
 /// What a text is. All lines are read before any entry is judged.
@@ -32,13 +35,29 @@ fn verdict_on(alloc: Global, dump: &[u8]) -> Result<Verdict, AllocError>
     ensures only { IfOk result (λ verdict. (other : Verdict) → IsVerdict dump.now other
         → other ≡ verdict) }
 {
-    let entries = match read_dump(alloc, dump)? {
-        Ok(entries) => entries,
-        Err(number) => return Ok(Verdict::UnreadableLine(number)),
+    match last_of(alloc, dump)? {
+        Ok(last) => Ok(Verdict::Legal(last.place())),
+        Err(verdict) => Ok(verdict),
+    }
+}
+
+/// The last version of the legal history that a text is the dump of, or else the one verdict on it.
+pub(crate) fn last_of(alloc: Global, dump: &[u8]) -> Result<Result<Version, Verdict>, AllocError>
+    ensures last { IfOk result (λ found. IfOk found (IsDumpOfLegal dump.now)) }
+    ensures only_last { IfOk result (λ found. IfOk found (λ last. (other : Chronicle) → IsDump dump.now other
+        → other ≡ last)) }
+    ensures verdict { IfOk result (λ found. IfErr found (IsVerdict dump.now)) }
+    ensures refused { IfOk result (λ found. IfErr found IsRefused) }
+    ensures only { IfOk result (λ found. IfErr found (λ verdict. (other : Verdict) → IsVerdict dump.now other
+        → other ≡ verdict)) }
+{
+    let read = match read_dump(alloc, dump)? {
+        Ok(read) => read,
+        Err(number) => return Ok(Err(Verdict::UnreadableLine(number))),
     };
-    let places = entries.len() as u64;
-    match first_wrong(alloc, entries)? {
-        None => Ok(Verdict::Legal(places)),
-        Some(place) => Ok(Verdict::WrongAt(place)),
+    let (begun, entries) = read;
+    match judge(alloc, begun, entries)? {
+        Ok(last) => Ok(Ok(last)),
+        Err(place) => Ok(Err(Verdict::WrongAt(place))),
     }
 }

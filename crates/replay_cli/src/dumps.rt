@@ -1,6 +1,7 @@
 //! The text of a closed history.
 ghost use Rattle.std.specs.Prelude.{◌≡◌, IfOk};
 ghost use Rattle.history_dump.specs.Dump.{dump_text};
+ghost use Rattle.replay_cli.specs.Verdicts.{begun_with};
 
 use history_dump::dump_version;
 use history_lock::Closed;
@@ -13,7 +14,7 @@ use updating::Opening;
 ///
 /// Memory may be refused.
 pub fn dump<J: Opening>(alloc: Global, closed: &Closed<J>) -> Result<Vec<u8>, AllocError>
-    ensures text { IfOk result (λ text. text.items ≡ dump_text closed.now.history) }
+    ensures text { IfOk result (λ text. text.items ≡ dump_text (begun_with J.base closed.now.history)) }
 {
     dump_version(alloc, closed.version())
 }

@@ -1,35 +1,45 @@
-//! The places of wrong entries.
-ghost use Rattle.std.specs.Prelude.{◌≡◌, ◌↔◌, ◌<◌, ◌≤◌, List, [], ◌∷◌, ◌++◌, length, IfOk, IfSome, IfNone, IsTrue, Ok, true, false};
+//! Whether entries are a legal history.
+ghost use Rattle.std.specs.Prelude.{◌≡◌, ◌↔◌, ◌<◌, ◌≤◌, List, [], ◌∷◌, ◌++◌, length, IfOk, IfErr, IfSome, IfNone, IsTrue, Ok, true, false};
 ghost use Rattle.model.specs.Command as model;
-ghost use Rattle.model.specs.Database.{empty_database};
-ghost use Rattle.model.specs.History.{IsLegal, IsNext, now, extended};
+ghost use Rattle.model.specs.History.{IsLegal, IsNext, base_of, now, extended};
 ghost use Rattle.replay_cli.specs.Places.{last_place, IsFirstWrong};
+ghost use Rattle.replay_cli.specs.Verdicts.{begun_with};
 
 use commands::{Entry, Reply};
 use snapshots::Version;
 use std::alloc::{AllocError, Global};
 use std::mem;
 
-/// The place of the first wrong entry.
-pub(crate) fn first_wrong(alloc: Global, entries: Vec<Entry>) -> Result<Option<u64>, AllocError>
-    requires { length entries.items ≤ last_place }
-    ensures legal { IfOk result (λ wrong. IfNone wrong (IsLegal empty_database entries.items)) }
-    ensures wrong { IfOk result (λ wrong. IfSome wrong (IsFirstWrong entries.items)) }
+/// The version after all entries, where they are a legal history, or else the place of the first that is wrong.
+pub(crate) fn judge(
+    alloc: Global,
+    begun: Version,
+    entries: Vec<Entry>,
+) -> Result<Result<Version, u64>, AllocError>
+    requires begun { begun ≡ begun_with begun.base [] }
+    requires places { length entries.items ≤ last_place }
+    ensures last { IfOk result (λ judged. IfOk judged (λ last. last ≡ begun_with begun.base entries.items)) }
+    ensures legal { IfOk result (λ judged. IfOk judged (λ _. IsLegal (base_of begun.base) entries.items)) }
+    ensures wrong { IfOk result (λ judged. IfErr judged (IsFirstWrong (base_of begun.base) entries.items)) }
 {
-    let mut version = Version::empty(alloc);
-    judge_all(alloc, &mut version, entries)
+    let mut version = begun;
+    match first_wrong(alloc, &mut version, entries)? {
+        None => Ok(Ok(version)),
+        Some(place) => Ok(Err(place)),
+    }
 }
 
-/// The place of the first wrong entry, where nothing stands yet.
-fn judge_all(
+/// The place of the first wrong entry, where nothing stands yet. Where there is none, all of them stand.
+fn first_wrong(
     alloc: Global,
     version: &mut Version,
     entries: Vec<Entry>,
 ) -> Result<Option<u64>, AllocError>
-    requires empty { version.old ≡ record { base = empty_database; entries = [] } }
+    requires begun { version.old ≡ begun_with version.old.base [] }
     requires places { length entries.items ≤ last_place }
-    ensures legal { IfOk result (λ wrong. IfNone wrong (IsLegal empty_database entries.items)) }
-    ensures wrong { IfOk result (λ wrong. IfSome wrong (IsFirstWrong entries.items)) }
+    ensures last { IfOk result (λ wrong. IfNone wrong (version.new ≡ begun_with version.old.base entries.items)) }
+    ensures legal { IfOk result (λ wrong. IfNone wrong (IsLegal (base_of version.old.base) entries.items)) }
+    ensures wrong { IfOk result (λ wrong. IfSome wrong (IsFirstWrong (base_of version.old.base) entries.items)) }
 {
     for entry in entries {
         let place = version.place() + 1;

@@ -1,6 +1,6 @@
 //! The dump of a history, and its audit.
 //!
-//! A dump is a text: a first line that names its form, and a line for each entry. Whoever has it can
+//! A dump is a text: a first line that says what the history begins from, and a line for each entry. Whoever has it can
 //! tell whether the history in it is legal, with no word from the database that wrote it.
 #![tactic(auto)]
 
@@ -9,11 +9,15 @@ mod dumps;
 mod input;
 mod judge;
 mod lines;
+mod next_base;
 mod read;
 mod run;
+mod successor;
 mod verdict;
 
 pub use audit::check;
 pub use dumps::dump;
+pub use next_base::run_base;
 pub use run::run_check;
+pub use successor::{NoSuccessor, successor_line};
 pub use verdict::Verdict;

@@ -1,43 +1,45 @@
-//! The entries of a dump.
-ghost use Rattle.std.specs.Prelude.{◌≡◌, ◌↔◌, ◌<◌, ◌≤◌, ◌+◌, ◌++◌, ◌∷◌, List, length, All, Some, IfOk, IfErr, IsTrue};
+//! The history of a dump.
+ghost use Rattle.std.specs.Prelude.{◌≡◌, ◌↔◌, ◌<◌, ◌≤◌, ◌+◌, ◌++◌, ◌∷◌, [], List, length, All, Some, IfOk, IfErr};
 ghost use Rattle.std.specs.List.{AllZip};
 ghost use Rattle.model.specs.Command as model;
+ghost use Rattle.model.specs.History.{Chronicle};
 ghost use Rattle.history_json.specs.Line.{IsLine};
-ghost use Rattle.history_dump.specs.Dump.{first_line, entry_line};
+ghost use Rattle.history_dump.specs.Dump.{entry_line};
 ghost use Rattle.replay_cli.specs.Lines.{lines};
 ghost use Rattle.replay_cli.specs.Places.{last_place};
 ghost use Rattle.replay_cli.specs.Readable.{IsFirstUnreadable};
 ghost use Rattle.replay_cli.specs.Reading.{IsRead};
-ghost use Rattle.replay_cli.specs.Verdicts.{IsDump, IsUnreadable};
+ghost use Rattle.replay_cli.specs.Verdicts.{IsDump, IsUnreadable, begun_with};
 
 use crate::lines::cut_line;
 use commands::Entry;
-use history_dump::FIRST_LINE;
+use history_dump::read_first_line;
 use history_json::read_line;
+use snapshots::Version;
 use std::alloc::{AllocError, Global};
 
 /// The last place of a history.
 const LAST_PLACE: usize = 4_294_967_295;
 
-/// The entries of a dump, or else the number of the first unreadable line.
-pub(crate) fn read_dump(alloc: Global, dump: &[u8]) -> Result<Result<Vec<Entry>, u64>, AllocError>
-    ensures dump { IfOk result (λ read. IfOk read (λ entries. IsDump dump.now entries.items)) }
-    ensures only { IfOk result (λ read. IfOk read (λ entries. (others : List model.Entry)
-        → IsDump dump.now others → others ≡ entries.items)) }
+/// The version that a dump's history begins with, and its entries, or else the number of the first unreadable line.
+pub(crate) fn read_dump(
+    alloc: Global,
+    dump: &[u8],
+) -> Result<Result<(Version, Vec<Entry>), u64>, AllocError>
+    ensures begun { IfOk result (λ read. IfOk read (λ r. r.0 ≡ begun_with r.0.base [])) }
+    ensures dump { IfOk result (λ read. IfOk read (λ r. IsDump dump.now (begun_with r.0.base r.1.items))) }
+    ensures only { IfOk result (λ read. IfOk read (λ r. (other : Chronicle)
+        → IsDump dump.now other → other ≡ begun_with r.0.base r.1.items)) }
     ensures unreadable { IfOk result (λ read. IfErr read (IsUnreadable dump.now)) }
 {
     let (first, rest) = cut_line(dump);
-    if !is_first_line(first) {
+    let Some(begun) = read_first_line(alloc, first)? else {
         return Ok(Err(1));
+    };
+    match read_entries(alloc, rest)? {
+        Ok(entries) => Ok(Ok((begun, entries))),
+        Err(number) => Ok(Err(number)),
     }
-    read_entries(alloc, rest)
-}
-
-/// Whether a line tells the form of a dump.
-fn is_first_line(line: &[u8]) -> bool
-    ensures { IsTrue result ↔ (line.now ≡ first_line) }
-{
-    line == FIRST_LINE.as_bytes()
 }
 
 /// The entries of these lines, which follow the first one, or else the number of the first

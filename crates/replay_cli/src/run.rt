@@ -14,10 +14,10 @@ use std::alloc::Global;
 use streams::{Sink, Source, end_with};
 
 /// The exit status where a read failed.
-const FAILED: u8 = 1;
+pub(crate) const FAILED: u8 = 1;
 
 /// The exit status where memory was refused.
-const NO_MEMORY: u8 = 4;
+pub(crate) const NO_MEMORY: u8 = 4;
 
 /// Reads a dump to its end, writes one line that tells what it is, and answers the exit status: 0
 /// for a legal history, 2 for a wrong entry, 3 for an unreadable line, 4 where memory was refused,
@@ -60,7 +60,7 @@ fn check_input<R: Source>(alloc: Global, reader: &mut R) -> Result<Verdict, Inpu
 }
 
 /// Writes the line of a verdict, and answers the status.
-fn tell<W: Sink>(alloc: Global, writer: &mut W, verdict: Verdict) -> u8
+pub(crate) fn tell<W: Sink>(alloc: Global, writer: &mut W, verdict: Verdict) -> u8
     ensures { (told : Told) × ((told ≡ Judged verdict) ⊎ (told ≡ NoMemory))
         × Ends (W.taken writer.old) (W.taken writer.new) (W.failed_writes writer.old)
         (W.failed_writes writer.new) (told_text told) (told_status told) result }

@@ -3,7 +3,7 @@ use Rattle.model.specs.Command.{Entry}
 use Rattle.history_json.specs.Line.{IsLine, line_text}
 use Rattle.history_dump.specs.Dump.{entry_line}
 use Rattle.replay_cli.specs.Places.{last_place}
-use Rattle.replay_cli.proofs.Snocs.{snocs}
+use Rattle.history_dump.proofs.Snocs.{snocs}
 use Rattle.replay_cli.proofs.read.read_at.Goals as goal
 
 -- the line with its line feed is read where the line is

@@ -1,50 +1,58 @@
-use Rattle.std.proofs.Common.{◌≡◌, ◌≤◌, ◌∷◌, [], List, ℕ, length, rules, ap, ◌∙◌, arith}
-use Rattle.std.specs.List.{AllZip}
-use Rattle.model.specs.Command.{Entry}
-use Rattle.history_dump.specs.Dump.{first_line}
+use Rattle.std.proofs.Common.{◌≡◌, ◌∷◌, [], List, ℕ, Some, refl, sym, ap, ◌∙◌, arith}
+use Rattle.model.specs.History.{Chronicle}
+use Rattle.history_dump.specs.Dump.{first_line, BeginsAt}
 use Rattle.replay_cli.specs.Lines.{lines, lines_or_one}
-use Rattle.replay_cli.specs.Places.{last_place}
-use Rattle.replay_cli.specs.Readable.{IsFirstUnreadable}
-use Rattle.replay_cli.specs.Reading.{IsRead}
-use Rattle.replay_cli.specs.Verdicts.{IsDump, IsUnreadable}
-use Rattle.replay_cli.proofs.Nested.{within_ok, within_err}
+use Rattle.replay_cli.specs.Verdicts.{begun_with}
 use Rattle.replay_cli.proofs.Readable.{dump-read, dump-only, unreadable-behind}
 use Rattle.replay_cli.proofs.read.read_dump.Goals as goal
 
-pub returns-then-not-is_first_line-clause-unreadable : goal.returns-then-not-is_first_line-clause-unreadable
-returns-then-not-is_first_line-clause-unreadable c =
-    let other : c.cut_line.result.0.now ≡ first_line → ⊥ = search rules in record {
+some_same : {X : Type 0} (x y : X) → Some x ≡ Some y → y ≡ x
+some_same x y is = cc
+
+pub returns-in_default-clause-unreadable : goal.returns-in_default-clause-unreadable
+returns-in_default-clause-unreadable c =
+    record {
       before = [];
       line = c.cut_line.result.0.now;
       after = lines c.cut_line.result.1.now;
       lines_are = c.cut_line.ensures.lines;
       readable = tt;
-      unreadable = other;
+      unreadable = λ named.
+          let begun : Chronicle = begun_with named.0 [] in
+          c.in_default.not-Some begun ((c.in_ok-begun.ensures begun).1 (record { entries = refl; first = named.1; line_is = named.2 }));
       number_is = omega arith;
     }
 
-pub returns-clause-dump : goal.returns-clause-dump
-returns-clause-dump c =
-    let text = c.args.dump.now in
-    let rest = c.cut_line.result.1.now in
-    let first : c.cut_line.result.0.now ≡ first_line = search rules in
-    let cut : lines_or_one text ≡ first_line ∷ lines rest = c.cut_line.ensures.lines ∙ ap (λ (l : List ℕ). l ∷ lines rest) first in
-    within_ok (λ entries. AllZip IsRead (lines rest) entries.items) (λ entries. length entries.items ≤ last_place) (λ entries. IsDump text entries.items) c.read_entries.result
-    (λ entries read few. dump-read text rest cut entries.items read few) c.read_entries.ensures.read c.read_entries.ensures.places
+pub returns-in-Ok-clause-begun : goal.returns-in-Ok-clause-begun
+returns-in-Ok-clause-begun c =
+    let begun : Chronicle = c.in-Some.begun in
+    let at : BeginsAt c.cut_line.result.0.now begun = (c.in_ok-begun.ensures begun).0 c.in-Some.is in
+    λ i. record { base = begun.base; entries = at.entries i }
 
-pub returns-clause-only : goal.returns-clause-only
-returns-clause-only c =
-    let text = c.args.dump.now in
+pub returns-in-Ok-clause-dump : goal.returns-in-Ok-clause-dump
+returns-in-Ok-clause-dump c =
+    let begun : Chronicle = c.in-Some.begun in
     let rest = c.cut_line.result.1.now in
-    let first : c.cut_line.result.0.now ≡ first_line = search rules in
-    let cut : lines_or_one text ≡ first_line ∷ lines rest = c.cut_line.ensures.lines ∙ ap (λ (l : List ℕ). l ∷ lines rest) first in
-    within_ok (λ entries. AllZip IsRead (lines rest) entries.items) (λ entries. length entries.items ≤ last_place) (λ entries. (others : List Entry) → IsDump text others → others ≡ entries.items) c.read_entries.result
-    (λ entries read few. dump-only text rest cut entries.items read) c.read_entries.ensures.read c.read_entries.ensures.places
+    let at : BeginsAt c.cut_line.result.0.now begun = (c.in_ok-begun.ensures begun).0 c.in-Some.is in
+    let cut : lines_or_one c.args.dump.now ≡ first_line begun.base ∷ lines rest = c.cut_line.ensures.lines ∙ ap (λ (l : List ℕ). l ∷ lines rest) at.line_is in
+    dump-read c.args.dump.now rest begun.base at.first cut c.in-Ok.entries.items (rw c.in-Ok.is at c.in_ok-entries.ensures.read) (rw c.in-Ok.is at c.in_ok-entries.ensures.places)
 
-pub returns-clause-unreadable : goal.returns-clause-unreadable
-returns-clause-unreadable c =
-    let text = c.args.dump.now in
+pub returns-in-Ok-clause-only : goal.returns-in-Ok-clause-only
+returns-in-Ok-clause-only c =
+    let begun : Chronicle = c.in-Some.begun in
     let rest = c.cut_line.result.1.now in
-    let first : c.cut_line.result.0.now ≡ first_line = search rules in
-    let cut : lines_or_one text ≡ first_line ∷ lines rest = c.cut_line.ensures.lines ∙ ap (λ (l : List ℕ). l ∷ lines rest) first in
-    within_err (IsFirstUnreadable 2 (lines rest)) (IsUnreadable text) c.read_entries.result (unreadable-behind text rest cut) c.read_entries.ensures.unreadable
+    let at : BeginsAt c.cut_line.result.0.now begun = (c.in_ok-begun.ensures begun).0 c.in-Some.is in
+    let cut : lines_or_one c.args.dump.now ≡ first_line begun.base ∷ lines rest = c.cut_line.ensures.lines ∙ ap (λ (l : List ℕ). l ∷ lines rest) at.line_is in
+    dump-only c.args.dump.now rest begun.base at.first cut
+    (λ other first is.
+    let named : Chronicle = begun_with other [] in
+    ap (λ (v : Chronicle). v.base) (some_same begun named (sym c.in-Some.is ∙ (c.in_ok-begun.ensures named).1 (record { entries = refl; first = first; line_is = at.line_is ∙ is }))))
+    c.in-Ok.entries.items (rw c.in-Ok.is at c.in_ok-entries.ensures.read)
+
+pub returns-in-Err-clause-unreadable : goal.returns-in-Err-clause-unreadable
+returns-in-Err-clause-unreadable c =
+    let begun : Chronicle = c.in-Some.begun in
+    let rest = c.cut_line.result.1.now in
+    let at : BeginsAt c.cut_line.result.0.now begun = (c.in_ok-begun.ensures begun).0 c.in-Some.is in
+    let cut : lines_or_one c.args.dump.now ≡ first_line begun.base ∷ lines rest = c.cut_line.ensures.lines ∙ ap (λ (l : List ℕ). l ∷ lines rest) at.line_is in
+    unreadable-behind c.args.dump.now rest begun.base at.first cut c.in-Err.number (rw c.in-Err.is at c.in_ok-entries.ensures.unreadable)

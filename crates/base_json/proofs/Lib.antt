@@ -1,0 +1,4 @@
+pub mod BaseInProfile
+pub mod BaseLists
+pub mod BaseTexts
+pub mod Mapped

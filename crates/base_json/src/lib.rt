@@ -1,0 +1,15 @@
+//! The text of the base that the first line of a later epoch's dump names.
+//!
+//! A base is read leniently. Who reads a line makes a version of what was found, writes its line again and compares; `specs/`
+//! says the line byte by byte.
+#![tactic(auto)]
+
+mod base;
+mod documents;
+mod each;
+mod locals;
+mod purges;
+mod revisions;
+mod values;
+
+pub use base::{put_base, read_base};
