@@ -17,11 +17,15 @@ indexes.
     actions        each route's answer
     responses      the texts of responses
     once           a whole run
-    history        dumps: the text of a history, and whether a text is the dump of a legal one
+    forms          values in the lines of a dump, and their ranges
+    bases          what a history begins from, as the first line of its dump
+    history        dumps: the text of a history, whether a text is the dump of a legal one, and the base of the next one
+    epochs         histories that go on from one another: which follows which
     versions       rows of commands, queries and a follower
     copies         rows of compactions that are made by slices
     worlds         rows of interleavings
     containers     rows of maps, lists and trees
+    dump_rows      rows of dumps that begin from a base
     rows           how rows are read
 
 A route that the program doesn't have is answered as if it were not there.

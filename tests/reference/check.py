@@ -11,7 +11,7 @@ import sys
 TESTS = os.path.dirname(os.path.dirname(os.path.abspath(__file__)))
 sys.path.insert(0, TESTS)
 
-from reference import json_profile, once, queries, revisions, trees, worked  # noqa: E402
+from reference import json_profile, once, queries, revisions, trees, worked, worked_epochs  # noqa: E402
 from reference.database import Database, Merge  # noqa: E402
 
 STATUS = {200: "200 OK", 201: "201 Created", 202: "202 Accepted", 400: "400 Bad Request", 404: "404 Not Found", 405: "405 Method Not Allowed", 409: "409 Conflict"}
@@ -45,6 +45,11 @@ PARAMETER = '{"error":"bad_request","reason":"parameter"}'
 MEMBER = '{"error":"bad_request","reason":"member"}'
 METHOD = '{"error":"method_not_allowed","reason":"Method not allowed."}'
 DONE = '{"ok":true}'
+
+
+def not_allowed(methods, place=0, more=""):
+    """The response to HEAD on a route of these methods."""
+    return 405, place, METHOD, "Allow: %s\r\n%s" % (methods, more), False
 
 
 def written(id, rev):
@@ -93,7 +98,7 @@ ROW_D = '{"changes":[{"rev":"%s"},{"rev":"%s"}],"id":"d","seq":2}' % (revision("
 THREE = [(201, at + 1, written(id, A1)) for at, id in enumerate("abc")]
 THREE_AND_A_DELETION = THREE + [(200, 4, written("a", X2))]
 
-# of each transcript its responses: status, place, body, and further lines of the head
+# of each transcript its responses: status, place, body, further lines of the head, and whether the body is there
 WORKED = {
     "first-path/put-once": [(201, 1, written("a", A1))],
     "first-path/put-twice": [(201, 1, written("a", A1)), (409, 2, CONFLICT)],
@@ -330,7 +335,7 @@ WORKED = {
         (404, 5, MISSING),
         (200, 5, infos(A2, (A2, "available"), (A1, "missing")).replace('"a"', '"y"')),
     ],
-    "compactions/method-of-compact": [(405, 0, METHOD, "Allow: POST\r\n")] * 4 + [(200, 0, info(0, 0, 0))],
+    "compactions/method-of-compact": [(405, 0, METHOD, "Allow: POST\r\n")] * 3 + [not_allowed("POST"), (200, 0, info(0, 0, 0))],
     "queries/changes-of-a-long-poll-alone": [
         (200, 0, changes(0, 0)),
         (200, 0, changes(0, 0)),
@@ -392,8 +397,8 @@ WORKED = {
     "queries/filter-taken": THREE + [(200, 3, changes(3, 0, ROWS[1]))] * 7,
     "queries/filter-by-get": THREE + [(400, 3, PARAMETER)] * 6 + [(200, 3, changes(3, 0, *ROWS))] * 2,
     "queries/filter-parameter-before-body": [(400, 0, PARAMETER)] * 11,
-    "queries/method-of-changes": [(200, 0, changes(0, 0)), (405, 0, METHOD, "Allow: GET, POST\r\n")],
-    "queries/methods-of-changes": [(405, 0, METHOD, "Allow: GET, POST\r\n")] * 10,
+    "queries/method-of-changes": [(200, 0, changes(0, 0)), not_allowed("GET, POST")],
+    "queries/methods-of-changes": [(405, 0, METHOD, "Allow: GET, POST\r\n")] * 4 + [not_allowed("GET, POST")] * 2 + [(405, 0, METHOD, "Allow: GET, POST\r\n")] * 4,
     "purges/purged-limit": [(200, 0, "1000"), (200, 1, DONE), (200, 1, "1"), (400, 1, SHAPE)],
     "purges/purged-limit-ends": [
         (200, 1, DONE),
@@ -435,7 +440,7 @@ WORKED = {
         (201, 10, written("a", A1)),
         (200, 10, info(1, 0, 5, 4)),
     ],
-    "purges/method-of-purged-limit": [(405, 0, METHOD, "Allow: GET, PUT\r\n")] * 5 + [(200, 0, "1000")],
+    "purges/method-of-purged-limit": [(405, 0, METHOD, "Allow: GET, PUT\r\n")] * 2 + [not_allowed("GET, PUT")] + [(405, 0, METHOD, "Allow: GET, PUT\r\n")] * 2 + [(200, 0, "1000")],
     "queries/number-below-i64": [
         (201, 1, written("a", LOWEST)),
         (200, 1, '{"_id":"a","_rev":"%s","n":-9223372036854775808}' % LOWEST),
@@ -510,8 +515,8 @@ AT_ENDS = {
         "GET", "GET, PUT, DELETE", "GET", "GET", "GET, PUT", "GET", "POST", "GET, POST", "POST", "POST", "GET, PUT, DELETE", "POST", "GET, PUT, DELETE", "GET, PUT, DELETE",
     ]],
     "targets-and-methods": [(404, 0, MISSING)] * 2
-    + [(405, 0, METHOD, "Allow: %s\r\n" % methods) for methods in ["GET, PUT"] + ["POST"] * 4 + ["GET, PUT, DELETE"]]
-    + [(405, 0, METHOD, "Allow: GET, PUT, DELETE\r\n" + CLOSED)],
+    + [(405, 0, METHOD, "Allow: %s\r\n" % methods) for methods in ["GET, PUT"] + ["POST"] * 4]
+    + [not_allowed("GET, PUT, DELETE"), not_allowed("GET, PUT, DELETE", 0, CLOSED)],
     "put-faults-in-order": bad("parameter", "revision", "json", "number", "shape", "shape", "member", "revision", "revision"),
     "put-of-all-that-it-takes": [
         (201, 1, written("café/a", A1)),
@@ -564,6 +569,24 @@ AT_ENDS = {
 }
 WORKED.update(("wire-edges/" + name, responses) for name, responses in AT_ENDS.items())
 
+NO_ROUTE = (404, 0, MISSING, "", False)
+OF_HEAD = {
+    "of-each-route": [not_allowed(methods) for methods in [
+        "GET", "GET", "GET", "GET", "POST", "GET, POST", "POST", "GET, PUT, DELETE", "POST", "GET, PUT", "POST", "GET, PUT", "GET, PUT, DELETE",
+    ]],
+    "of-no-route": [NO_ROUTE] * 5,
+    "between-others": [
+        (200, 0, '{"couchdb":"Welcome"}'), not_allowed("GET"), (404, 0, MISSING), NO_ROUTE,
+        (201, 1, written("a", A1)), not_allowed("GET, PUT, DELETE", 1), (404, 1, MISSING, "", False), (200, 1, '{"_id":"a","_rev":"%s"}' % A1),
+    ],
+    "with-a-body": [not_allowed("GET, PUT, DELETE"), NO_ROUTE, (404, 0, MISSING)],
+    "that-closes": [(201, 1, written("a", A1)), not_allowed("GET, PUT, DELETE", 1, CLOSED)],
+    "that-closes-with-no-route": [(404, 0, MISSING, CLOSED, False)],
+    "of-version-one-zero": [not_allowed("GET, PUT, DELETE", 0, CLOSED)],
+    "cut-in-its-body": [(200, 0, '{"couchdb":"Welcome"}')],
+}
+WORKED.update(("head-alone/" + name, responses) for name, responses in OF_HEAD.items())
+
 LARGE_HEAD = ("431 Request Header Fields Too Large", 37, '{"error":"too_large","reason":"head"}')
 CHUNKS = ("411 Length Required", 68, '{"error":"length_required","reason":"Chunked bodies are not taken."}')
 LENGTH = ("400 Bad Request", 41, '{"error":"bad_request","reason":"length"}')
@@ -590,15 +613,20 @@ BROKEN = {
     "wire-edges/length-with-a-letter": LENGTH,
     "wire-edges/length-of-a-slash": LENGTH,
     "wire-edges/length-of-a-colon": LENGTH,
+    "head-alone/with-no-version": ("400 Bad Request", 39, '{"error":"bad_request","reason":"head"}'),
+    "head-alone/with-sixty-five-headers": LARGE_HEAD,
+    "head-alone/with-no-length": LENGTH,
+    "head-alone/with-a-length-too-large": LARGE_BODY,
 }
 
 # lengths that were counted by hand
 LENGTHS = [(written("a", A1), 63), (CONFLICT, 57), ('{"_id":"a","_rev":"%s"}' % A1, 55)]
 
 
-def response(status, place, body, lines=""):
+def response(status, place, body, lines="", is_whole=True):
+    """A response, or that to HEAD, which is a head alone."""
     head = "HTTP/1.1 %s\r\nContent-Type: application/json\r\nContent-Length: %d\r\nCouch-Place: %d\r\n%s\r\n"
-    return (head % (STATUS[status], len(body.encode()), place, lines) + body).encode()
+    return (head % (STATUS[status], len(body.encode()), place, lines) + (body if is_whole else "")).encode()
 
 
 def fed(place, *lines):
@@ -740,7 +768,7 @@ def stems():
 
 def main():
     passed = failed = 0
-    for checks in [transcripts, feeds, broken, literal, digests, nestings, follower, stems, *worked.CHECKS]:
+    for checks in [transcripts, feeds, broken, literal, digests, nestings, follower, stems, *worked.CHECKS, *worked_epochs.CHECKS]:
         for name, holds in checks():
             passed += holds
             failed += not holds

@@ -42,6 +42,8 @@ class Copies:
 
     def told(self, statement):
         name, *words = statement.split()
+        if name == "reopen":
+            return self.history.reopen()
         if name not in self.copies:
             return self.history.write(0, [name, *words])
         deed, n = words

@@ -189,10 +189,11 @@ class Database:
 
 
 class Session:
-    """One session over a database: each command has the next place, a query the place of the last command."""
+    """One session over a database, an empty one if none is given: each command has the next place, a query the place of the last
+    command."""
 
-    def __init__(self):
-        self.database = Database()
+    def __init__(self, database=None):
+        self.database = Database() if database is None else database
         self.place = 0
 
     def bulk(self, changes, merged=False):

@@ -1,22 +1,21 @@
-"""A second reading of dumps: the text of a history, and whether a text is the dump of a legal one."""
+"""A second reading of dumps: the text of a history, whether a text is the dump of a legal one, and what the next one begins from."""
+import copy
+
 from . import revisions
+from .bases import NoSuccessor, first_line, read_first_line, successor
 from .database import BAD_HISTORY, CONFLICT, DELETED, GENERATION, MISSING, Database, Edit, Merge, Refused, Session
-from .json_profile import Body, JsonFault, MAX_BODY_NESTING, is_number, nesting, read, text
+from .forms import LAST_COUNTER, Unreadable, is_body, is_id, is_limit, is_object, is_rev, within
+from .json_profile import Body, JsonFault, read, text
 from .once import Connection
 from .queries import texts
 
-FIRST_LINE = b'{"couch_history":1}\n'
+FIRST_LINE = first_line(None)
 LAST_PLACE = 4294967295
-LAST_COUNTER = 4294967295  # of local documents, and of both limits
 MOST_WRITES = 1048576  # of a bulk, and documents of a purge
 SESSIONS = 64
 
 REFUSALS = {CONFLICT: "E1", BAD_HISTORY: "E2", MISSING: "E3", DELETED: "E4", GENERATION: "E5"}
 OF_EDITS, OF_MERGES, OF_LOCALS = {"E1", "E2", "E3", "E4", "E5"}, {"E2"}, {"E1", "E3", "E5"}
-
-
-class Unreadable(Exception):
-    """A line is not exactly that of an entry within the limits."""
 
 
 def expect(holds):
@@ -82,11 +81,16 @@ def line(command, reply, seat):
 
 
 class Recorder(Session):
-    """A session that keeps the line of each command."""
+    """A session that keeps the line of each command: of a history from the base that is named, or from none."""
 
-    def __init__(self):
-        super().__init__()
+    def __init__(self, base=None):
+        super().__init__(Database() if base is None else copy.deepcopy(base))
+        self.base = base
         self.lines = []
+
+    def successor(self):
+        """A session of the next history."""
+        return Recorder(successor(self.database))
 
     def record(self, command, reply):
         self.lines.append(line(command, reply, [0, len(self.lines) + 1]))
@@ -128,7 +132,7 @@ class Recorder(Session):
         return number
 
     def dump(self):
-        return FIRST_LINE + b"".join(self.lines)
+        return first_line(self.base) + b"".join(self.lines)
 
 
 def dump_of(data):
@@ -156,26 +160,6 @@ def read_entry(data):
     expect(is_reply(command, reply))
     expect(isinstance(seat, list) and len(seat) == 2 and within(seat[0], 0, SESSIONS - 1) and within(seat[1], 1, 2 ** 63 - 1))
     return command, reply, seat
-
-
-def is_object(value, needed, more=()):
-    return isinstance(value, dict) and needed <= set(value) <= needed | set(more)
-
-
-def within(value, least, most):
-    return is_number(value) and least <= value <= most
-
-
-def is_id(value):
-    return isinstance(value, str) and 1 <= len(value.encode()) <= 512
-
-
-def is_rev(value):
-    return isinstance(value, str) and revisions.parse(value) is not None
-
-
-def is_body(value):
-    return isinstance(value, dict) and not any(name.startswith("_") for name in value) and nesting(value) <= MAX_BODY_NESTING
 
 
 def is_path(value):
@@ -212,9 +196,9 @@ def check_command(command):
     elif "purge" in command:
         expect(is_object(command, {"purge"}) and is_revs_by_id(command["purge"]) and len(command["purge"]) <= MOST_WRITES)
     elif "limit" in command:
-        expect(is_object(command, {"limit"}) and within(command["limit"], 1, LAST_COUNTER))
+        expect(is_object(command, {"limit"}) and is_limit(command["limit"]))
     elif "purged_limit" in command:
-        expect(is_object(command, {"purged_limit"}) and within(command["purged_limit"], 1, LAST_COUNTER))
+        expect(is_object(command, {"purged_limit"}) and is_limit(command["purged_limit"]))
     else:
         expect(command == {"compact": True})
 
@@ -231,23 +215,60 @@ def is_reply(command, reply):
     return reply is True
 
 
-# ---- the verdict
+# ---- the verdict, and what the next history begins from
+
+
+class Wrong(Exception):
+    """The first place whose seat or reply is not that of the sequential database."""
+
+
+class UnreadableLine(Exception):
+    """The first line that is none of a dump."""
 
 
 def verdict(data):
     """What an audit of these bytes prints, without the line feed, and its exit status."""
+    return judged(data)[:2]
+
+
+def next_base(data):
+    """The bytes that are written for the history after the one that these bytes are the dump of, and the exit status."""
+    said, status, last = judged(data)
+    if last is None:
+        return said.encode() + b"\n", status
+    try:
+        return first_line(successor(last)), 0
+    except NoSuccessor:
+        return b"no successor\n", 6
+
+
+def judged(data):
+    """The verdict, its exit status, and the database at the end where there is one."""
+    try:
+        base, entries = read_dump(data)
+        return "legal %d" % len(entries), 0, replay(Database() if base is None else base, entries)
+    except UnreadableLine as fault:
+        return "unreadable line %d" % fault.args, 3, None
+    except Wrong as fault:
+        return "wrong at %d" % fault.args, 2, None
+
+
+def read_dump(data):
+    """The base that is named, or None, and the entries. All lines are read before an entry is judged."""
     lines = cut(data)
-    if not lines or lines[0] != FIRST_LINE:
-        return "unreadable line 1", 3
-    entries = []
-    for number, found in enumerate(lines[1:], 2):
+    found = [read_line(1, read_first_line, lines[0] if lines else b"")]
+    for number, one in enumerate(lines[1:], 2):
         if number - 1 > LAST_PLACE:
-            return "unreadable line %d" % number, 3
-        try:
-            entries.append(read_entry(found))
-        except Unreadable:
-            return "unreadable line %d" % number, 3
-    return judged(entries)
+            raise UnreadableLine(number)
+        found.append(read_line(number, read_entry, one))
+    return found[0], found[1:]
+
+
+def read_line(number, reads, data):
+    try:
+        return reads(data)
+    except Unreadable:
+        raise UnreadableLine(number) from None
 
 
 def cut(data):
@@ -257,14 +278,14 @@ def cut(data):
     return lines + [pieces[-1]] if pieces[-1] else lines
 
 
-def judged(entries):
-    """The first place whose seat or reply is not that of the sequential database."""
-    database, calls = Database(), {}
+def replay(database, entries):
+    """The database after these entries, if each seat is its session's next call and each reply is the database's."""
+    calls = {}
     for place, (command, reply, [session, call]) in enumerate(entries, 1):
         if call != calls.get(session, 0) + 1 or not is_same(reply, reply_to(database, command)):
-            return "wrong at %d" % place, 2
+            raise Wrong(place)
         calls[session] = call
-    return "legal %d" % len(entries), 0
+    return database
 
 
 def is_same(one, other):

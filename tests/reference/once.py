@@ -26,7 +26,7 @@ class Connection:
             if isinstance(answer, Feed):
                 yield feed(answer, self.session.place)
                 return
-            yield response(answer, self.session.place, request.closes)
+            yield response(answer, self.session.place, request.closes, request.method != b"HEAD")
             if request.closes:
                 return
 

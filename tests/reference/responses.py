@@ -79,7 +79,8 @@ def feed(given, place):
     return head.encode("ascii") + b"".join(json_profile.text(line).encode("utf-8") + b"\n" for line in given.lines)
 
 
-def response(answer, place, closes):
+def response(answer, place, closes, whole=True):
+    """The head and the body, or the head alone, with the length of the body that is left out."""
     body = json_profile.text(answer.value).encode("utf-8")
     head = "HTTP/1.1 %d %s\r\n" % (answer.status, REASONS[answer.status])
     head += "Content-Type: application/json\r\n"
@@ -89,4 +90,4 @@ def response(answer, place, closes):
         head += "Allow: %s\r\n" % ", ".join(answer.methods)
     if closes:
         head += "Connection: close\r\n"
-    return head.encode("ascii") + b"\r\n" + body
+    return head.encode("ascii") + b"\r\n" + (body if whole else b"")

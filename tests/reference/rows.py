@@ -6,7 +6,7 @@ a revision stands for its text, and `(TEXT)*N` for the text N times, `#` in it f
 import re
 from dataclasses import dataclass
 
-from . import containers, copies, versions, worlds
+from . import containers, copies, dump_rows, versions, worlds
 from .json_profile import EMPTY, Body
 from .revisions import child, text
 
@@ -31,6 +31,11 @@ KINDS = {
     "map": containers.map_told,
     "list": containers.list_told,
     "tree": containers.tree_told,
+    # those that go on over the end of a history
+    "epochs": versions.told,
+    "epoch_copies": copies.told,
+    "epoch_world": worlds.told_after,
+    "dump": dump_rows.told,
 }
 
 

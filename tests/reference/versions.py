@@ -2,15 +2,16 @@
 import copy
 
 from . import queries, revisions, trees
+from .bases import NoSuccessor, successor
 from .database import Database, Edit, Merge, Refused
 from .json_profile import EMPTY, body_of, read, text
 
 
 class History:
-    """A database, what it was before the last command, and whose call each command was."""
+    """A database, an empty one if none is given, what it was before the last command, and whose call each command was."""
 
-    def __init__(self):
-        self.database = Database()
+    def __init__(self, database=None):
+        self.database = Database() if database is None else database
         self.before = None
         self.seats = []
         self.reply = None  # of the last command
@@ -27,6 +28,16 @@ class History:
         self.database, self.seats = copy.deepcopy(self.database), [*self.seats, (session, self.next_call(session))]
         self.reply = reply_to(self.database, words)
         return self.reply
+
+    def reopen(self):
+        """Goes on as the next history, and tells what that begins from; the one that ended stands as `before`."""
+        try:
+            database = successor(self.database)
+        except NoSuccessor:
+            return "no successor"
+        self.before = copy.copy(self)
+        self.database, self.seats, self.reply = database, [], None
+        return content(database)
 
 
 # ---- commands
@@ -277,4 +288,6 @@ def told_statement(history, name, words):
         return told_read(history.before, *words)
     if name == "by":
         return history.write(int(words[0]), words[1:])
+    if name == "reopen":
+        return history.reopen()
     return history.write(0, [name, *words])

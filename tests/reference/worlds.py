@@ -2,6 +2,7 @@
 
 An event whose condition fails, or whose session there is not, does nothing.
 """
+from .bases import successor
 from .copies import Copy
 from .versions import History, content, told_query
 
@@ -9,8 +10,10 @@ SESSIONS, QUEUE, GATHER, SLACK, MAX_PLACES = 3, 4, 4, 0, 100
 
 
 class World:
-    def __init__(self):
-        self.history = History()
+    """From an empty database if none is given."""
+
+    def __init__(self, database=None):
+        self.history = History(database)
         self.databases = [self.history.database]  # at each place
         self.waiting = []  # each with its session
         self.batch = []
@@ -113,7 +116,18 @@ class World:
 
 def told(statements):
     """The completed calls, how many entries there are, and what stands."""
-    world = World()
+    return told_of(World(), statements)
+
+
+def told_after(statements):
+    """What each command in front of the bar tells, and then what the events behind it do in a world that begins from the successor
+    of what the commands leave."""
+    history, bar = History(), statements.index("|")
+    told = [history.write(0, statement.split()) for statement in statements[:bar]]
+    return told + told_of(World(successor(history.database)), statements[bar + 1 :])
+
+
+def told_of(world, statements):
     for statement in statements:
         name, *words = statement.split()
         getattr(world, name)(*words)

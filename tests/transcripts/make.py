@@ -14,7 +14,7 @@ HERE = os.path.dirname(os.path.abspath(__file__))
 TESTS = os.path.dirname(HERE)
 sys.path[:0] = [TESTS, HERE]
 
-from cases import conflicts, edges, examples, filters, first_path, purge_log, purges, queries, wire_edges  # noqa: E402
+from cases import conflicts, edges, examples, filters, first_path, head_alone, purge_log, purges, queries, wire_edges  # noqa: E402
 from reference import history, once  # noqa: E402
 
 # the cases of each folder
@@ -26,6 +26,7 @@ FOLDERS = {
     "compactions": purges.COMPACTIONS,
     "broken-input": first_path.BROKEN_INPUT,
     "wire-edges": wire_edges.CASES,
+    "head-alone": head_alone.CASES,
 }
 
 

@@ -1,8 +1,9 @@
-//! Rows of commands beside two compactions that are made by slices.
+//! Rows of commands beside two compactions that are made by slices, in one epoch or in several.
 ghost use Rattle.std.specs.Prelude.{◌≡◌, IfOk};
-ghost use Rattle.model.specs.History.{Extends};
+ghost use Rattle.model.specs.History.{Extends, Follows};
 
 use crate::changes::after;
+use crate::epochs::reopened;
 use crate::replies::{push_content, push_last_reply};
 use commands::Seat;
 use compactor::{Compaction, CopyFault};
@@ -22,8 +23,8 @@ pub(crate) fn told(alloc: Global, row: &str) -> Result<String, Fail> {
     Ok(text)
 }
 
-/// The version after these commands.
-fn written(alloc: Global, commands: &str, text: &mut String) -> Result<Version, Fail> {
+/// The version after these commands, whose replies are told.
+pub(crate) fn written(alloc: Global, commands: &str, text: &mut String) -> Result<Version, Fail> {
     let mut version = Version::empty(alloc);
     for command in commands.split(';') {
         let mut piece = String::new(alloc);
@@ -49,8 +50,9 @@ fn with_command(
 }
 
 /// A compaction of the version.
+#[tactic(auto, using(crate::proofs::Order::follows_itself))]
 fn started(alloc: Global, version: &Version) -> Result<Compaction, Fail>
-    ensures { IfOk result (λ copy. Extends version.now copy.seen) }
+    ensures { IfOk result (λ copy. Follows version.now copy.seen) }
 {
     let copy = Compaction::start(alloc, version)?;
     Ok(copy)
@@ -72,7 +74,7 @@ fn with_second(
     steps: &str,
     text: &mut String,
 ) -> Result<(), Fail>
-    requires { Extends version first.old.seen }
+    requires { Follows version first.old.seen }
 {
     let mut second = started(alloc, &version)?;
     let made = make_all(alloc, version, first, &mut second, steps, text);
@@ -89,8 +91,8 @@ fn make_all(
     steps: &str,
     text: &mut String,
 ) -> Result<(), Fail>
-    requires first { Extends version first.old.seen }
-    requires second { Extends version second.old.seen }
+    requires first { Follows version first.old.seen }
+    requires second { Follows version second.old.seen }
 {
     let mut version = version;
     for step in steps.split(';') {
@@ -103,6 +105,7 @@ fn make_all(
 }
 
 /// The version after a step.
+#[tactic(auto, using(crate::proofs::Order::follows_on, crate::proofs::Order::follows_reopened))]
 fn made(
     alloc: Global,
     version: &Version,
@@ -111,20 +114,34 @@ fn made(
     step: &str,
     text: &mut String,
 ) -> Result<Version, Fail>
-    requires first { Extends version.now first.old.seen }
-    requires second { Extends version.now second.old.seen }
-    ensures first { IfOk result (λ v. Extends v first.new.seen) }
-    ensures second { IfOk result (λ v. Extends v second.new.seen) }
+    requires first { Follows version.now first.old.seen }
+    requires second { Follows version.now second.old.seen }
+    ensures first { IfOk result (λ v. Follows v first.new.seen) }
+    ensures second { IfOk result (λ v. Follows v second.new.seen) }
 {
     let words: Vec<&str> = step.split_whitespace().collect(alloc)?;
     match words.as_slice() {
-        ["first", deed, n] => done(first, version, 1, deed, n.parse::<u64>()?, text),
-        ["second", deed, n] => done(second, version, 2, deed, n.parse::<u64>()?, text),
-        _ => with_command(alloc, version, step, text),
+        ["first", deed, n] => {
+            let next = done(first, version, 1, deed, n.parse::<u64>()?, text)?;
+            Ok(next)
+        }
+        ["second", deed, n] => {
+            let next = done(second, version, 2, deed, n.parse::<u64>()?, text)?;
+            Ok(next)
+        }
+        ["reopen"] => {
+            let next = reopened(version, text)?;
+            Ok(next)
+        }
+        _ => {
+            let next = with_command(alloc, version, step, text)?;
+            Ok(next)
+        }
     }
 }
 
 /// The version after what is done with a compaction.
+#[tactic(auto, using(crate::proofs::Order::follows_kept))]
 fn done(
     copy: &mut Compaction,
     version: &Version,
@@ -133,9 +150,9 @@ fn done(
     n: u64,
     text: &mut String,
 ) -> Result<Version, Fail>
-    requires { Extends version.now copy.old.seen }
+    requires { Follows version.now copy.old.seen }
     ensures extends { IfOk result (λ v. Extends v version.now) }
-    ensures follows { IfOk result (λ v. Extends v copy.new.seen) }
+    ensures follows { Follows version.now copy.new.seen }
 {
     match deed {
         "slice" => slice(copy, version, n, text),
@@ -152,9 +169,8 @@ fn slice(
     n: u64,
     text: &mut String,
 ) -> Result<Version, Fail>
-    requires { Extends version.now copy.old.seen }
     ensures same { IfOk result (λ v. v ≡ version.now) }
-    ensures follows { IfOk result (λ v. Extends v copy.new.seen) }
+    ensures kept { copy.new.seen ≡ copy.old.seen }
 {
     let left = copy.slice(n);
     push_left(text, left, copy.visited())?;
@@ -169,30 +185,32 @@ fn catch_up(
     n: u64,
     text: &mut String,
 ) -> Result<Version, Fail>
-    requires { Extends version.now copy.old.seen }
+    requires { Follows version.now copy.old.seen }
     ensures same { IfOk result (λ v. v ≡ version.now) }
-    ensures follows { IfOk result (λ v. Extends v copy.new.seen) }
+    ensures follows { Follows version.now copy.new.seen }
 {
     tell_catch_up(copy, version, n, text)?;
     let same = version.share()?;
     Ok(same)
 }
 
+#[tactic(auto, using(crate::proofs::Order::follows_itself, crate::proofs::Order::follows_kept))]
 fn tell_catch_up(
     copy: &mut Compaction,
     version: &Version,
     n: u64,
     text: &mut String,
 ) -> Result<(), Fail>
-    requires { Extends version.now copy.old.seen }
-    ensures { Extends version.now copy.new.seen }
+    requires { Follows version.now copy.old.seen }
+    ensures { Follows version.now copy.new.seen }
 {
     if copy.left() > 0 {
         return Err("all are sliced".into());
     }
-    let left = copy.catch_up(version, n);
-    push_left(text, left, copy.visited())?;
-    Ok(())
+    match copy.catch_up(version, n) {
+        Ok(left) => Ok(push_left(text, Ok(left), copy.visited())?),
+        Err(fault) => Ok(push_fault(text, fault)?),
+    }
 }
 
 /// The version with one compaction more, or as it is where there is a fault.
@@ -203,7 +221,7 @@ fn finish(
     slack: u64,
     text: &mut String,
 ) -> Result<Version, Fail>
-    requires { Extends version.now copy.old.seen }
+    requires { Follows version.now copy.old.seen }
     ensures kept { copy.new.seen ≡ copy.old.seen }
     ensures extends { IfOk result (λ v. Extends v version.now) }
 {

@@ -1,7 +1,8 @@
-//! Rows of commands and queries, one after another, and of a follower of the changes.
+//! Rows of commands and queries, one after another, and of a follower of the changes, in one epoch or in several.
 
 use crate::answers::push_rows;
 use crate::changes::{act, command};
+use crate::epochs::reopened;
 use crate::questions::{ids_named, push_asked, style};
 use crate::reads::push_read;
 use crate::replies::push_last_reply;
@@ -12,7 +13,7 @@ use std::alloc::Global;
 use std::mem;
 use std::test::Fail;
 
-/// What stands, what stood before the last command, and a follower.
+/// What stands, what stood before the last command or the end of the last epoch, and a follower.
 #[derive(Drop)]
 struct Store {
     now: Version,
@@ -42,7 +43,8 @@ impl Store {
     }
 
     /// Does what a statement says, and tells what comes of it. A query follows `?`, a read of what stands or of what stood
-    /// follows `now` or `before`, and a command may follow `by` and its session, which is else 0.
+    /// follows `now` or `before`, and a command may follow `by` and its session, which is else 0. `reopen` begins the next
+    /// epoch.
     fn perform(&mut self, alloc: Global, statement: &str, text: &mut String) -> Result<(), Fail> {
         let words: Vec<&str> = statement.split_whitespace().collect(alloc)?;
         match words.as_slice() {
@@ -55,6 +57,7 @@ impl Store {
             }
             ["pending"] => self.pending(text),
             ["next", limit] => self.next(alloc, limit.parse::<u64>()?, text),
+            ["reopen"] => self.reopen(text),
             ["by", session, words @ ..] => self.write(alloc, session.parse::<u16>()?, words, text),
             words => self.write(alloc, 0, words, text),
         }
@@ -71,6 +74,13 @@ impl Store {
         let command = command(alloc, words)?;
         let next = act(&self.now, session, &command)?;
         push_last_reply(text, &next)?;
+        self.before = mem::replace(&mut self.now, next);
+        Ok(())
+    }
+
+    /// Ends the epoch, and tells what the next one begins from.
+    fn reopen(&mut self, text: &mut String) -> Result<(), Fail> {
+        let next = reopened(&self.now, text)?;
         self.before = mem::replace(&mut self.now, next);
         Ok(())
     }

@@ -2,13 +2,15 @@
 //!
 //! A row begins with its kind: `database` has commands, queries and a follower, `copies` commands beside two
 //! compactions that are made by slices, and `world` events of sessions, an updater and a compactor. Statements stand
-//! with `;` between. `tests/rows` has the rows and what they must print.
+//! with `;` between. `epochs` and `epoch_copies` are such rows in which `reopen` goes on over the end of a history, and
+//! `epoch_world` is a world of the epoch after some commands. `tests/rows` has the rows and what they must print.
 #![tactic(auto)]
 
 mod answers;
 mod changes;
 mod copies;
 mod databases;
+mod epochs;
 mod questions;
 mod reads;
 mod replies;
@@ -23,9 +25,10 @@ fn told(alloc: Global, row: &str) -> Result<String, Fail> {
         return Err("a kind and statements".into());
     };
     match kind {
-        "database" => databases::told(alloc, statements),
-        "copies" => copies::told(alloc, statements),
+        "database" | "epochs" => databases::told(alloc, statements),
+        "copies" | "epoch_copies" => copies::told(alloc, statements),
         "world" => worlds::told(alloc, statements),
+        "epoch_world" => worlds::told_after(alloc, statements),
         _ => Err("a kind of row".into()),
     }
 }

@@ -1,12 +1,14 @@
-//! Rows of what happens to sessions, an updater and a compactor, one event after another.
+//! Rows of what happens to sessions, an updater and a compactor, one event after another, in a first epoch or a later one.
 
 use crate::answers::push_answer;
 use crate::changes::command;
+use crate::copies::written;
 use crate::questions::query;
 use crate::replies::{push_content, push_reply};
 use commands::{Config, Limits};
-use machine::{Completed, Event, Record, run};
+use machine::{Completed, Event, Record, run, run_after};
 use queries::Query;
+use snapshots::Version;
 use std::alloc::{AllocError, Global};
 use std::test::Fail;
 
@@ -17,6 +19,28 @@ pub(crate) fn told(alloc: Global, row: &str) -> Result<String, Fail> {
     let mut text = String::new(alloc);
     push_record(&mut text, &record)?;
     Ok(text)
+}
+
+/// What the commands in front of `|` are answered; and of a world of the epoch after them the same, by the events behind it.
+pub(crate) fn told_after(alloc: Global, row: &str) -> Result<String, Fail> {
+    let Some((commands, row)) = row.split_once('|') else {
+        return Err("a bar".into());
+    };
+    let mut text = String::new(alloc);
+    let version = written(alloc, commands, &mut text)?;
+    let events = events(alloc, row)?;
+    let record = happened_after(alloc, &version, &events)?;
+    push_record(&mut text, &record)?;
+    Ok(text)
+}
+
+/// What the events make of a machine of the epoch after this version.
+fn happened_after(alloc: Global, version: &Version, events: &[Event]) -> Result<Record, Fail> {
+    if !version.has_successor() {
+        return Err("no successor".into());
+    }
+    let record = run_after(alloc, config()?, version, events)?;
+    Ok(record)
 }
 
 /// Three sessions, of whose jobs four may wait, and no slack.

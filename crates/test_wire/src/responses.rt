@@ -2,7 +2,7 @@
 
 use crate::histories::entry_of;
 use http_framing::FramingFault;
-use http_request::Form;
+use http_request::{Extent, Form};
 use http_response::{
     Connection, MemoryFor, Response, Unavailable, answer, closing, feed_head, feed_last, no_memory,
     reply, service_unavailable,
@@ -81,7 +81,8 @@ pub(crate) fn response_told(alloc: Global, place: &str, name: &str) -> Result<St
             Some(&service_unavailable(place, Connection::Open, why)),
         );
     }
-    text_of(alloc, Some(&no_memory(place, wanted_named(name)?)))
+    let (extent, wanted) = wanted_named(name)?;
+    text_of(alloc, Some(&no_memory(place, extent, wanted)))
 }
 
 fn fault_named(name: &str) -> Option<FramingFault> {
@@ -107,10 +108,11 @@ fn why_named(name: &str) -> Option<Unavailable> {
     }
 }
 
-fn wanted_named(name: &str) -> Result<MemoryFor, Fail> {
+fn wanted_named(name: &str) -> Result<(Extent, MemoryFor), Fail> {
     match name {
-        "memory_for_call" => Ok(MemoryFor::Call),
-        "memory_for_reply" => Ok(MemoryFor::Reply),
+        "memory_for_call" => Ok((Extent::Whole, MemoryFor::Call)),
+        "memory_for_reply" => Ok((Extent::Whole, MemoryFor::Reply)),
+        "memory_for_head" => Ok((Extent::HeadAlone, MemoryFor::Call)),
         _ => Err("no such response".into()),
     }
 }

@@ -1,5 +1,5 @@
-use Rattle.model.specs.History.{Extends}
+use Rattle.model.specs.History.{Follows}
 use Rattle.test_store.proofs.copies.make_all.Given as goal
 
 abbrev pub invariant-loop-step : goal.invariant-loop-step
-invariant-loop-step l = (Extends l.version l.first.seen) × (Extends l.version l.second.seen)
+invariant-loop-step l = (Follows l.version l.first.seen) × (Follows l.version l.second.seen)
