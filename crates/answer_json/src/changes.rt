@@ -50,10 +50,6 @@ fn row_text(alloc: Global, row: &Row) -> Result<String, AllocError>
 }
 
 /// A row as a feed gives it: a line of its own.
-///
-/// # Errors
-///
-/// Memory may be refused.
 pub fn feed_line(alloc: Global, row: &Row) -> Result<String, AllocError>
     ensures line { IfOk result (λ text. string_bytes text ≡ feed_line row.now) }
 {

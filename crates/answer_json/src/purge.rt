@@ -58,10 +58,6 @@ fn push_leaves(
 }
 
 /// Writes documents behind a text, each with the revisions that are named of it.
-///
-/// # Errors
-///
-/// Memory may be refused.
 pub fn append_named_revisions(
     alloc: Global,
     text: String,
@@ -76,10 +72,6 @@ pub fn append_named_revisions(
 }
 
 /// What a purge removed of each document that was asked for, with the purge number after it.
-///
-/// # Errors
-///
-/// Memory may be refused.
 pub fn purged_text(
     alloc: Global,
     purge_seq: u64,

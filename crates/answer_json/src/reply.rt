@@ -12,10 +12,6 @@ use std::alloc::{AllocError, Global};
 const NAMES_ROOM: usize = 40;
 
 /// The text that tells of a write that was taken.
-///
-/// # Errors
-///
-/// Memory may be refused.
 pub fn written_text(alloc: Global, id: &DocId, rev: &RevId) -> Result<String, AllocError>
     ensures { IfOk result (λ text. string_bytes text ≡ compact_text (written_data id.now rev.now)) }
 {
@@ -37,10 +33,6 @@ fn write_text(alloc: Global, id: &str, rev: &str) -> Result<String, AllocError>
 }
 
 /// The text that tells of a write of a local document that was taken.
-///
-/// # Errors
-///
-/// Memory may be refused.
 pub fn local_written_text(alloc: Global, id: &DocId, counter: u32) -> Result<String, AllocError>
     ensures { IfOk result (λ text. string_bytes text
         ≡ compact_text (local_written_data id.now counter)) }

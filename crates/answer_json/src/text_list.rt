@@ -10,10 +10,6 @@ use revision_id::RevId;
 use std::alloc::{AllocError, Global};
 
 /// The texts of the list that a JSON text is, if it is a list of texts.
-///
-/// # Errors
-///
-/// Memory may be refused.
 pub fn read_text_list(alloc: Global, text: &str) -> Result<Option<Vec<Json>>, AllocError>
     ensures { IfOk result (λ found. option_map (λ values. values.items) found ≡ text_list_of text.now) }
 {
@@ -25,10 +21,6 @@ pub fn read_text_list(alloc: Global, text: &str) -> Result<Option<Vec<Json>>, Al
 }
 
 /// The items of a list of texts.
-///
-/// # Errors
-///
-/// Memory may be refused.
 pub fn take_texts(alloc: Global, value: Json) -> Result<Option<Vec<Json>>, AllocError>
     ensures { IfOk result (λ texts. option_map (λ t. t.items) texts ≡ texts_in value) }
 {

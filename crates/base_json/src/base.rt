@@ -67,10 +67,6 @@ fn put_log(
 
 /// The parts of the base that a first line names, if the text may be one. Parts may be found of another text too, and they
 /// may be of no base: the line of what they make is to be written again and compared.
-///
-/// # Errors
-///
-/// Memory may be refused.
 pub fn read_base(alloc: Global, text: &[u8]) -> Result<Option<DatabaseParts>, AllocError>
     ensures found { (base : model.Database) → IsBase base → text.now ≡ base_text base
         → IfOk result (λ found. AreFound found base) }

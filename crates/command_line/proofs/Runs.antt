@@ -11,7 +11,7 @@ use Rattle.command_line.specs.declared.numbers.Serving.{Serving}
 use Rattle.command_line.specs.declared.replicate.Replicating.{Replicating}
 use Rattle.command_line.specs.declared.Run.TheVariants.{Once, Dump, Serve, Replicate}
 
--- an error of no kind is want of memory
+-- an error of no kind is that memory was refused
 pub of_memory : (kinds : Kinds) (e : Error) → HasKind kinds e → kinds ≡ [] → kind_of e ≡ OutOfMemory
 of_memory kinds e (inl memory) none = memory
 of_memory kinds e (inr among) none = absurd (subst (IsAmong (kind_of e)) none among)

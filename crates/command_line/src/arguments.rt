@@ -7,10 +7,6 @@ use std::io::ErrorKind;
 
 /// The words that the program was given, of which the first is its name; nothing where they are not
 /// all UTF-8.
-///
-/// # Errors
-///
-/// Want of memory.
 pub fn given_words<A: AllocGlobal + Env>(rt: &A) -> io::Result<Option<Vec<String>>> {
     match env::args(rt) {
         Ok(words) => Ok(Some(words.collect(rt.alloc())?)),

@@ -24,7 +24,7 @@ pub enum WordsFault {
 
 impl WordsFault {
     /// Says on standard error why the words name no run, and answers the exit status: this one for
-    /// words that can't be parsed, and 1 for want of memory.
+    /// words that can't be parsed, and 1 where memory was refused.
     pub fn tell<P: Eprint>(self, rt: &P, unreadable: u8) -> ExitCode {
         match self {
             WordsFault::Words(text) => {

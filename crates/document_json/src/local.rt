@@ -54,10 +54,6 @@ fn read_local_document(alloc: Global, body: &[u8]) -> Result<Parts, Fault>
 }
 
 /// The id of a local document as bodies and answers write it, `_local/ID`.
-///
-/// # Errors
-///
-/// Memory may be refused.
 pub fn local_id_text(alloc: Global, id: &DocId) -> Result<String, AllocError>
     ensures { IfOk result (λ text. string_bytes text ≡ local_id id.now) }
 {

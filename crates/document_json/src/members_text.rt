@@ -40,10 +40,6 @@ impl MembersText {
     }
 
     /// Writes one more member, whose value has no float.
-    ///
-    /// # Errors
-    ///
-    /// Memory may be refused.
     pub fn push(&mut self, alloc: Global, name: &str, value: &Value) -> Result<(), AllocError>
         requires { has_float (view value.now) ≡ false }
         ensures { OnOk result (Writes self.old self.new (member name.now (view value.now) no_members)) }
@@ -55,10 +51,6 @@ impl MembersText {
     }
 
     /// Writes one more member, whose value is a string.
-    ///
-    /// # Errors
-    ///
-    /// Memory may be refused.
     pub fn push_string(&mut self, alloc: Global, name: &str, string: &str) -> Result<(), AllocError>
         ensures { OnOk result (Writes self.old self.new (member name.now (string_data string.now) no_members)) }
     {

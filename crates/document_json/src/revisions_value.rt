@@ -16,10 +16,6 @@ fn rev_value(alloc: Global, rev: &RevId) -> Result<Value, AllocError>
 }
 
 /// A list of revisions.
-///
-/// # Errors
-///
-/// Memory may be refused.
 pub fn revs_value(alloc: Global, revs: &[RevId]) -> Result<Value, AllocError>
     ensures { IfOk result (λ value. view value ≡ revs_data revs.now) }
 {

@@ -25,10 +25,6 @@ pub fn read_json(alloc: Global, bytes: &[u8]) -> Result<Json, Fault>
 }
 
 /// The text of a value with no float.
-///
-/// # Errors
-///
-/// Memory may be refused.
 pub fn value_text(alloc: Global, value: &Value) -> Result<String, AllocError>
     requires { has_float (view value.now) ≡ false }
     ensures { IfOk result (λ text. string_bytes text ≡ compact_text (view value.now)) }
@@ -37,10 +33,6 @@ pub fn value_text(alloc: Global, value: &Value) -> Result<String, AllocError>
 }
 
 /// Writes a comma, where something stands before.
-///
-/// # Errors
-///
-/// Memory may be refused.
 pub fn put_comma(text: &mut String, later: bool) -> Result<(), AllocError>
     ensures { OnOk result (string_bytes text.new ≡ string_bytes text.old ++ comma_if later) }
 {
@@ -49,10 +41,6 @@ pub fn put_comma(text: &mut String, later: bool) -> Result<(), AllocError>
 
 /// Writes a string with its quotes. One with nothing to escape is written as it stands, and takes
 /// no memory of its own.
-///
-/// # Errors
-///
-/// Memory may be refused.
 pub fn put_string(text: &mut String, alloc: Global, string: &str) -> Result<(), AllocError>
     ensures { OnOk result (string_bytes text.new ≡ string_bytes text.old ++ quoted string.now) }
 {

@@ -101,10 +101,6 @@ fn push_special(
 }
 
 /// The text of a document, with what was asked of it.
-///
-/// # Errors
-///
-/// Memory may be refused.
 pub fn document_text(alloc: Global, document: &Document) -> Result<String, AllocError>
     ensures { IfOk result (λ text. string_bytes text ≡ compact_text (document_data document.now)) }
 {
@@ -115,10 +111,6 @@ pub fn document_text(alloc: Global, document: &Document) -> Result<String, Alloc
 }
 
 /// The text of a revision from elsewhere, with its path.
-///
-/// # Errors
-///
-/// Memory may be refused.
 pub fn merge_text(alloc: Global, merge: &Merge) -> Result<String, AllocError>
     ensures { IfOk result (λ text. string_bytes text ≡ compact_text (merge_data merge.now)) }
 {

@@ -13,10 +13,6 @@ use std::alloc::{AllocError, Global};
 const SPECIAL_ROOM: usize = 40;
 
 /// The revision of a local document, `0-k`.
-///
-/// # Errors
-///
-/// Memory may be refused.
 pub fn counter_text(alloc: Global, counter: u32) -> Result<String, AllocError>
     ensures { IfOk result (λ text. string_bytes text ≡ counter_text counter) }
 {
@@ -24,10 +20,6 @@ pub fn counter_text(alloc: Global, counter: u32) -> Result<String, AllocError>
 }
 
 /// The text of a local document.
-///
-/// # Errors
-///
-/// Memory may be refused.
 pub fn local_text(
     alloc: Global,
     id: &DocId,

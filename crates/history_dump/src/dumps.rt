@@ -10,10 +10,6 @@ use snapshots::Version;
 use std::alloc::{AllocError, Global};
 
 /// The dump of a version's history: the first line, and the line of each entry from place 1 on.
-///
-/// # Errors
-///
-/// Memory may be refused.
 pub fn dump_version(alloc: Global, version: &Version) -> Result<Vec<u8>, AllocError>
     ensures text { IfOk result (λ text. text.items ≡ dump_text version.now) }
 {

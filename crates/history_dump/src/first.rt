@@ -13,10 +13,6 @@ use std::alloc::{AllocError, Global};
 const FIRST_EPOCH: &str = "{\"couch_history\":1}";
 
 /// The first line of the dump of a version's history, with its line feed.
-///
-/// # Errors
-///
-/// Memory may be refused.
 pub fn first_line(alloc: Global, version: &Version) -> Result<String, AllocError>
     ensures { IfOk result (λ text. string_bytes text ≡ first_line version.now.base) }
 {
@@ -37,10 +33,6 @@ fn put_first(text: &mut String, alloc: Global, base: Option<&Database>) -> Resul
 }
 
 /// The version of no entries over what a first line names: nothing where the bytes are not exactly such a line.
-///
-/// # Errors
-///
-/// Memory may be refused.
 pub fn read_first_line(alloc: Global, line: &[u8]) -> Result<Option<Version>, AllocError>
     ensures { (v : Chronicle) → IfOk result (λ found. (found ≡ Some v) ↔ BeginsAt line.now v) }
 {

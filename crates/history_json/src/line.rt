@@ -44,10 +44,6 @@ fn put_entry(
 
 /// The entry that a line is of: one exactly where the bytes are the line, without its line feed, of
 /// an entry that keeps the limits.
-///
-/// # Errors
-///
-/// Memory may be refused.
 pub fn read_line(alloc: Global, line: &[u8]) -> Result<Option<Entry>, AllocError>
     ensures entry { IfOk result (λ found. (entry : model.Entry)
         → (found ≡ Some entry) ↔ (IsLine entry × (line.now ≡ line_text entry))) }

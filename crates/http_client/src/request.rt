@@ -5,10 +5,6 @@ ghost use Rattle.http_client.specs.Request.{request_text};
 use std::alloc::{AllocError, Global};
 
 /// A request of this method for this target, with this body.
-///
-/// # Errors
-///
-/// Memory may be refused.
 pub fn request_text(
     alloc: Global,
     method: &str,

@@ -18,10 +18,6 @@ pub const SEGMENT: AsciiSet = ascii_set!(
 );
 
 /// The target of at most so many changes above a number, with all leaves of each document.
-///
-/// # Errors
-///
-/// Memory may be refused.
 pub fn changes_target(alloc: Global, since: u64, limit: u64) -> Result<String, AllocError>
     ensures target { IfOk result (λ text. string_bytes text ≡ changes_target since limit) }
 {
@@ -30,10 +26,6 @@ pub fn changes_target(alloc: Global, since: u64, limit: u64) -> Result<String, A
 
 /// The target of at most so many changes above a number, of the documents that the request's body
 /// lists, with all leaves of each.
-///
-/// # Errors
-///
-/// Memory may be refused.
 pub fn filtered_changes_target(alloc: Global, since: u64, limit: u64) -> Result<String, AllocError>
     ensures target { IfOk result (λ text. string_bytes text ≡ filtered_changes_target since limit) }
 {
@@ -41,10 +33,6 @@ pub fn filtered_changes_target(alloc: Global, since: u64, limit: u64) -> Result<
 }
 
 /// The target of a local document.
-///
-/// # Errors
-///
-/// Memory may be refused.
 pub fn local_target(alloc: Global, id: &str) -> Result<String, AllocError>
     ensures target { IfOk result (λ text. string_bytes text ≡ local_target SEGMENT id.now) }
 {
@@ -54,10 +42,6 @@ pub fn local_target(alloc: Global, id: &str) -> Result<String, AllocError>
 
 /// The target of the revisions of a document that a JSON list names, or of the newest in their
 /// place, each with its ancestors.
-///
-/// # Errors
-///
-/// Memory may be refused.
 pub fn open_revs_target(alloc: Global, id: &str, list: &str) -> Result<String, AllocError>
     ensures target { IfOk result (λ text. string_bytes text
         ≡ open_revs_target SEGMENT id.now list.now) }

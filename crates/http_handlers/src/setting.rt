@@ -15,10 +15,6 @@ pub struct Setting<'c, X> {
 impl<'c, X> Setting<'c, X> {
     /// Builds the routes. Calls that wait do so by the context, and a wait for changes looks at most
     /// so many times.
-    ///
-    /// # Errors
-    ///
-    /// Memory may be refused.
     pub fn new(alloc: Global, context: &'c X, turns: u64) -> Result<Setting<'c, X>, AllocError> {
         Ok(Setting {
             alloc,

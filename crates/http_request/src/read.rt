@@ -25,10 +25,6 @@ use std::alloc::{AllocError, Global};
 use std::sync::Arc;
 
 /// What a request asks, or why it is rejected.
-///
-/// # Errors
-///
-/// Memory may be refused.
 pub fn read_request(
     alloc: Global,
     routes: &Routes,

@@ -64,7 +64,7 @@ unfoldable pub unavailable_text : ℕ → Connection → Unavailable → List �
 unavailable_text place connection why =
     response_text status.ServiceUnavailable place allow.Unsaid connection extent.Whole (unavailable_body why)
 
--- ---- want of memory
+-- ---- out of memory
 
 abbrev pub wanted_name : MemoryFor → List ℕ
 wanted_name memory_for.Call = codes "call"

@@ -24,10 +24,6 @@ use std::alloc::{AllocError, Global};
 use std::sync::Arc;
 
 /// The response to a query, where such queries are answered so.
-///
-/// # Errors
-///
-/// Memory may be refused.
 #[tactic(auto, unfolding(crate::specs::Texts::answer_text))]
 pub fn answer(
     alloc: Global,

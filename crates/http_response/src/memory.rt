@@ -1,4 +1,4 @@
-//! The responses for want of memory, which take none.
+//! The responses of a server that is out of memory, which take none.
 ghost use Rattle.std.specs.Prelude.{◌≡◌};
 ghost use Rattle.http_response.specs.Texts.{no_memory_body, no_memory_text};
 
@@ -18,7 +18,7 @@ pub enum MemoryFor {
     Reply,
 }
 
-/// The response for want of memory, as far as the request takes it, after which the connection
+/// The response where memory was refused, as far as the request takes it, after which the connection
 /// closes.
 #[tactic(auto, unfolding(crate::specs::Texts::no_memory_text))]
 pub fn no_memory(place: u64, extent: Extent, wanted: MemoryFor) -> Response

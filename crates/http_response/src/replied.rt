@@ -21,10 +21,6 @@ use std::alloc::{AllocError, Global};
 
 /// The response to a command in a form, where a request can ask for such a command in this form
 /// and be replied so.
-///
-/// # Errors
-///
-/// Memory may be refused.
 #[tactic(auto, unfolding(crate::specs::Texts::reply_text))]
 pub fn reply(
     alloc: Global,

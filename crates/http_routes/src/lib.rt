@@ -125,7 +125,7 @@ fn router_of(alloc: Global, paths: &[(&str, Route)]) -> Result<Router<Route>, Al
 {
     let mut router = Router::new(alloc);
     for (path, route) in paths {
-        // No two paths of the table conflict, so that this is want of memory.
+        // No two paths of the table conflict, so memory was refused.
         if router.insert(path, *route).is_err() {
             return Err(AllocError);
         }
@@ -135,10 +135,6 @@ fn router_of(alloc: Global, paths: &[(&str, Route)]) -> Result<Router<Route>, Al
 
 impl Routes {
     /// Builds the router.
-    ///
-    /// # Errors
-    ///
-    /// Memory may be refused.
     pub fn new(alloc: Global) -> Result<Routes, AllocError> {
         let router = router_of(alloc, &TABLE)?;
         Ok(Routes { router })

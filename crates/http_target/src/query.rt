@@ -26,10 +26,6 @@ impl<'q> Model for Parameters<'q> {
 
 impl<'q> Parameters<'q> {
     /// Reads a query string, each name and value once.
-    ///
-    /// # Errors
-    ///
-    /// Memory may be refused.
     pub fn read(alloc: Global, query: &'q str) -> Result<Parameters<'q>, AllocError>
         ensures { IfOk result (λ parameters. parameters ≡ parameters_of query.now) }
     {

@@ -86,7 +86,7 @@ impl Machine {
         })
     }
 
-    /// What the event does. After want of memory the machine is as it was.
+    /// What the event does. Where memory is refused, the machine is as it was.
     pub fn step(&mut self, event: &Event) -> Result<(), AllocError>
         ensures stepped { OnOk result (self.new ≡ stepped self.old (event_of event.now)) }
         ensures put { OnOk result (event_of event.now ≡ model.Put → 0 < length self.old.world.batch → length self.old.world.history + length self.old.world.batch ≤ self.old.config.max_places
@@ -124,8 +124,8 @@ impl Machine {
         }
     }
 
-    /// The history, and the completed calls.
-    pub(crate) fn into_record(self) -> Record
+    /// What came of all events so far: the history, and the completed calls in order.
+    pub fn into_record(self) -> Record
         ensures version { result.version ≡ record { base = self.base; entries = self.world.history } }
         ensures completed { map completed_of result.completed.items ≡ self.world.completed }
     {

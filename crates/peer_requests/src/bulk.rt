@@ -13,10 +13,6 @@ use http_client::request_text;
 use std::alloc::{AllocError, Global};
 
 /// Asks to graft documents with their paths.
-///
-/// # Errors
-///
-/// Memory may be refused.
 pub fn bulk_request(alloc: Global, documents: &[Merge]) -> Result<String, AllocError>
     ensures request { IfOk result (λ text. string_bytes text ≡ bulk_request documents.now) }
 {

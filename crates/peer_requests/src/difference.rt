@@ -8,10 +8,6 @@ use http_client::request_text;
 use std::alloc::{AllocError, Global};
 
 /// Asks which of these revisions are not known.
-///
-/// # Errors
-///
-/// Memory may be refused.
 pub fn diff_request(alloc: Global, asked: &NamedRevisions) -> Result<String, AllocError>
     ensures request { IfOk result (λ text. string_bytes text ≡ diff_request asked.now) }
 {

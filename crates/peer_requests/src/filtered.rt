@@ -14,10 +14,6 @@ use std::alloc::{AllocError, Global};
 /// Asks for the changes of these documents above a number, at most `limit` rows, with all leaves of
 /// each. However long the list is, it goes in one request: a server that takes none so large refuses
 /// it.
-///
-/// # Errors
-///
-/// Memory may be refused.
 pub fn filtered_changes_request(
     alloc: Global,
     ids: &DocIds,

@@ -11,10 +11,6 @@ use serde_json::{Value, json};
 use std::alloc::{AllocError, Global};
 
 /// Asks for the checkpoint of this id.
-///
-/// # Errors
-///
-/// Memory may be refused.
 pub fn local_get_request(alloc: Global, id: &DocId) -> Result<String, AllocError>
     ensures request { IfOk result (λ text. string_bytes text ≡ local_get_request SEGMENT id.now) }
 {
@@ -24,10 +20,6 @@ pub fn local_get_request(alloc: Global, id: &DocId) -> Result<String, AllocError
 
 /// Asks to write a checkpoint over the revision whose number is named, or the first where none is:
 /// the update number of the source up to which the target has all.
-///
-/// # Errors
-///
-/// Memory may be refused.
 pub fn local_put_request(
     alloc: Global,
     id: &DocId,

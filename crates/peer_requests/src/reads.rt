@@ -13,10 +13,6 @@ use serde_json::Value;
 use std::alloc::{AllocError, Global};
 
 /// Asks for the changes above a number, at most `limit` rows, with all leaves of each document.
-///
-/// # Errors
-///
-/// Memory may be refused.
 pub fn changes_request(alloc: Global, since: u64, limit: u64) -> Result<String, AllocError>
     ensures request { IfOk result (λ text. string_bytes text ≡ changes_request since limit) }
 {
@@ -25,10 +21,6 @@ pub fn changes_request(alloc: Global, since: u64, limit: u64) -> Result<String, 
 }
 
 /// Asks for revisions of a document, or for the newest in their place, each with its ancestors.
-///
-/// # Errors
-///
-/// Memory may be refused.
 pub fn open_revs_request(alloc: Global, id: &DocId, revs: &[RevId]) -> Result<String, AllocError>
     ensures request { IfOk result (λ text. string_bytes text
         ≡ open_revs_request SEGMENT id.now revs.now) }

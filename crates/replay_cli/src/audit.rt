@@ -14,10 +14,6 @@ use std::alloc::{AllocError, Global};
 ///
 /// Beside the text it takes memory for the entries, each of which goes once the database has its
 /// command.
-///
-/// # Errors
-///
-/// Memory may be refused.
 pub fn check(alloc: Global, dump: &[u8]) -> Result<Verdict, AllocError>
     ensures legal { IfOk result (λ verdict. (places : ℕ)
         → (verdict ≡ Verdict.Legal places) ↔ IsLegalDump dump.now places) }

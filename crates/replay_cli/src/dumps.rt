@@ -9,10 +9,6 @@ use std::alloc::{AllocError, Global};
 use updating::Opening;
 
 /// The dump of a closed history: the first line, and the line of each entry from place 1 on.
-///
-/// # Errors
-///
-/// Memory may be refused.
 pub fn dump<J: Opening>(alloc: Global, closed: &Closed<J>) -> Result<Vec<u8>, AllocError>
     ensures text { IfOk result (λ text. text.items ≡ dump_text (begun_with J.base closed.now.history)) }
 {

@@ -21,10 +21,6 @@ pub enum NoSuccessor {
 }
 
 /// The first line, with its line feed, of the dump of the epoch that follows the one of this dump.
-///
-/// # Errors
-///
-/// Memory may be refused.
 pub fn successor_line(
     alloc: Global,
     dump: &[u8],

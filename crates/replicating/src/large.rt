@@ -15,10 +15,6 @@ const AROUND: usize = 29;
 
 /// The document that is too large for a bulk of its own, if that is what these are, and the length
 /// of its text.
-///
-/// # Errors
-///
-/// Memory may be refused.
 #[tactic(auto, using(crate::proofs::BulkLengths::bulk_length))]
 pub(crate) fn large_in(
     alloc: Global,

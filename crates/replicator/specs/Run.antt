@@ -28,7 +28,7 @@ abbrev pub Called : {S : Type 0} → (S → Call → S → Type 0) → S → S �
 Called goes old new job stage side learned =
     ((call : Call) × goes old call new × IsTurn job stage side call learned) ⊎ ((new ≡ old) × (learned ≡ Err fault.Memory))
 
--- what a step called, which is nothing only for want of memory, and what it told
+-- what a step called, which is nothing only where memory was refused, and what it told
 pub record Step : Type 0 where
   pub exchange : Option Exchange
   pub result : Result Progress PeerFault
@@ -60,7 +60,7 @@ pub record Party (S T : Type 0) : Type 0 where
   pub target : T
 
 -- By a step the worker makes at most one call, which is due, of one end; it learns the answer and tells so. It makes
--- none only for want of memory.
+-- none only where memory was refused.
 pub record IsStep {S T : Type 0} (source_goes : S → Call → S → Type 0) (target_goes : T → Call → T → Type 0) (old : Party S T) (step : Step) (new : Party S T) : Type 0 where
   pub learned : Learned
   pub exchanges : Exchanges source_goes target_goes old.worker.job old.worker.stage old.source old.target new.source new.target step.exchange learned

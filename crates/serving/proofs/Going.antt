@@ -213,6 +213,6 @@ module _ {T : Type 0} {answers : T → Turn → T → Type 0} where
   served-ended cause.WriteFault going ends unfinished at_end = absurd ends
   served-ended cause.Memory going ends unfinished at_end = absurd ends
 
-  -- nothing was done, for want of memory
+  -- nothing was done, since memory was refused
   pub served-nothing : {streams : Streams} {state : T} → Served answers streams streams state state (record { answered = 0; cause = cause.Memory })
   served-nothing = served-at_end cause.Memory (going-start refl) (refl, refl, refl) refl refl

@@ -12,7 +12,7 @@ use streams::{Failed, Sink, write_both};
 /// What answers the requests of a connection, in a context that stays the same.
 ///
 /// It is lent the writer: a response may be at hand, or be written in pieces as they come about.
-/// Its own want of memory is a response too, of a text that takes none, after which the connection
+/// That memory was refused is a response too, of a text that takes none, after which the connection
 /// closes.
 pub trait Service<C> {
     /// In this context it goes from one state to the next by this turn.

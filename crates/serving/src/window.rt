@@ -45,10 +45,6 @@ impl Model for Window {
 
 impl Window {
     /// A window of no bytes, with all its memory.
-    ///
-    /// # Errors
-    ///
-    /// Memory may be refused.
     pub fn new(alloc: Global) -> Result<Window, AllocError>
         ensures { IfOk result (λ w. w.bytes ≡ []) }
     {

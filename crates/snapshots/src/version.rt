@@ -87,6 +87,13 @@ impl Version {
         &self.database
     }
 
+    /// Its documents, which it shares. It takes no memory, but is refused at the largest count of owners.
+    pub fn records(&self) -> Result<Records, AllocError>
+        ensures same { IfOk result (λ r. r ≡ record { docs = (now self.now).docs; update_seq = (now self.now).update_seq }) }
+    {
+        self.database.documents().share()
+    }
+
     /// The version after one more command.
     pub fn act(&self, seat: Seat, command: &Command) -> Result<Version, AllocError>
         requires next { seat.call ≡ calls_of (now self.now) seat.session + 1 }

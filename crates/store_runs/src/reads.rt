@@ -55,10 +55,7 @@ fn print_purges(rt: &HostRuntime, version: &Version) -> io::Result<()> {
 
 fn print_shares(rt: &HostRuntime, version: &Version) -> io::Result<()> {
     println!(rt; "shared {}", is_shared(version))?;
-    println!(rt;
-        "records {}",
-        version.database().documents().share().is_ok()
-    )
+    println!(rt; "records {}", version.records().is_ok())
 }
 
 fn is_shared(version: &Version) -> bool {

@@ -182,7 +182,7 @@ swaps_is_swap base max slack copy seat old new sliced may s c w most slack_is op
       batch = ap (λ (v : World). v.batch) stepped ∙ is.batch ∙ ap (λ (v : State). v.batch) (sym s.swapped);
     }
 
--- a copy that is not swapped in, but for want of memory
+-- a copy that is not swapped in, though memory was there
 pub refused_is_swap : (base : Option Database) (max slack : ℕ) (copy : CopyView) (session : ℕ) (old : State) (e : SwapFault) → copy.left ≡ 0 → HasPlace max old
     → (e ≡ Overrun → is_past base copy old ≡ true) → (e ≡ Behind → (is_past base copy old ≡ false) × (slack < behind_by base copy old)) → (e ≡ Full → ⊥) → (e ≡ Memory → ⊥)
     → IsSwap base max slack copy session old old
@@ -191,7 +191,7 @@ refused_is_swap base max slack copy session old Behind sliced place over behind 
 refused_is_swap base max slack copy session old Overrun sliced place over behind full memory = overrun_is_swap base max slack copy session old sliced place (over refl)
 refused_is_swap base max slack copy session old Memory sliced place over behind full memory = absurd (memory refl)
 
--- what is passed on is no want of memory, where what was answered is none
+-- what is passed on is not that memory was refused, where that was not answered
 pub passed_on : {T : Type 0} (r : Result T SwapFault) (e : SwapFault) → IsErrAnd r (λ f. f ≡ e) → r ≢ Err Memory → e ≡ Memory → ⊥
 passed_on (Ok x) e is none memory = absurd is
 passed_on (Err f) e is none memory = none (ap Err (is ∙ memory))

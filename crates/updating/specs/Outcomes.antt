@@ -51,7 +51,7 @@ abbrev pub all_stand : List (List Entry) → ℕ → List (Option Fate) → List
 all_stand published place outcomes [] = outcomes
 all_stand published place outcomes (e ∷ es) = all_stand published (place + 1) (told outcomes e.seat.session (StoodAt (record { published = published; place = place + 1; reply = e.reply }))) es
 
--- what a job that is given up is told: that no place is left, or want of memory
+-- what a job that is given up is told: that no place is left, or that memory was refused
 abbrev pub IsGivenUp : ℕ → List (List Entry) → Fate → Type 0
 IsGivenUp max_places published (NoPlaceLeft found) = (found ≡ published) × (length (newest published) ≡ max_places)
 IsGivenUp max_places published NoMemory = Unit {0}

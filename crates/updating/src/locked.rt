@@ -144,7 +144,7 @@ impl<R: Wait + Drop, J: Opening> Core<R, J> {
         Ok(())
     }
 
-    /// Gives up the batch, with no entry: each of its jobs is told want of memory, or that no place is
+    /// Gives up the batch, with no entry: each of its jobs is told that memory was refused, or that no place is
     /// left. It takes no memory.
     pub fn give_up(&mut self)
         ensures given_up { GivesUpBatch J.max_places self.old self.new }

@@ -13,7 +13,7 @@ pub enum OutcomeKind<J: Opening> {
     Stood(Answer<J>),
     /// No entry, since no place is left.
     Full(Filled<J>),
-    /// No entry, for want of memory.
+    /// No entry, since memory was refused.
     Memory,
     /// Dropped from the queue: it was not its session's next call, or the session had a job in the batch.
     Dropped,

@@ -57,7 +57,7 @@ pub(crate) fn no_outcomes<J: Opening>(
     Ok(outcomes)
 }
 
-/// What a job is told that is given up: that no place is left, or want of memory.
+/// What a job is told that is given up: that no place is left, or that memory was refused.
 fn given_up<J: Opening>(current: &Published<J>, is_full: bool) -> Outcome<J>
     requires { IsTrue is_full → length (newest current.now) ≡ J.max_places }
     ensures { IsGivenUp J.max_places current.now result }
