@@ -1,8 +1,9 @@
-"""The crates of the repository, as crates.txt has them."""
+"""The crates of the repository, as crates.txt has them: in groups, each under a heading, lowest first."""
 import os
 import re
 
 ROOT = os.path.join(os.path.dirname(os.path.abspath(__file__)), "..", "..")
+HEADING = "# ---- "
 ASIDE = re.compile(r"_(tests|runs|bench)$|^(test|bench|probe|soak)_")  # what only tests, times or probes
 
 
@@ -12,3 +13,16 @@ def stands_on():
         rows = [line.split(":") for line in file.read().splitlines() if line and not line.startswith("#")]
     named = {head.split()[0]: below.split() for head, below in rows}
     return {name: [it for it in below if it in named] for name, below in named.items() if not ASIDE.search(name)}
+
+
+def groups():
+    """For each heading of crates.txt the names under it, without those that only test, time or probe."""
+    found, names = {}, []
+    with open(os.path.join(ROOT, "crates.txt"), encoding="utf-8") as file:
+        for line in file.read().splitlines():
+            if line.startswith(HEADING):
+                names = found.setdefault(line[len(HEADING):], [])
+            elif line and not line.startswith("#"):
+                names.append(re.match(r"\w+", line).group())
+    kept = {heading: [it for it in names if not ASIDE.search(it)] for heading, names in found.items()}
+    return {heading: names for heading, names in kept.items() if names}
