@@ -12,9 +12,9 @@ SECONDS = 60  # that one response may take
 class Server:
     """A running `couchd serve`, on a port that was free."""
 
-    def __init__(self, program, *words):
+    def __init__(self, program, *words, env=None):
         self.process = subprocess.Popen(
-            [program, "serve", "--port", "0", *words], stdin=subprocess.DEVNULL, stdout=subprocess.PIPE
+            [program, "serve", "--port", "0", *words], stdin=subprocess.DEVNULL, stdout=subprocess.PIPE, env=env
         )
         self.line = self.process.stdout.readline().decode()  # that tells the port
         self.port = int(self.line.rsplit(":", 1)[1])
