@@ -1,4 +1,4 @@
-"""Clients that wait for some documents while others change."""
+"""Clients that wait for some documents while others change, and for any."""
 import select
 
 from .clients import target
@@ -28,9 +28,12 @@ class Quiet:
         return dict(row, deleted=True) if method == "DELETE" else row
 
     def asked(self, feed, since, *ids):
-        """A connection that asked to be told of these documents, and waits."""
+        """A connection that asked to be told of these documents, or of any, and waits."""
         connection = self.connect()
-        connection.send("POST", target(feed, since, None), {"doc_ids": list(ids)})
+        if ids:
+            connection.send("POST", target(feed, since, None), {"doc_ids": list(ids)})
+        else:
+            connection.send("GET", "/db/_changes?feed=%s&since=%s" % (feed, since))
         if feed == "continuous":
             status, _ = connection.head()
             self.check((status, connection.place) == (200, self.writer.place), "a feed begins at %d with %d", connection.place, status)
@@ -43,29 +46,35 @@ class Quiet:
         self.check(not ready and not early, "%d of %d who wait for others are told of something when %s", len(ready), len(self.waiting), text)
 
     def run(self):
-        """A poll and a feed wait for a document, and one of each for none that is there."""
+        """A poll and a feed wait for a document, one of each for none that is there, and a poll for any."""
         for id in "abc":
             self.write(id)
+        first = self.asked("longpoll", 3)
         poll, feed = self.asked("longpoll", 3, "b", "zz", "b"), self.asked("continuous", 3, "zz", "b")
         self.asked("longpoll", "now", "zz", "x" * 513, "")
         self.asked("continuous", "now", "zz")
         self.nobody_is_told(IDLE, "nothing is written")
+        self.ends(first, self.write("first"))
         for number in range(OTHERS):
             self.write("other-%d" % number)
         for id in "ac":
             self.write(id)
         self.nobody_is_told(SOON, "others are written")
         self.is_told(poll, feed)
-        for connection in self.waiting + [poll, self.writer]:
+        for connection in self.waiting + [first, poll, self.writer]:
             connection.close()
 
-    def is_told(self, poll, feed):
-        """What is written of the document is told at once, to a poll once."""
+    def ends(self, poll, row):
+        """A poll that was asked before the write of this row is answered by it."""
         self.waiting.remove(poll)
-        row = self.write("b")
         status, page = poll.answer()
         wanted = {"last_seq": row["seq"], "pending": 0, "results": [row]}
         self.check((status, page, poll.place) == (200, wanted, row["seq"]), "a poll is answered %d, %r at %d", status, page, poll.place)
+
+    def is_told(self, poll, feed):
+        """What is written of the document is told at once, to a poll once."""
+        row = self.write("b")
+        self.ends(poll, row)
         line = feed.line()
         self.check(line == row, "a feed tells %r in place of %r", line, row)
         self.write("c")
