@@ -1,4 +1,5 @@
-//! One database for many threads: how its sessions are made, and how it ends.
+//! One database for many threads: how its sessions are made, and how it ends. What its callers need of the crates below
+//! comes with it.
 #![tactic(auto)]
 
 mod closed;
@@ -14,3 +15,5 @@ pub use fault::SuccessorFault;
 pub use master::Master;
 pub use opened::Opened;
 pub use opening::open;
+pub use sessions::{Fault, Receipt, Session, Snapshot};
+pub use updating::{Core, Gate, NoGate, Opening, Point};

@@ -30,9 +30,9 @@ impl Model for Opened {
 
     ghost Value = { Names };
 
-    ghost coded = { coded_names (Prim.hlevel (codes, coded_members)) };
+    ghost coded = { coded_names (Prim.hlevel (codes, coded_members)) (Prim.hlevel (codes, coded_members)) };
 
-    ghost view = { λ o. record { book = o.book; base = o.empty.base; queue = o.queue; max_places = o.config.max_places } };
+    ghost view = { λ o. record { book = o.book; base = o.empty.base; table = o.queue.table; config = o.config } };
 
     ghost invariant = { λ o. (o.queue.capacity ≡ o.config.queue) × (o.queue.sessions ≡ o.config.sessions) × (o.empty.entries ≡ []) };
 }
@@ -41,9 +41,7 @@ impl Opened {
     /// What a database of this configuration has before its name, in its first epoch.
     pub fn new(alloc: Global, config: Config) -> Result<Opened, AllocError>
         ensures base { IfOk result (λ o. o.base ≡ None) }
-        ensures sessions { IfOk result (λ o. o.queue.sessions ≡ config.sessions) }
-        ensures capacity { IfOk result (λ o. o.queue.capacity ≡ config.queue) }
-        ensures max_places { IfOk result (λ o. o.max_places ≡ config.max_places) }
+        ensures config { IfOk result (λ o. o.config ≡ config) }
     {
         Opened::over(alloc, config, Version::empty(alloc))
     }
@@ -62,9 +60,7 @@ impl Opened {
         closed: &Closed<J>,
     ) -> Result<Opened, SuccessorFault>
         ensures base { IfOk result (λ o. o.base ≡ Some (successor (last_database J.base closed.now))) }
-        ensures sessions { IfOk result (λ o. o.queue.sessions ≡ config.sessions) }
-        ensures capacity { IfOk result (λ o. o.queue.capacity ≡ config.queue) }
-        ensures max_places { IfOk result (λ o. o.max_places ≡ config.max_places) }
+        ensures config { IfOk result (λ o. o.config ≡ config) }
         ensures too_large { (result ≡ Err NumbersTooLarge) ↔ HasTooLargeNumbers (last_database J.base closed.now) }
     {
         let last = closed.version();
@@ -79,9 +75,7 @@ impl Opened {
     fn over(alloc: Global, config: Config, empty: Version) -> Result<Opened, AllocError>
         requires empty { empty.entries ≡ [] }
         ensures base { IfOk result (λ o. o.base ≡ empty.base) }
-        ensures sessions { IfOk result (λ o. o.queue.sessions ≡ config.sessions) }
-        ensures capacity { IfOk result (λ o. o.queue.capacity ≡ config.queue) }
-        ensures max_places { IfOk result (λ o. o.max_places ≡ config.max_places) }
+        ensures config { IfOk result (λ o. o.config ≡ config) }
     {
         let limits = config.limits();
         let queue = turns::Opened::new(alloc, limits.queue, limits.sessions)?;

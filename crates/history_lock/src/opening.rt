@@ -2,6 +2,7 @@
 ghost use Rattle.std.specs.Prelude.{◌≡◌, ◌<◌, ◌≤◌, [], map, IfOk, IfErr};
 ghost use Rattle.std.specs.List.{range_with_len};
 ghost use Rattle.sessions.specs.Known.{fresh};
+ghost use Rattle.history_lock.specs.Names.{IsNamed};
 ghost use Rattle.history_lock.specs.Refusals.{IsRefusal};
 
 use crate::ends::{Ends, all_ends, all_sessions};
@@ -32,7 +33,7 @@ fn begin<R: Wait + Drop, J: Opening>(
     requires taken { clerk.taken ≡ [] }
     requires made { clerk.made ≡ 0 }
     requires sessions { config.sessions ≡ J.sessions }
-    requires max_places { config.max_places ≡ J.max_places }
+    requires config { config ≡ J.config }
     ensures ends { IfOk result (λ r. r.2.items ≡ range_with_len 0 config.sessions) }
     ensures refused { IfErr result IsRefusal }
 {
@@ -93,6 +94,7 @@ fn share<R: Wait + Drop, J: Opening, G: Gate + Drop>(
     ends: Vec<Ends<J>>,
 ) -> Result<(Master<Core<R, J>, J, G>, Vec<Session<Core<R, J>, J, G>>), AllocError>
     requires sessions { config.sessions ≡ J.sessions }
+    requires config { config ≡ J.config }
     ensures sessions { IfOk result (λ r. r.1.items ≡ map fresh ends.items) }
 {
     let shared = Shared::new(alloc, line, gate, config, core)?;
@@ -113,13 +115,8 @@ pub fn open<R: Wait + Drop, J: Opening, G: Gate + Drop>(
     opened: Opened,
     gate: G,
 ) -> Result<(Master<Core<R, J>, J, G>, Vec<Session<Core<R, J>, J, G>>), Fault>
-    requires book { opened.book ≡ J.book }
-    requires base { opened.base ≡ J.base }
-    requires table { opened.queue.table ≡ J.table }
-    requires capacity { opened.queue.capacity ≡ J.capacity }
-    requires sessions { opened.queue.sessions ≡ J.sessions }
-    requires max_places { opened.max_places ≡ J.max_places }
-    ensures sessions { IfOk result (λ r. r.1.items ≡ map fresh (range_with_len 0 opened.queue.sessions)) }
+    requires named { IsNamed J.book J.base J.table J.capacity J.sessions J.config opened }
+    ensures sessions { IfOk result (λ r. r.1.items ≡ map fresh (range_with_len 0 opened.config.sessions)) }
     ensures refused { IfErr result IsRefusal }
 {
     let Opened {

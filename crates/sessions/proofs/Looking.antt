@@ -1,14 +1,15 @@
 -- Looks one after another, and a call after a look.
-use Rattle.std.proofs.Common.{◌≡◌, ℕ, true, [], ◌∷◌, ◌++◌, refl, ap, sym, ◌∙◌, subst}
+use Rattle.std.proofs.Common.{◌≡◌, ℕ, ◌+◌, Bool, true, false, [], ◌∷◌, ◌++◌, refl, ap, sym, ◌∙◌, subst}
 use Rattle.std.proofs.lemmas.List.{append-nil}
 use Rattle.std.specs.Prelude.{Result, Ok, Err, Option, Some, None, IfOk, IfErr, IfSome, IfNone, IsErrAnd}
 use Rattle.model.specs.Command.{Command}
 use Rattle.model.specs.Database.{Database}
 use Rattle.model.specs.History.{IsLegal, Chronicle, Extends, base_of}
+use Rattle.model.specs.World.{Config}
 use Rattle.publications.proofs.Prefixes.{prefix_self, prefix_trans}
 use Rattle.sessions.specs.Known.{Known, seen, SeesOwn}
 use Rattle.sessions.specs.Calls.{Looks, Told, Writes, next_seat}
-use Rattle.sessions.specs.Compactions.{Leaves, IsOfCopy}
+use Rattle.sessions.specs.Compactions.{OnlyLooks, Leaves, IsOfCopy}
 use Rattle.sessions.specs.declared.fault.Fault.{Fault}
 use Rattle.sessions.specs.declared.fault.Fault.TheVariants as fault
 
@@ -32,17 +33,57 @@ looks_counted base a b looks p = record {
   same = ap (λ (k : Known). record k { waited = looks }) p.same;
 }
 
-lost_too : (base : Option Database) (a b : Known) → Looks base a b → Looks base (record a { lost = true }) (record b { lost = true })
-lost_too base a b p = record { legal = p.legal; extends = p.extends; own = p.own; same = ap (λ (k : Known). record k { lost = true }) p.same }
+-- the same of sessions whose last calls came to this
+with_calls : (base : Option Database) (a b : Known) (tried : ℕ) (entered lost : Bool) → Looks base a b → Looks base (record a { tried = tried; entered = entered; lost = lost }) (record b { tried = tried; entered = entered; lost = lost })
+with_calls base a b tried entered lost p = record {
+  legal = p.legal;
+  extends = p.extends;
+  own = p.own;
+  same = ap (λ (k : Known). record k { tried = tried; entered = entered; lost = lost }) p.same;
+}
 
-pub leaves_then : (base : Option Database) (max : ℕ) (e : Fault) (a b c : Known) → Looks base a b → Leaves base max e b c → Leaves base max e a c
-leaves_then base max fault.Busy a b c p q = q
-leaves_then base max fault.Lost a b c p q = looks_then base (record a { lost = true }) (record b { lost = true }) c (lost_too base a b p) q
-leaves_then base max fault.Full a b c p q = (looks_then base a b c p q.0, q.1)
-leaves_then base max fault.Memory a b c p q = looks_then base a b c p q
-leaves_then base max fault.EntryRefused a b c p q = looks_then base a b c p q
-leaves_then base max fault.Behind a b c p q = looks_then base a b c p q
-leaves_then base max fault.Overrun a b c p q = looks_then base a b c p q
+lost_as : (base : Option Database) (a b : Known) → Looks base a b → b.lost ≡ a.lost
+lost_as base a b p = ap (λ (k : Known). k.lost) p.same
+
+-- a compaction that has not been told of an entry
+pub only_looks : (base : Option Database) (k : Known) → IsLegal (base_of base) (seen k) → SeesOwn k → k.entered ≡ false → OnlyLooks base k k
+only_looks base k legal own none = record { legal = legal; extends = prefix_self (seen k); own = own; same = λ i. record k { entered = none i } }
+
+pub only_looks_then : (base : Option Database) (a b c : Known) → Looks base a b → OnlyLooks base b c → OnlyLooks base a c
+only_looks_then base a b c p q =
+    let here = with_calls base a b c.tried false b.lost p in
+    looks_then base (record a { tried = c.tried; entered = false }) (record b { tried = c.tried; entered = false }) c
+    (subst (λ (l : Bool). Looks base (record a { tried = c.tried; entered = false; lost = l }) (record b { tried = c.tried; entered = false })) (lost_as base a b p) here) q
+
+-- after a try that was behind, which had only looked before
+pub only_looks_more : (base : Option Database) (a b c : Known) → OnlyLooks base a b → b.entered ≡ false → Looks base (record b { tried = b.tried + 1 }) c → OnlyLooks base a c
+only_looks_more base a b c p none q =
+    let counted : c.tried ≡ b.tried + 1 = ap (λ (k : Known). k.tried) q.same in
+    let this : record b { tried = b.tried + 1 } ≡ record b { tried = c.tried; entered = false } = λ i. record b { tried = sym counted i; entered = none i } in
+    only_looks_then base (record a { tried = b.tried; entered = false }) b c p (subst (λ (k : Known). Looks base k c) this q)
+
+lost_then : (base : Option Database) (a b c : Known) → Looks base a b → Looks base (record b { tried = c.tried; entered = c.entered; lost = true }) c → Looks base (record a { tried = c.tried; entered = c.entered; lost = true }) c
+lost_then base a b c p q =
+    looks_then base (record a { tried = c.tried; entered = c.entered; lost = true }) (record b { tried = c.tried; entered = c.entered; lost = true }) c (with_calls base a b c.tried c.entered true p) q
+
+pub leaves_then : (base : Option Database) (config : Config) (e : Fault) (a b c : Known) → Looks base a b → Leaves base config e b c → Leaves base config e a c
+leaves_then base config fault.Busy a b c p q = q
+leaves_then base config fault.Lost a b c p q = lost_then base a b c p q
+leaves_then base config fault.Full a b c p q = (only_looks_then base a b c p q.0, q.1)
+leaves_then base config fault.Memory a b c p q = only_looks_then base a b c p q
+leaves_then base config fault.EntryRefused a b c p q = only_looks_then base a b c p q
+leaves_then base config fault.Behind a b c p q = (only_looks_then base a b c p q.0, q.1)
+leaves_then base config fault.Overrun a b c p q = only_looks_then base a b c p q
+
+-- the same after tries
+pub leaves_after : (base : Option Database) (config : Config) (e : Fault) (a b c : Known) → OnlyLooks base a b → Leaves base config e b c → Leaves base config e a c
+leaves_after base config fault.Busy a b c p q = q
+leaves_after base config fault.Lost a b c p q = lost_then base (record a { tried = b.tried; entered = false }) b c p q
+leaves_after base config fault.Full a b c p q = (only_looks_then base (record a { tried = b.tried; entered = false }) b c p q.0, q.1)
+leaves_after base config fault.Memory a b c p q = only_looks_then base (record a { tried = b.tried; entered = false }) b c p q
+leaves_after base config fault.EntryRefused a b c p q = only_looks_then base (record a { tried = b.tried; entered = false }) b c p q
+leaves_after base config fault.Behind a b c p q = (only_looks_then base (record a { tried = b.tried; entered = false }) b c p q.0, q.1)
+leaves_after base config fault.Overrun a b c p q = only_looks_then base (record a { tried = b.tried; entered = false }) b c p q
 
 pub writes_then : (base : Option Database) (a b c : Known) (command : Command) (receipt : Told) → Looks base a b → Writes base b command receipt c → Writes base a command receipt c
 writes_then base a b c command receipt p w = record {
@@ -55,19 +96,36 @@ writes_then base a b c command receipt p w = record {
   first = w.first;
   bound = w.bound;
   counted = w.counted;
-  same = w.same ∙ ap (λ (k : Known). record k { published = c.published; receipts = c.receipts; pushes = c.pushes; waited = c.waited }) p.same;
+  same = w.same ∙ ap (λ (k : Known). record k { published = c.published; receipts = c.receipts; pushes = c.pushes; waited = c.waited; tried = c.tried; entered = true }) p.same;
 }
+
+-- the same after tries
+pub writes_after : (base : Option Database) (a b c : Known) (command : Command) (receipt : Told) → OnlyLooks base a b → Writes base b command receipt c → Writes base a command receipt c
+writes_after base a b c command receipt p w =
+    let w' = writes_then base (record a { tried = b.tried; entered = false }) b c command receipt p w in
+    record {
+      legal = w'.legal;
+      extends = w'.extends;
+      seat = w'.seat;
+      told = w'.told;
+      receipts = w'.receipts;
+      only = w'.only;
+      first = w'.first;
+      bound = w'.bound;
+      counted = w'.counted;
+      same = w'.same;
+    }
 
 -- ---- faults of a copy
 
-pub of_copy-leaves : (base : Option Database) (max : ℕ) (e : Fault) (a b : Known) → IsOfCopy e → Looks base a b → Leaves base max e a b
-of_copy-leaves base max fault.Busy a b h p = h
-of_copy-leaves base max fault.Lost a b h p = absurd h
-of_copy-leaves base max fault.Full a b h p = absurd h
-of_copy-leaves base max fault.EntryRefused a b h p = absurd h
-of_copy-leaves base max fault.Memory a b h p = p
-of_copy-leaves base max fault.Behind a b h p = p
-of_copy-leaves base max fault.Overrun a b h p = p
+pub of_copy-leaves : (base : Option Database) (config : Config) (e : Fault) (a b : Known) → IsOfCopy e → OnlyLooks base a b → Leaves base config e a b
+of_copy-leaves base config fault.Busy a b h p = absurd h
+of_copy-leaves base config fault.Lost a b h p = absurd h
+of_copy-leaves base config fault.Full a b h p = absurd h
+of_copy-leaves base config fault.EntryRefused a b h p = absurd h
+of_copy-leaves base config fault.Behind a b h p = absurd h
+of_copy-leaves base config fault.Memory a b h p = p
+of_copy-leaves base config fault.Overrun a b h p = p
 
 -- ---- faults that are passed on
 
@@ -81,6 +139,10 @@ pub try_receipt : (base : Option Database) (r : Result (Option Told) Fault) (a b
 try_receipt base (Ok (Some t)) a b c command p w = writes_then base a b c command t p w
 try_receipt base (Ok None) a b c command p w = tt
 try_receipt base (Err e) a b c command p w = tt
+
+-- the same after tries
+pub receipt_after : (base : Option Database) (r : Result (Option Told) Fault) (a b c : Known) (command : Command) (t : Told) → OnlyLooks base a b → r ≡ Ok (Some t) → IfOk r (λ found. IfSome found (λ t. Writes base b command t c)) → Writes base a command t c
+receipt_after base r a b c command t p is w = writes_after base a b c command t p (subst (λ (q : Result (Option Told) Fault). IfOk q (λ found. IfSome found (λ u. Writes base b command u c))) is w)
 
 pub receipt_then : (base : Option Database) (r : Result Told Fault) (a b c : Known) (command : Command) → Looks base a b → IfOk r (λ t. Writes base b command t c) → IfOk r (λ t. Writes base a command t c)
 receipt_then base (Ok t) a b c command p w = writes_then base a b c command t p w

@@ -136,7 +136,7 @@ first_publication (h ∷ hs) place e at = omega arith
 pub writes : (base : Option Database) → (base_of base).calls ≡ empty → (old new : Known) (found : List (List Entry)) (command : Command) (receipt : Told) (e : Entry)
     → SeesOwn old → IsPrefix old.published found → Grows base found → entry_at (newest found) receipt.place ≡ Some e → e ≡ record { seat = receipt.seat; command = command; reply = receipt.reply }
     → receipt.seat ≡ next_seat old → length (of_session old.number (newest found)) ≡ length old.receipts + 1 → receipt.publication ≡ length found → length found ≤ receipt.place
-    → new ≡ record old { published = found; receipts = of_session old.number (newest found) }
+    → new ≡ record old { published = found; receipts = of_session old.number (newest found); entered = true }
     → Writes base old command receipt new
 writes base uncalled old new found command receipt e own later grows at is seat_is one publication bound same =
     let s = old.number in
@@ -167,6 +167,8 @@ writes base uncalled old new found command receipt e own later grows at is seat_
         receipts = new.receipts;
         pushes = new.pushes;
         waited = new.waited;
+        tried = new.tried;
+        entered = (same i).entered;
         lost = (same i).lost;
       };
     }

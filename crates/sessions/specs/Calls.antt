@@ -1,5 +1,5 @@
 -- What the calls of a session do.
-use Rattle.std.specs.Prelude.{◌≡◌, ℕ, ◌+◌, ◌<◌, ◌≤◌, List, [], ◌∷◌, ◌++◌, length, Some, Option}
+use Rattle.std.specs.Prelude.{◌≡◌, ℕ, ◌+◌, ◌<◌, ◌≤◌, true, List, [], ◌∷◌, ◌++◌, length, Some, Option}
 use mathlib.Core.List.{IsPrefix}
 use Rattle.model.specs.Command.{Command, Entry, Reply, Seat}
 use Rattle.model.specs.Database.{Database}
@@ -41,7 +41,7 @@ pub record Writes (base : Option Database) (old : Known) (command : Command) (re
   pub first : 0 < receipt.publication
   pub bound : receipt.publication ≤ receipt.place
   pub counted : receipt.publication ≡ length new.published
-  pub same : new ≡ record old { published = new.published; receipts = new.receipts; pushes = new.pushes; waited = new.waited }
+  pub same : new ≡ record old { published = new.published; receipts = new.receipts; pushes = new.pushes; waited = new.waited; tried = new.tried; entered = true }
 
 -- the entry at the place has this seat and command, and is its session's last
 pub record IsTold (h : List Entry) (place : ℕ) (seat : Seat) (command : Command) : Type 0 where

@@ -1,7 +1,8 @@
 -- What a compaction of a session leaves.
-use Rattle.std.specs.Prelude.{◌≡◌, ℕ, true, length, ⊤, Option}
+use Rattle.std.specs.Prelude.{◌≡◌, true, false, length, ⊤, Option}
 use Rattle.model.specs.Database.{Database}
 use Rattle.model.specs.History.{Chronicle}
+use Rattle.model.specs.World.{Config}
 use Rattle.compactor.specs.declared.fault.CopyFault.{CopyFault}
 use Rattle.compactor.specs.declared.fault.CopyFault.TheVariants as copied
 use Rattle.sessions.specs.Known.{Known, seen}
@@ -19,22 +20,27 @@ fault_of copied.Behind = fault.Behind
 fault_of copied.Overrun = fault.Overrun
 fault_of copied.Memory = fault.Memory
 
--- it is of a copy
+-- it is why a copy is not made, or not caught up
 abbrev pub IsOfCopy : Fault → Type 0
-IsOfCopy fault.Behind = ⊤
 IsOfCopy fault.Overrun = ⊤
 IsOfCopy fault.Memory = ⊤
+IsOfCopy fault.Behind = ⊥
 IsOfCopy fault.Busy = ⊥
 IsOfCopy fault.Lost = ⊥
 IsOfCopy fault.Full = ⊥
 IsOfCopy fault.EntryRefused = ⊥
 
--- after a fault of a compaction the session has only looked; one that is lost is so for ever, and a full history was seen
-abbrev pub Leaves : Option Database → ℕ → Fault → Known → Known → Type 0
-Leaves base max_places fault.Busy old new = ⊥
-Leaves base max_places fault.Lost old new = Looks base (record old { lost = true }) new
-Leaves base max_places fault.Full old new = Looks base old new × (length (seen new) ≡ max_places)
-Leaves base max_places fault.Memory old new = Looks base old new
-Leaves base max_places fault.EntryRefused old new = Looks base old new
-Leaves base max_places fault.Behind old new = Looks base old new
-Leaves base max_places fault.Overrun old new = Looks base old new
+-- after a compaction that was told of no entry: the session has only looked, and was behind so often
+abbrev pub OnlyLooks : Option Database → Known → Known → Type 0
+OnlyLooks base old new = Looks base (record old { tried = new.tried; entered = false }) new
+
+-- After a fault of a compaction the session has only looked. One that is lost is so for ever, a full history was seen, and
+-- behind was each of as many tries as there may be.
+abbrev pub Leaves : Option Database → Config → Fault → Known → Known → Type 0
+Leaves base config fault.Busy old new = ⊥
+Leaves base config fault.Lost old new = Looks base (record old { tried = new.tried; entered = new.entered; lost = true }) new
+Leaves base config fault.Full old new = OnlyLooks base old new × (length (seen new) ≡ config.max_places)
+Leaves base config fault.Memory old new = OnlyLooks base old new
+Leaves base config fault.EntryRefused old new = OnlyLooks base old new
+Leaves base config fault.Behind old new = OnlyLooks base old new × (new.tried ≡ config.tries)
+Leaves base config fault.Overrun old new = OnlyLooks base old new

@@ -6,14 +6,17 @@ use Rattle.model.specs.History.{Chronicle, of_session}
 use Rattle.turns.specs.Turns.{Turn}
 use Rattle.publications.specs.Histories.{newest, Grows, IsNewest}
 
--- a session's number, the published histories that it has seen, its entries with a receipt, how many jobs it pushed, how
--- often its last wait looked, and whether it is lost
+-- A session's number, the published histories that it has seen, the entries for which it has a receipt, how many jobs it
+-- pushed, how often its last wait looked, how often its last compaction was behind, whether its last write or compaction
+-- was told of an entry, and whether it is lost.
 pub record Known : Type 0 where
   pub number : ℕ
   pub published : List (List Entry)
   pub receipts : List Entry
   pub pushes : ℕ
   pub waited : ℕ
+  pub tried : ℕ
+  pub entered : Bool
   pub lost : Bool
 
 -- the history that a session has seen
@@ -22,15 +25,17 @@ seen k = newest k.published
 
 -- a session that has seen the empty history
 abbrev pub fresh : ℕ → Known
-fresh number = record { number = number; published = []; receipts = []; pushes = 0; waited = 0; lost = false }
+fresh number = record { number = number; published = []; receipts = []; pushes = 0; waited = 0; tried = 0; entered = false; lost = false }
 
 -- the session's entries in the history that it has seen are those with a receipt
 abbrev pub SeesOwn : Known → Type 0
 SeesOwn k = of_session k.number (seen k) ≡ k.receipts
 
--- it has as many calls as it has entries in the history that it has seen, and each of those has a receipt
-pub record Holds (base : Option Database) (number calls : ℕ) (lost : Bool) (latest : List (List Entry)) (looked : Option Chronicle) (ticket : Turn) : Type 0 where
-  pub counted : calls ≡ length (of_session number (newest latest))
+-- What a session keeps: with its last receipt came the last of the histories `receipted`. Its entries there are those with a
+-- receipt, as many as its calls, and it has the same ones in the history that it has seen.
+pub record Holds (base : Option Database) (number calls : ℕ) (lost : Bool) (latest receipted : List (List Entry)) (looked : Option Chronicle) (ticket : Turn) : Type 0 where
+  pub counted : calls ≡ length (of_session number (newest receipted))
+  pub own : of_session number (newest latest) ≡ of_session number (newest receipted)
   pub grows : Grows base latest
   pub session : number < 64
   pub ticket_is : ticket.number ≡ number

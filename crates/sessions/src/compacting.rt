@@ -1,10 +1,11 @@
 //! How a session compacts.
-ghost use Rattle.std.specs.Prelude.{◌≡◌, ◌≢◌, length, true, false, Err, IfOk, IfErr, IfSome, IfNone, IsSome};
+ghost use Rattle.std.specs.Prelude.{◌≡◌, ◌≢◌, ◌+◌, ◌<◌, length, true, false, Err, IfOk, IfErr, IfSome, IfNone, IsSome};
 ghost use Rattle.model.specs.Command.{Compact};
 ghost use Rattle.model.specs.History.{Extends};
 ghost use Rattle.sessions.specs.Known.{seen};
 ghost use Rattle.sessions.specs.Calls.{Looks, Writes, next_seat};
-ghost use Rattle.sessions.specs.Compactions.{Leaves, chronicle_of};
+ghost use Rattle.sessions.specs.Compactions.{Leaves, OnlyLooks, chronicle_of};
+ghost use Rattle.sessions.specs.Answered.{AnswersTry};
 ghost use Rattle.sessions.specs.declared.fault.Fault.TheVariants as fault;
 
 use crate::copying::{catch_up_all, slice_all};
@@ -20,23 +21,28 @@ use updating::{Answer, Core, Gate, Opening, Point};
 impl<R: Wait + Drop, J: Opening, G: Gate + Drop> Session<Core<R, J>, J, G> {
     /// Compacts the database, while others read and write. It makes a copy of what it sees, which
     /// catches up with what was written meanwhile, and waits for the updater's lock only to swap the
-    /// copy in, as often as it may be tried.
+    /// copy in, as often as it may be tried: it is `Behind` after as many tries that were.
     ///
-    /// After a fault but `Lost` it left no entry: the next receipt has exactly the calls with a receipt.
+    /// After a fault but `Lost` it was told of no entry, and the next receipt has exactly the calls with a receipt.
     pub fn compact<W: Wait>(&mut self, rt: &W) -> Result<Receipt, Fault>
         ensures receipt { IfOk result (λ receipt. Writes J.base self.old Compact receipt self.new) }
-        ensures memory { result ≡ Err fault.Memory → Looks J.base self.old self.new }
-        ensures behind { result ≡ Err fault.Behind → Looks J.base self.old self.new }
-        ensures overrun { result ≡ Err fault.Overrun → Looks J.base self.old self.new }
-        ensures entry_refused { result ≡ Err fault.EntryRefused → Looks J.base self.old self.new }
-        ensures full { result ≡ Err fault.Full → Looks J.base self.old self.new }
-        ensures when_full { result ≡ Err fault.Full → length (seen self.new) ≡ J.max_places }
-        ensures lost { result ≡ Err fault.Lost → Looks J.base (record self.old { lost = true }) self.new }
+        ensures memory { result ≡ Err fault.Memory → OnlyLooks J.base self.old self.new }
+        ensures behind { result ≡ Err fault.Behind → OnlyLooks J.base self.old self.new }
+        ensures tried { result ≡ Err fault.Behind → self.new.tried ≡ J.config.tries }
+        ensures overrun { result ≡ Err fault.Overrun → OnlyLooks J.base self.old self.new }
+        ensures entry_refused { result ≡ Err fault.EntryRefused → OnlyLooks J.base self.old self.new }
+        ensures full { result ≡ Err fault.Full → OnlyLooks J.base self.old self.new }
+        ensures when_full { result ≡ Err fault.Full → length (seen self.new) ≡ J.config.max_places }
+        ensures lost { result ≡ Err fault.Lost → Looks J.base (record self.old { tried = self.new.tried; entered = self.new.entered; lost = true }) self.new }
         ensures for_ever { self.old.lost ≡ true → result ≡ Err fault.Lost }
         ensures for_ever_same { self.old.lost ≡ true → self.new ≡ self.old }
         ensures not_busy { result ≢ Err fault.Busy }
         ensures pushes { self.new.pushes ≡ self.old.pushes }
     {
+        if self.lost {
+            return Err(Fault::Lost);
+        }
+        self.begin_compaction();
         let _place = self.place();
         self.refresh()?;
         self.compact_seen(rt)
@@ -45,8 +51,9 @@ impl<R: Wait + Drop, J: Opening, G: Gate + Drop> Session<Core<R, J>, J, G> {
     /// Compacts what was seen.
     fn compact_seen<W: Wait>(&mut self, rt: &W) -> Result<Receipt, Fault>
         requires known { self.old.lost ≡ false }
+        requires begun { (self.old.tried ≡ 0) × (self.old.entered ≡ false) }
         ensures receipt { IfOk result (λ receipt. Writes J.base self.old Compact receipt self.new) }
-        ensures fault { IfErr result (λ e. Leaves J.base J.max_places e self.old self.new) }
+        ensures fault { IfErr result (λ e. Leaves J.base J.config e self.old self.new) }
         ensures pushes { self.new.pushes ≡ self.old.pushes }
     {
         let _place = self.place();
@@ -57,14 +64,15 @@ impl<R: Wait + Drop, J: Opening, G: Gate + Drop> Session<Core<R, J>, J, G> {
     /// Makes the copy and has it swapped in, as often as that may be tried.
     fn compact_with<W: Wait>(&mut self, rt: &W, copy: &mut Compaction) -> Result<Receipt, Fault>
         requires known { self.old.lost ≡ false }
+        requires begun { (self.old.tried ≡ 0) × (self.old.entered ≡ false) }
         requires follows { Extends (chronicle_of J.base self.old) copy.old.seen }
         ensures receipt { IfOk result (λ receipt. Writes J.base self.old Compact receipt self.new) }
-        ensures fault { IfErr result (λ e. Leaves J.base J.max_places e self.old self.new) }
+        ensures fault { IfErr result (λ e. Leaves J.base J.config e self.old self.new) }
         ensures pushes { self.new.pushes ≡ self.old.pushes }
     {
         let _place = self.place();
         slice_all(&self.shared, self.number, copy)?;
-        for _try in 0..self.shared.config.limits().tries {
+        for _try in 0..self.shared.tries() {
             if let Some(receipt) = self.attempt(rt, copy)? {
                 return Ok(receipt);
             }
@@ -73,16 +81,19 @@ impl<R: Wait + Drop, J: Opening, G: Gate + Drop> Session<Core<R, J>, J, G> {
     }
 
     /// Has the copy catch up with what is published now, and swaps it in; no receipt where others wrote
-    /// too much meanwhile.
+    /// too much meanwhile, and the session was behind once more.
     fn attempt<W: Wait>(&mut self, rt: &W, copy: &mut Compaction) -> Result<Option<Receipt>, Fault>
         requires known { self.old.lost ≡ false }
+        requires entered { self.old.entered ≡ false }
+        requires few { self.old.tried < J.config.tries }
         requires sliced { copy.old.left ≡ 0 }
         requires follows { Extends (chronicle_of J.base self.old) copy.old.seen }
         ensures receipt { IfOk result (λ found. IfSome found (λ receipt. Writes J.base self.old Compact receipt self.new)) }
-        ensures behind { IfOk result (λ found. IfNone found (Looks J.base self.old self.new)) }
+        ensures behind { IfOk result (λ found. IfNone found (Looks J.base (record self.old { tried = self.old.tried + 1 }) self.new)) }
         ensures sliced { IfOk result (λ found. IfNone found (copy.new.left ≡ 0)) }
         ensures follows { IfOk result (λ found. IfNone found (Extends (chronicle_of J.base self.new) copy.new.seen)) }
-        ensures fault { IfErr result (λ e. Leaves J.base J.max_places e self.old self.new) }
+        ensures fault { IfErr result (λ e. Leaves J.base J.config e self.old self.new) }
+        ensures not_behind { result ≢ Err fault.Behind }
         ensures pushes { self.new.pushes ≡ self.old.pushes }
     {
         let _place = self.place();
@@ -96,18 +107,20 @@ impl<R: Wait + Drop, J: Opening, G: Gate + Drop> Session<Core<R, J>, J, G> {
         rt: &W,
         copy: &mut Compaction,
     ) -> Result<Option<Receipt>, Fault>
+        requires entered { self.old.entered ≡ false }
+        requires few { self.old.tried < J.config.tries }
         requires sliced { copy.old.left ≡ 0 }
         requires follows { Extends (chronicle_of J.base self.old) copy.old.seen }
         ensures receipt { IfOk result (λ found. IfSome found (λ receipt. Writes J.base self.old Compact receipt self.new)) }
-        ensures behind { IfOk result (λ found. IfNone found (self.new ≡ self.old)) }
+        ensures behind { IfOk result (λ found. IfNone found (self.new ≡ record self.old { tried = self.old.tried + 1 })) }
         ensures sliced { IfOk result (λ found. IfNone found (copy.new.left ≡ 0)) }
         ensures follows { IfOk result (λ found. IfNone found (copy.new.seen ≡ chronicle_of J.base self.new)) }
-        ensures fault { IfErr result (λ e. Leaves J.base J.max_places e self.old self.new) }
+        ensures fault { IfErr result (λ e. Leaves J.base J.config e self.old self.new) }
+        ensures not_behind { result ≢ Err fault.Behind }
         ensures pushes { self.new.pushes ≡ self.old.pushes }
     {
         let _place = self.place();
-        let n = self.shared.config.limits().slice as u64;
-        catch_up_all(copy, self.latest.version(), n)?;
+        catch_up_all(&self.shared, copy, self.latest.version())?;
         self.shared.gate.at(Point::CaughtUp, self.number);
         let seat = self.seat();
         let swapped = swap(rt, &self.shared, &self.latest, copy, seat);
@@ -116,18 +129,33 @@ impl<R: Wait + Drop, J: Opening, G: Gate + Drop> Session<Core<R, J>, J, G> {
 }
 
 impl<C: Drop, J: Opening, G: Drop> Session<C, J, G> {
-    /// What became of a try.
+    /// A compaction begins: it was not yet told of an entry, nor behind.
+    fn begin_compaction(&mut self)
+        ensures { self.new ≡ record self.old { tried = 0; entered = false } }
+    {
+        self.begin_call();
+        self.tried = 0;
+    }
+
+    /// What became of a try. Where that was behind, it counts.
     fn settle_swap(&mut self, swapped: Swapped<J>, seat: Seat) -> Result<Option<Receipt>, Fault>
         requires seat { seat ≡ next_seat self.old }
+        requires entered { self.old.entered ≡ false }
+        requires few { self.old.tried < J.config.tries }
+        ensures answers { AnswersTry swapped result }
         ensures receipt { IfOk result (λ found. IfSome found (λ receipt. Writes J.base self.old Compact receipt self.new)) }
-        ensures behind { IfOk result (λ found. IfNone found (self.new ≡ self.old)) }
-        ensures fault { IfErr result (λ e. Leaves J.base J.max_places e self.old self.new) }
+        ensures behind { IfOk result (λ found. IfNone found (self.new ≡ record self.old { tried = self.old.tried + 1 })) }
+        ensures fault { IfErr result (λ e. Leaves J.base J.config e self.old self.new) }
+        ensures not_behind { result ≢ Err fault.Behind }
         ensures pushes { self.new.pushes ≡ self.old.pushes }
     {
         let _place = self.place();
         match swapped {
             Swapped::Stood(answer) => self.receive_swap(answer, seat),
-            Swapped::Behind => Ok(None),
+            Swapped::Behind => {
+                self.count_try();
+                Ok(None)
+            }
             Swapped::Overrun => Err(Fault::Overrun),
             Swapped::Memory => Err(Fault::Memory),
             Swapped::Full(filled) => Err(self.receive_full(filled)),
@@ -135,12 +163,22 @@ impl<C: Drop, J: Opening, G: Drop> Session<C, J, G> {
         }
     }
 
+    /// A try was behind.
+    fn count_try(&mut self)
+        requires few { self.old.tried < J.config.tries }
+        ensures { self.new ≡ record self.old { tried = self.old.tried + 1 } }
+    {
+        let _tries = self.shared.tries();
+        self.tried += 1;
+    }
+
     /// The compaction has an entry.
     fn receive_swap(&mut self, answer: Answer<J>, seat: Seat) -> Result<Option<Receipt>, Fault>
         requires seat { seat ≡ next_seat self.old }
         ensures receipt { IfOk result (λ found. IfSome found (λ receipt. Writes J.base self.old Compact receipt self.new)) }
         ensures some { IfOk result IsSome }
-        ensures fault { IfErr result (λ e. Leaves J.base J.max_places e self.old self.new) }
+        ensures lost { IfErr result (λ e. e ≡ fault.Lost) }
+        ensures lost_same { IfErr result (λ _. self.new ≡ record self.old { lost = true }) }
         ensures pushes { self.new.pushes ≡ self.old.pushes }
     {
         let _place = self.place();

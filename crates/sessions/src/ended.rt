@@ -15,7 +15,10 @@ pub struct Ended<J: Opening> {
     pub(crate) calls: u64,
     pub(crate) pushes: u64,
     pub(crate) waited: u64,
+    pub(crate) tried: u16,
+    pub(crate) entered: bool,
     pub(crate) lost: bool,
+    pub(crate) receipted: Front<J>,
     pub(crate) seen: Front<J>,
 }
 
@@ -26,7 +29,10 @@ impl<J: Opening> Drop for Ended<J> {
             calls: _,
             pushes: _,
             waited: _,
+            tried: _,
+            entered: _,
             lost: _,
+            receipted: _,
             seen: _,
         } = self;
     }
@@ -44,9 +50,9 @@ impl<J: Opening> Model for Ended<J> {
 
     ghost coded = { Prim.hlevel (codes, coded_members) };
 
-    ghost view = { λ e. record { number = e.number; published = e.seen; receipts = of_session e.number (newest e.seen); pushes = e.pushes; waited = e.waited; lost = e.lost } };
+    ghost view = { λ e. record { number = e.number; published = e.seen; receipts = of_session e.number (newest e.receipted); pushes = e.pushes; waited = e.waited; tried = e.tried; entered = e.entered; lost = e.lost } };
 
-    ghost invariant = { λ e. e.calls ≡ length (of_session e.number (newest e.seen)) };
+    ghost invariant = { λ e. (e.calls ≡ length (of_session e.number (newest e.receipted))) × (of_session e.number (newest e.seen) ≡ of_session e.number (newest e.receipted)) };
 }
 
 impl<J: Opening> Ended<J> {

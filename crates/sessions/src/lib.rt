@@ -7,6 +7,7 @@ mod copying;
 mod ended;
 mod fault;
 mod mailboxes;
+mod meeting;
 mod receipt;
 mod session;
 mod shared;

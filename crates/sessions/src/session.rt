@@ -13,7 +13,7 @@ use crate::fault::Fault;
 use crate::shared::Shared;
 use crate::snapshot::{Snapshot, shared_apart};
 use crossbeam_utils::CachePadded;
-use publications::{Lens, Published};
+use publications::{Front, Lens, Published};
 use snapshots::Version;
 use std::alloc::{AllocError, Global};
 use std::marker::Model;
@@ -32,6 +32,12 @@ pub struct Session<C: Drop, J: Opening, G: Drop> {
     pub(crate) waited: u64,
     /// How often its waits looked one after another, for the pauses between these looks.
     pub(crate) paced: u64,
+    /// How often its last compaction was behind.
+    pub(crate) tried: u16,
+    /// Whether its last write or compaction was told of an entry.
+    pub(crate) entered: bool,
+    /// What was published with its last receipt. It takes no room but a count.
+    pub(crate) receipted: Front<J>,
     pub(crate) latest: Published<J>,
     /// A share of that version, where a look took one: the looks that see the same one are owners of it.
     pub(crate) looked: Option<Arc<Version, Global>>,
@@ -50,6 +56,9 @@ impl<C: Drop, J: Opening, G: Drop> Drop for Session<C, J, G> {
             lost: _,
             waited: _,
             paced: _,
+            tried: _,
+            entered: _,
+            receipted: _,
             latest: _,
             looked: _,
             reader: _,
@@ -72,9 +81,9 @@ impl<C: Drop, J: Opening, G: Drop> Model for Session<C, J, G> {
 
     ghost coded = { Prim.hlevel (codes, coded_members) };
 
-    ghost view = { λ s. record { number = s.number; published = s.latest; receipts = of_session s.number (newest s.latest); pushes = s.ticket.pushed; waited = s.waited; lost = s.lost } };
+    ghost view = { λ s. record { number = s.number; published = s.latest; receipts = of_session s.number (newest s.receipted); pushes = s.ticket.pushed; waited = s.waited; tried = s.tried; entered = s.entered; lost = s.lost } };
 
-    ghost invariant = { λ s. Holds J.base s.number s.calls s.lost s.latest (option_map arc_value s.looked) s.ticket };
+    ghost invariant = { λ s. Holds J.base s.number s.calls s.lost s.latest s.receipted (option_map arc_value s.looked) s.ticket };
 }
 
 impl<C: Drop, J: Opening, G: Drop> Session<C, J, G> {
@@ -98,6 +107,9 @@ impl<C: Drop, J: Opening, G: Drop> Session<C, J, G> {
             lost: false,
             waited: 0,
             paced: 0,
+            tried: 0,
+            entered: false,
+            receipted: latest.front().again(),
             latest,
             looked: None,
             reader: CachePadded::new(reader),
@@ -135,6 +147,9 @@ impl<C: Drop, J: Opening, G: Drop> Session<C, J, G> {
             lost,
             waited,
             paced: _,
+            tried,
+            entered,
+            receipted,
             latest,
             looked: _,
             reader: _,
@@ -148,7 +163,10 @@ impl<C: Drop, J: Opening, G: Drop> Session<C, J, G> {
             calls,
             pushes: ticket.pushed(),
             waited,
+            tried,
+            entered,
             lost,
+            receipted,
             seen,
         };
         (latest, ended)
@@ -253,32 +271,8 @@ impl<C: Drop, J: Opening, G: Drop> Session<C, J, G> {
         Snapshot::new(own, front)
     }
 
-    /// Afterwards both sessions, which are of one opened database, have seen one history. The answer
-    /// is its length. It waits for nobody and takes no memory.
-    pub fn meet(&mut self, other: &mut Session<C, J, G>) -> Result<u64, Fault>
-        ensures place { IfOk result (λ place. place ≡ length (seen self.new)) }
-        ensures one { IfOk result (λ _. self.new.published ≡ other.new.published) }
-        ensures looks { IfOk result (λ _. Looks J.base self.old self.new) }
-        ensures other_looks { IfOk result (λ _. Looks J.base other.old other.new) }
-        ensures kept { OnErr result (self.new ≡ self.old) }
-        ensures other_kept { OnErr result (other.new ≡ other.old) }
-        ensures lost { (result ≡ Err fault.Lost) ↔ ((self.old.lost ≡ true) ⊎ (other.old.lost ≡ true)) }
-        ensures refused { IfErr result (λ e. (e ≡ fault.Lost) ⊎ (e ≡ fault.EntryRefused)) }
-    {
-        if self.lost || other.lost {
-            return Err(Fault::Lost);
-        }
-        let Some((mine, theirs)) = self.observe_both(other) else {
-            return Err(Fault::EntryRefused);
-        };
-        let place = mine.version().place();
-        self.see(mine);
-        other.see(theirs);
-        Ok(place)
-    }
-
     /// What is published now, where that is later than what was seen.
-    fn later(&mut self) -> Result<Option<Published<J>>, AllocError>
+    pub(crate) fn later(&mut self) -> Result<Option<Published<J>>, AllocError>
         ensures same { self.new ≡ self.old }
         ensures later { IfOk result (λ found. IfSome found (λ p. IsPrefix self.old.published p)) }
         ensures grows { IfOk result (λ found. IfSome found (λ p. Grows J.base p)) }
@@ -314,52 +308,6 @@ impl<C: Drop, J: Opening, G: Drop> Session<C, J, G> {
         ensures { IsTrue result → SeesOwn (record self.now { published = found.now }) }
     {
         calls_of(found.version(), self.number) == self.calls
-    }
-
-    /// What is published now, which is what was seen or later. Nothing where that is refused.
-    fn observe(&mut self) -> Option<Published<J>>
-        ensures same { self.new ≡ self.old }
-        ensures later { IfSome result (λ found. IsPrefix self.old.published found) }
-        ensures grows { IfSome result (λ found. Grows J.base found) }
-    {
-        if let Some(found) = self.later().ok()? {
-            return Some(found);
-        }
-        let same = self.latest.share().ok()?;
-        Some(same)
-    }
-
-    /// What is published now, or what another session saw, whichever is later.
-    fn observe_with(&mut self, theirs: Published<J>) -> Option<Published<J>>
-        requires grows { Grows J.base theirs }
-        ensures same { self.new ≡ self.old }
-        ensures later { IfSome result (λ found. IsPrefix self.old.published found) }
-        ensures theirs { IfSome result (λ found. IsPrefix theirs found) }
-        ensures grows { IfSome result (λ found. Grows J.base found) }
-    {
-        let mine = self.observe()?;
-        Some(later_of(mine, theirs))
-    }
-
-    /// The later of what both see now, for each of them. Nothing where that is refused, or has not just the
-    /// entries with a receipt of each.
-    fn observe_both(&mut self, other: &mut Session<C, J, G>) -> Option<(Published<J>, Published<J>)>
-        ensures same { self.new ≡ self.old }
-        ensures other_same { other.new ≡ other.old }
-        ensures later { IfSome result (λ found. IsPrefix self.old.published found.0) }
-        ensures other_later { IfSome result (λ found. IsPrefix other.old.published found.0) }
-        ensures own { IfSome result (λ found. SeesOwn (record self.old { published = found.0 })) }
-        ensures other_own { IfSome result (λ found. SeesOwn (record other.old { published = found.0 })) }
-        ensures one { IfSome result (λ found. found.1 ≡ found.0) }
-        ensures grows { IfSome result (λ found. Grows J.base found.0) }
-    {
-        let mine = self.observe()?;
-        let last = other.observe_with(mine)?;
-        if !self.has_own(&last) || !other.has_own(&last) {
-            return None;
-        }
-        let same = last.share().ok()?;
-        Some((last, same))
     }
 
     /// This has been seen.

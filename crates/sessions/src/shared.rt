@@ -1,4 +1,5 @@
 //! What all sessions of a database share.
+ghost use Rattle.std.specs.Prelude.{◌≡◌, ◌<◌};
 
 use crate::mailboxes::Mailboxes;
 use commands::Config;
@@ -15,6 +16,7 @@ pub struct Shared<C: Drop, J: Opening, G: Drop> {
     pub(crate) config: Config,
     pub(crate) core: Mutex<C>,
     pub(crate) mailboxes: Mailboxes<J>,
+    pub(crate) ghost config_is: { config ≡ J.config },
 }
 
 impl<C: Drop, J: Opening, G: Drop> Drop for Shared<C, J, G> {
@@ -30,14 +32,16 @@ impl<C: Drop, J: Opening, G: Drop> Drop for Shared<C, J, G> {
 }
 
 impl<C: Drop, J: Opening, G: Drop> Shared<C, J, G> {
-    /// What the sessions of a configuration share, with the updater's state behind its lock.
+    /// What the sessions of the configuration share, with the updater's state behind its lock.
     pub fn new(
         alloc: Global,
         line: Line<J>,
         gate: G,
         config: Config,
         core: C,
-    ) -> Result<Shared<C, J, G>, AllocError> {
+    ) -> Result<Shared<C, J, G>, AllocError>
+        requires { config ≡ J.config }
+    {
         let mailboxes = Mailboxes::new(alloc, config.limits().sessions)?;
         Ok(Shared {
             line,
@@ -46,6 +50,21 @@ impl<C: Drop, J: Opening, G: Drop> Shared<C, J, G> {
             core: Mutex::new(core),
             mailboxes,
         })
+    }
+
+    /// How often a compaction is tried.
+    pub(crate) fn tries(&self) -> u16
+        ensures { result ≡ J.config.tries }
+    {
+        self.config.limits().tries
+    }
+
+    /// How many documents a compaction copies, or takes over, at a time: one at least.
+    pub(crate) fn slice(&self) -> u64
+        ensures slice { result ≡ J.config.slice }
+        ensures some { 0 < result }
+    {
+        self.config.limits().slice as u64
     }
 
     /// What the updater holds, behind its lock.

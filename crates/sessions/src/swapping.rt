@@ -1,6 +1,7 @@
 //! How a try of a compaction ends under the lock.
-ghost use Rattle.std.specs.Prelude.{◌≡◌, ◌≤◌, length};
+ghost use Rattle.std.specs.Prelude.{◌≡◌, ◌⊎◌, ◌≤◌, length};
 ghost use Rattle.publications.specs.Histories.{newest};
+ghost use Rattle.sessions.specs.Tries.{EndsTry};
 
 use crate::shared::Shared;
 use commands::Seat;
@@ -38,10 +39,9 @@ pub(crate) fn swap<R: Wait + Drop, J: Opening, G: Gate + Drop, W: Wait>(
     requires seen { copy.old.seen ≡ record { base = J.base; entries = newest seen.now } }
     ensures copy { copy.new ≡ record copy.old { visited = copy.new.visited } }
 {
-    let slack = shared.config.limits().slack as u64;
     let mut core = shared.core.lock(rt);
     shared.gate.at(Point::Finishing, seat.session());
-    swap_into(&mut *core, seen, copy, seat, slack)
+    swap_into(&mut *core, seen, copy, seat)
 }
 
 /// Swaps the copy in, where what was published last goes on from what the session has seen, and the
@@ -51,10 +51,10 @@ fn swap_into<R: Wait + Drop, J: Opening>(
     seen: &Published<J>,
     copy: &mut Compaction,
     seat: Seat,
-    slack: u64,
 ) -> Swapped<J>
     requires sliced { copy.old.left ≡ 0 }
     requires seen { copy.old.seen ≡ record { base = J.base; entries = newest seen.now } }
+    ensures ends { EndsTry J.base J.config copy.old seat seen.now core.old core.new result }
     ensures copy { copy.new ≡ record copy.old { visited = copy.new.visited } }
 {
     if !seen.precedes(core.current()) {
@@ -63,7 +63,7 @@ fn swap_into<R: Wait + Drop, J: Opening>(
     if !core.may_swap(seat) {
         return Swapped::Lost;
     }
-    match core.swap(copy, seat, slack) {
+    match core.swap(copy, seat) {
         Ok(answer) => shown(core, answer),
         Err(SwapFault::Full) => filled(core),
         Err(SwapFault::Behind) => Swapped::Behind,
@@ -73,14 +73,18 @@ fn swap_into<R: Wait + Drop, J: Opening>(
 }
 
 /// The entry stands. Where memory for showing it is refused, a later showing shows it.
-fn shown<R: Wait + Drop, J: Opening>(core: &mut Core<R, J>, answer: Answer<J>) -> Swapped<J> {
+fn shown<R: Wait + Drop, J: Opening>(core: &mut Core<R, J>, answer: Answer<J>) -> Swapped<J>
+    ensures same { core.new ≡ core.old }
+    ensures stood { result ≡ Swapped.Stood answer }
+{
     let _shown = core.show();
     Swapped::Stood(answer)
 }
 
 /// No place is left.
 fn filled<R: Wait + Drop, J: Opening>(core: &Core<R, J>) -> Swapped<J>
-    requires full { J.max_places ≤ length (newest core.now.published) }
+    requires full { J.config.max_places ≤ length (newest core.now.published) }
+    ensures full { (result ≡ Swapped.Full core.now.published) ⊎ (result ≡ Swapped.Memory) }
 {
     match core.filled() {
         Ok(filled) => Swapped::Full(filled),

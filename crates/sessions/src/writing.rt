@@ -1,9 +1,12 @@
 //! How a session writes.
-ghost use Rattle.std.specs.Prelude.{◌≡◌, ◌≢◌, ◌⊎◌, ◌+◌, ◌-◌, ◌<◌, ◌≤◌, ◌^◌, length, true, false, Err, IfOk, IfErr, IfSome, IfNone, IsTrue, MatchBool};
+ghost use Rattle.std.specs.Prelude.{◌≡◌, ◌≢◌, ◌⊎◌, ◌+◌, ◌<◌, ◌≤◌, ◌^◌, length, true, false, Err, IfOk, IfErr, IfSome, IfNone, IsTrue};
 ghost use mathlib.Core.List.{IsPrefix};
 ghost use Rattle.model.specs.History.{of_session};
+ghost use Rattle.model.specs.World.{is_compact};
 ghost use Rattle.publications.specs.Histories.{newest, Grows};
-ghost use Rattle.sessions.specs.Known.{Known, seen};
+ghost use Rattle.updating.specs.Outcomes.{has_entry};
+ghost use Rattle.sessions.specs.Known.{seen};
+ghost use Rattle.sessions.specs.Answered.{Answers};
 ghost use Rattle.sessions.specs.Calls.{Looks, Writes, IsTold, next_seat};
 ghost use Rattle.sessions.specs.declared.fault.Fault.TheVariants as fault;
 
@@ -27,15 +30,16 @@ impl<R: Wait + Drop, J: Opening, G: Gate + Drop> Session<Core<R, J>, J, G> {
     /// Writes a command, which is no compaction. It waits until another session has published it, or
     /// until it has the updater's lock, under which it publishes batches of jobs until its own is answered.
     ///
-    /// After a fault but `Lost` it left no entry: the next receipt has exactly the calls with a receipt.
+    /// After a fault but `Lost` it was told of no entry, and the next receipt has exactly the calls with a receipt.
     pub fn write<W: Wait>(&mut self, rt: &W, command: Command) -> Result<Receipt, Fault>
+        requires edits { is_compact command ≡ false }
         ensures receipt { IfOk result (λ receipt. Writes J.base self.old command receipt self.new) }
-        ensures memory { result ≡ Err fault.Memory → self.new ≡ record self.old { pushes = self.new.pushes } }
-        ensures busy { result ≡ Err fault.Busy → self.new ≡ self.old }
+        ensures memory { result ≡ Err fault.Memory → self.new ≡ record self.old { pushes = self.new.pushes; entered = false } }
+        ensures busy { result ≡ Err fault.Busy → self.new ≡ record self.old { entered = false } }
         ensures when_busy { result ≡ Err fault.Busy → (J.capacity < J.sessions) ⊎ (2 ^ 62 ≤ self.old.pushes) }
-        ensures full { result ≡ Err fault.Full → Looks J.base (record self.old { pushes = self.new.pushes }) self.new }
-        ensures when_full { result ≡ Err fault.Full → length (seen self.new) ≡ J.max_places }
-        ensures lost { result ≡ Err fault.Lost → self.new ≡ record self.old { pushes = self.new.pushes; lost = true } }
+        ensures full { result ≡ Err fault.Full → Looks J.base (record self.old { pushes = self.new.pushes; entered = false }) self.new }
+        ensures when_full { result ≡ Err fault.Full → length (seen self.new) ≡ J.config.max_places }
+        ensures lost { result ≡ Err fault.Lost → self.new ≡ record self.old { pushes = self.new.pushes; entered = self.new.entered; lost = true } }
         ensures for_ever { self.old.lost ≡ true → result ≡ Err fault.Lost }
         ensures for_ever_same { self.old.lost ≡ true → self.new ≡ self.old }
         ensures pushes { self.new.pushes ≤ self.old.pushes + 1 }
@@ -46,6 +50,7 @@ impl<R: Wait + Drop, J: Opening, G: Gate + Drop> Session<Core<R, J>, J, G> {
         if self.lost {
             return Err(Fault::Lost);
         }
+        self.begin_call();
         let Ok(asked) = command.copy(self.alloc) else {
             return Err(Fault::Memory);
         };
@@ -76,7 +81,7 @@ impl<R: Wait + Drop, J: Opening, G: Gate + Drop> Session<Core<R, J>, J, G> {
 
     /// Waits until the session is told what became of its job.
     fn wait_for_outcome<W: Wait>(&mut self, rt: &W, asked: &Command) -> Option<Outcome<J>>
-        ensures some { IfSome result (λ _. self.new ≡ record self.old { lost = false }) }
+        ensures some { IfSome result (λ outcome. self.new ≡ record self.old { entered = has_entry outcome; lost = false }) }
         ensures none { IfNone result (self.new ≡ record self.old { lost = true }) }
     {
         self.lost = true;
@@ -92,6 +97,7 @@ impl<R: Wait + Drop, J: Opening, G: Gate + Drop> Session<Core<R, J>, J, G> {
         if !self.ticket.hear(&self.shared.line, word) {
             return None;
         }
+        self.entered = outcome.has_entry();
         self.lost = false;
         Some(outcome)
     }
@@ -154,13 +160,21 @@ impl<C: Drop, J: Opening, G: Drop> Session<C, J, G> {
         seat
     }
 
-    /// What became of the call.
+    /// A write or a compaction begins, which was not yet told of an entry.
+    pub(crate) fn begin_call(&mut self)
+        ensures { self.new ≡ record self.old { entered = false } }
+    {
+        self.entered = false;
+    }
+
+    /// What became of the call, by what became of its job.
     fn settle(&mut self, outcome: Outcome<J>, asked: &Command, seat: Seat) -> Result<Receipt, Fault>
         requires seat { seat ≡ next_seat self.old }
+        ensures answers { Answers outcome result }
         ensures receipt { IfOk result (λ receipt. Writes J.base self.old asked.now receipt self.new) }
         ensures memory { result ≡ Err fault.Memory → self.new ≡ self.old }
         ensures full { result ≡ Err fault.Full → Looks J.base self.old self.new }
-        ensures when_full { result ≡ Err fault.Full → length (seen self.new) ≡ J.max_places }
+        ensures when_full { result ≡ Err fault.Full → length (seen self.new) ≡ J.config.max_places }
         ensures lost { result ≡ Err fault.Lost → self.new ≡ record self.old { lost = true } }
         ensures pushes { self.new.pushes ≡ self.old.pushes }
         ensures not_busy { result ≢ Err fault.Busy }
@@ -176,7 +190,7 @@ impl<C: Drop, J: Opening, G: Drop> Session<C, J, G> {
         }
     }
 
-    /// The call has an entry: a receipt, where that is this session's next call, as it was asked.
+    /// The call has an entry: a receipt, where that is this session's next call, as it was asked. Else the session is lost.
     pub(crate) fn receive(
         &mut self,
         answer: Answer<J>,
@@ -211,7 +225,7 @@ impl<C: Drop, J: Opening, G: Drop> Session<C, J, G> {
     pub(crate) fn receive_full(&mut self, filled: Filled<J>) -> Fault
         ensures fault { (result ≡ fault.Full) ⊎ (result ≡ fault.Lost) }
         ensures full { result ≡ fault.Full → Looks J.base self.old self.new }
-        ensures when_full { result ≡ fault.Full → length (seen self.new) ≡ J.max_places }
+        ensures when_full { result ≡ fault.Full → length (seen self.new) ≡ J.config.max_places }
         ensures lost { result ≡ fault.Lost → self.new ≡ record self.old { lost = true } }
         ensures pushes { self.new.pushes ≡ self.old.pushes }
     {
@@ -229,10 +243,12 @@ impl<C: Drop, J: Opening, G: Drop> Session<C, J, G> {
         requires later { IsPrefix self.old.published found }
         requires grows { Grows J.base found }
         requires calls { calls ≡ length (of_session self.old.number (newest found)) }
-        ensures { self.new ≡ record self.old { published = found; receipts = of_session self.old.number (newest found) } }
+        ensures { self.new ≡ record self.old { published = found; receipts = of_session self.old.number (newest found); entered = true } }
     {
         self.calls = calls;
+        self.entered = true;
         self.looked = None;
+        self.receipted = found.front().again();
         self.latest = found;
     }
 

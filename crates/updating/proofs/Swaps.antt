@@ -103,8 +103,8 @@ MayFollow-swapped base published seat batch is may =
 
 -- ---- the model's event
 
-module _ (base : Option Database) (max slack : ℕ) (copy : CopyView) (session : ℕ) (old : State) where
-  module _ (c : Config) (w : World) (most : c.max_places ≡ max) (slack_is : c.slack ≡ slack) (opened : w.copy ≡ Some (record { session = session; left = copy.left; marks = copy.marks })) (is : IsOf w old) where
+module _ (base : Option Database) (c : Config) (copy : CopyView) (session : ℕ) (old : State) where
+  module _ (w : World) (opened : w.copy ≡ Some (record { session = session; left = copy.left; marks = copy.marks })) (is : IsOf w old) where
     abbrev here : OpenCopy
     here = record { session = session; left = copy.left; marks = copy.marks }
 
@@ -116,9 +116,9 @@ module _ (base : Option Database) (max slack : ℕ) (copy : CopyView) (session :
     database_is = ap (replay (base_of base)) is.history
 
     -- where no place is left
-    stays : max ≤ length (newest old.published) → step (base_of base) c w Swap ≡ w
+    stays : c.max_places ≤ length (newest old.published) → step (base_of base) c w Swap ≡ w
     stays past =
-        let full : nat_lt (length w.history) c.max_places ≡ false = le-ltb (length w.history) c.max_places (omega (arith, past, most, ap length is.history)) in
+        let full : nat_lt (length w.history) c.max_places ≡ false = le-ltb (length w.history) c.max_places (omega (arith, past, ap length is.history)) in
         stepped ∙ ap (λ b. if b then swap (base_of base) c.slack w here else w) (and_no (copy.left == 0) _ full)
       where
         and_no : (a b : Bool) → b ≡ false → (a && b) ≡ false
@@ -129,46 +129,45 @@ module _ (base : Option Database) (max slack : ℕ) (copy : CopyView) (session :
     abbrev ended : Bool → Bool → World
     ended over behind = if over then abort (base_of base) w here else if behind then w else swapped (base_of base) w here
 
-    module _ (sliced : copy.left ≡ 0) (place : HasPlace max old) where
-      goes : step (base_of base) c w Swap ≡ ended (is_past base copy old) (nat_lt slack (behind_by base copy old))
+    module _ (sliced : copy.left ≡ 0) (place : HasPlace c.max_places old) where
+      goes : step (base_of base) c w Swap ≡ ended (is_past base copy old) (nat_lt c.slack (behind_by base copy old))
       goes =
           let none : (copy.left == 0) ≡ true = ap (λ n. n == 0) sliced in
-          let some : nat_lt (length w.history) c.max_places ≡ true = lt-ltb (length w.history) c.max_places (omega (arith, place, most, ap length is.history)) in
+          let some : nat_lt (length w.history) c.max_places ≡ true = lt-ltb (length w.history) c.max_places (omega (arith, place, ap length is.history)) in
           stepped
           ∙ ap (λ b. if b then swap (base_of base) c.slack w here else w) (and_from _ _ none some)
           ∙ ap (λ (d : Database). ended (is_overrun d.purges copy.marks.purge) (nat_lt c.slack (length (touched d copy.marks)))) database_is
-          ∙ ap (λ n. ended (is_past base copy old) (nat_lt n (behind_by base copy old))) slack_is
 
       aborts : is_past base copy old ≡ true → step (base_of base) c w Swap ≡ abort (base_of base) w here
-      aborts over = goes ∙ ap (λ b. ended b (nat_lt slack (behind_by base copy old))) over
+      aborts over = goes ∙ ap (λ b. ended b (nat_lt c.slack (behind_by base copy old))) over
 
-      waits : is_past base copy old ≡ false → slack < behind_by base copy old → step (base_of base) c w Swap ≡ w
-      waits within more = goes ∙ ap (λ b. ended b (nat_lt slack (behind_by base copy old))) within ∙ ap (ended false) (lt-ltb slack (behind_by base copy old) more)
+      waits : is_past base copy old ≡ false → c.slack < behind_by base copy old → step (base_of base) c w Swap ≡ w
+      waits within more = goes ∙ ap (λ b. ended b (nat_lt c.slack (behind_by base copy old))) within ∙ ap (ended false) (lt-ltb c.slack (behind_by base copy old) more)
 
-      ends : is_past base copy old ≡ false → behind_by base copy old ≤ slack → step (base_of base) c w Swap ≡ swapped (base_of base) w here
-      ends within few = goes ∙ ap (λ b. ended b (nat_lt slack (behind_by base copy old))) within ∙ ap (ended false) (le-ltb slack (behind_by base copy old) few)
+      ends : is_past base copy old ≡ false → behind_by base copy old ≤ c.slack → step (base_of base) c w Swap ≡ swapped (base_of base) w here
+      ends within few = goes ∙ ap (λ b. ended b (nat_lt c.slack (behind_by base copy old))) within ∙ ap (ended false) (le-ltb c.slack (behind_by base copy old) few)
 
   kept : (u w : World) → u ≡ w → IsOf w old → IsOf u old
   kept u w same is = record { history = ap (λ (v : World). v.history) same ∙ is.history; batch = ap (λ (v : World). v.batch) same ∙ is.batch }
 
-  pub full_is_swap : max ≤ length (newest old.published) → IsSwap base max slack copy session old old
-  full_is_swap past c w most slack_is opened is = kept _ w (stays c w most slack_is opened is past) is
+  pub full_is_swap : c.max_places ≤ length (newest old.published) → IsSwap base c copy session old old
+  full_is_swap past w opened is = kept _ w (stays w opened is past) is
 
-  pub overrun_is_swap : copy.left ≡ 0 → HasPlace max old → is_past base copy old ≡ true → IsSwap base max slack copy session old old
-  overrun_is_swap sliced place over c w most slack_is opened is =
-      let stepped = aborts c w most slack_is opened is sliced place over in
+  pub overrun_is_swap : copy.left ≡ 0 → HasPlace c.max_places old → is_past base copy old ≡ true → IsSwap base c copy session old old
+  overrun_is_swap sliced place over w opened is =
+      let stepped = aborts w opened is sliced place over in
       record { history = ap (λ (v : World). v.history) stepped ∙ is.history; batch = ap (λ (v : World). v.batch) stepped ∙ is.batch }
 
-  pub behind_is_swap : copy.left ≡ 0 → HasPlace max old → is_past base copy old ≡ false → slack < behind_by base copy old → IsSwap base max slack copy session old old
-  behind_is_swap sliced place within more c w most slack_is opened is = kept _ w (waits c w most slack_is opened is sliced place within more) is
+  pub behind_is_swap : copy.left ≡ 0 → HasPlace c.max_places old → is_past base copy old ≡ false → c.slack < behind_by base copy old → IsSwap base c copy session old old
+  behind_is_swap sliced place within more w opened is = kept _ w (waits w opened is sliced place within more) is
 
 -- a copy that is swapped in
-pub swaps_is_swap : (base : Option Database) (max slack : ℕ) (copy : CopyView) (seat : Seat) (old new : State) → copy.left ≡ 0 → joins (database_of base old) old.batch (compaction_of seat) ≡ true
-    → Swaps base max slack copy seat old new → IsSwap base max slack copy seat.session old new
-swaps_is_swap base max slack copy seat old new sliced may s c w most slack_is opened is =
-    let stepped = ends base max slack copy seat.session old c w most slack_is opened is sliced s.place s.within s.few in
+pub swaps_is_swap : (base : Option Database) (c : Config) (copy : CopyView) (seat : Seat) (old new : State) → copy.left ≡ 0 → joins (database_of base old) old.batch (compaction_of seat) ≡ true
+    → Swaps base c copy seat old new → IsSwap base c copy seat.session old new
+swaps_is_swap base c copy seat old new sliced may s w opened is =
+    let stepped = ends base c copy seat.session old w opened is sliced s.place s.within s.few in
     let next = (joins-parts (database_of base old) old.batch (compaction_of seat) may).0 in
-    let d_is = database_is base max slack copy seat.session old c w most slack_is opened is in
+    let d_is = database_is base c copy seat.session old w opened is in
     let seat_is : record { session = seat.session; call = calls_of (replay (base_of base) w.history) seat.session + 1 } ≡ seat =
     λ i. record { session = seat.session; call = (ap (λ (d : Database). calls_of d seat.session + 1) d_is ∙ sym next) i }
     in
@@ -183,13 +182,13 @@ swaps_is_swap base max slack copy seat old new sliced may s c w most slack_is op
     }
 
 -- a copy that is not swapped in, though memory was there
-pub refused_is_swap : (base : Option Database) (max slack : ℕ) (copy : CopyView) (session : ℕ) (old : State) (e : SwapFault) → copy.left ≡ 0 → HasPlace max old
-    → (e ≡ Overrun → is_past base copy old ≡ true) → (e ≡ Behind → (is_past base copy old ≡ false) × (slack < behind_by base copy old)) → (e ≡ Full → ⊥) → (e ≡ Memory → ⊥)
-    → IsSwap base max slack copy session old old
-refused_is_swap base max slack copy session old Full sliced place over behind full memory = absurd (full refl)
-refused_is_swap base max slack copy session old Behind sliced place over behind full memory = let b = behind refl in behind_is_swap base max slack copy session old sliced place b.0 b.1
-refused_is_swap base max slack copy session old Overrun sliced place over behind full memory = overrun_is_swap base max slack copy session old sliced place (over refl)
-refused_is_swap base max slack copy session old Memory sliced place over behind full memory = absurd (memory refl)
+pub refused_is_swap : (base : Option Database) (c : Config) (copy : CopyView) (session : ℕ) (old : State) (e : SwapFault) → copy.left ≡ 0 → HasPlace c.max_places old
+    → (e ≡ Overrun → is_past base copy old ≡ true) → (e ≡ Behind → (is_past base copy old ≡ false) × (c.slack < behind_by base copy old)) → (e ≡ Full → ⊥) → (e ≡ Memory → ⊥)
+    → IsSwap base c copy session old old
+refused_is_swap base c copy session old Full sliced place over behind full memory = absurd (full refl)
+refused_is_swap base c copy session old Behind sliced place over behind full memory = let b = behind refl in behind_is_swap base c copy session old sliced place b.0 b.1
+refused_is_swap base c copy session old Overrun sliced place over behind full memory = overrun_is_swap base c copy session old sliced place (over refl)
+refused_is_swap base c copy session old Memory sliced place over behind full memory = absurd (memory refl)
 
 -- what is passed on is not that memory was refused, where that was not answered
 pub passed_on : {T : Type 0} (r : Result T SwapFault) (e : SwapFault) → IsErrAnd r (λ f. f ≡ e) → r ≢ Err Memory → e ≡ Memory → ⊥

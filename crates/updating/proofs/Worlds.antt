@@ -31,10 +31,10 @@ step-give_up base c w = of w.batch refl
     of (j ∷ js) is = let same = cond-true _ _ _ (lt-ltb 0 (length w.batch) (omega (arith, ap length is))) in (ap (λ (u : World). u.history) same, ap (λ (u : World). u.batch) same)
 
 -- what was put is what the model's event puts
-pub put_is_event : (base : Option Database) (max : ℕ) (old new : State) → Puts base max old new → IsEvent base Put max old new
-put_is_event base max old new p c w most is =
+pub put_is_event : (base : Option Database) (c : Config) (old new : State) → Puts base c.max_places old new → IsEvent base c Put old new
+put_is_event base c old new p w is =
     let some : 0 < length w.batch = omega (arith, p.some, ap length is.batch) in
-    let room : length w.history + length w.batch ≤ c.max_places = omega (arith, p.room, most, ap length is.history, ap length is.batch) in
+    let room : length w.history + length w.batch ≤ c.max_places = omega (arith, p.room, ap length is.history, ap length is.batch) in
     record {
       history =
           put_adds (base_of base) c w some room
@@ -46,8 +46,8 @@ put_is_event base max old new p c w most is =
     }
 
 -- nothing is put of an empty batch
-pub put_nothing_is_event : (base : Option Database) (max : ℕ) (old new : State) → length old.batch ≡ 0 → new ≡ old → IsEvent base Put max old new
-put_nothing_is_event base max old new none same c w most is =
+pub put_nothing_is_event : (base : Option Database) (c : Config) (old new : State) → length old.batch ≡ 0 → new ≡ old → IsEvent base c Put old new
+put_nothing_is_event base c old new none same w is =
     let stepped = step-put-none (base_of base) c w (ap length is.batch ∙ none) in
     record {
       history = ap (λ (u : World). u.history) stepped ∙ is.history ∙ ap (λ (s : State). newest s.published) (sym same);
@@ -55,8 +55,8 @@ put_nothing_is_event base max old new none same c w most is =
     }
 
 -- a batch is given up as by the model's event
-pub give_up_is_event : (base : Option Database) (max : ℕ) (old new : State) → GivesUpBatch max old new → IsEvent base GiveUp max old new
-give_up_is_event base max old new g c w most is =
+pub give_up_is_event : (base : Option Database) (c : Config) (old new : State) → GivesUpBatch c.max_places old new → IsEvent base c GiveUp old new
+give_up_is_event base c old new g w is =
     let stepped = step-give_up (base_of base) c w in
     record {
       history = stepped.0 ∙ is.history ∙ ap (λ (s : State). newest s.published) (sym g.others);

@@ -14,6 +14,13 @@ pub data Fate : Type 0 where
   NoMemory : Fate
   LeftOut : Fate
 
+-- the job has an entry
+abbrev pub has_entry : Fate → Bool
+has_entry (StoodAt s) = true
+has_entry (NoPlaceLeft found) = false
+has_entry NoMemory = false
+has_entry LeftOut = false
+
 -- a fate as a choice of these, by which a model's value may hold it
 abbrev parts : Fate → Stands ⊎ (List (List Entry) ⊎ Bool)
 parts (StoodAt s) = inl s

@@ -1,17 +1,17 @@
 -- What the updater holds under its lock, and how that changes.
 use Rattle.std.specs.Prelude.{◌≡◌, ℕ, ◌+◌, ◌<◌, ◌≤◌, if◌then◌else◌, List, [], ◌∷◌, ◌++◌, length, slice_set, Option, None, Some, refl}
-use Rattle.std.specs.Coded.{Coded, code_by, coded×, coded_ℕ, coded_list, coded_option}
+use Rattle.std.specs.Coded.{Coded, code_by, coded×, coded_list, coded_option}
 use Rattle.model.specs.Command.{Entry, Job}
 use Rattle.model.specs.Database.{Database}
 use Rattle.model.specs.History.{replay, batch_entries, base_of}
+use Rattle.model.specs.World.{Config}
 use Rattle.publications.specs.Histories.{newest}
 use Rattle.updater.specs.Batches.{joins}
 use Rattle.updating.specs.Answers.{Stands}
 use Rattle.updating.specs.Outcomes.{Fate, coded_fate, LeftOut, told, outcome_of, all_stand, GivesUp}
 
--- how many jobs a batch may have, the published histories, all jobs that were popped, the batch, and of each session what became of its last job, until that is taken
+-- the published histories, all jobs that were popped, the batch, and of each session what became of its last job, until that is taken
 pub record State : Type 0 where
-  pub gather : ℕ
   pub published : List (List Entry)
   pub popped : List Job
   pub batch : List Job
@@ -19,9 +19,9 @@ pub record State : Type 0 where
 
 -- a state as the tuple of its parts, by which a model's value may be one
 abbrev pub coded_state : Coded Stands → Coded (List (List Entry)) → Coded (List Job) → Coded State
-coded_state stands published jobs = code_by (ℕ × (List (List Entry) × (List Job × (List Job × List (Option Fate)))))
-    (coded× coded_ℕ (coded× published (coded× jobs (coded× jobs (coded_list (coded_option (coded_fate stands published)))))))
-    (λ s. (s.gather, (s.published, (s.popped, (s.batch, s.outcomes))))) (λ t. record { gather = t.0; published = t.1.0; popped = t.1.1.0; batch = t.1.1.1.0; outcomes = t.1.1.1.1 }) (λ _. refl)
+coded_state stands published jobs = code_by (List (List Entry) × (List Job × (List Job × List (Option Fate))))
+    (coded× published (coded× jobs (coded× jobs (coded_list (coded_option (coded_fate stands published))))))
+    (λ s. (s.published, (s.popped, (s.batch, s.outcomes)))) (λ t. record { published = t.0; popped = t.1.0; batch = t.1.1.0; outcomes = t.1.1.1 }) (λ _. refl)
 
 -- the database after what was published last
 abbrev pub database_of : Option Database → State → Database
@@ -42,9 +42,9 @@ after_pop base s job = record s {
 }
 
 -- a job is popped into a batch that may have one more; its session has a place for its outcome
-pub record Pops (base : Option Database) (old new : State) : Type 0 where
+pub record Pops (base : Option Database) (config : Config) (old new : State) : Type 0 where
   pub job : Job
-  pub few : length old.batch < old.gather
+  pub few : length old.batch < config.gather
   pub known : job.seat.session < length old.outcomes
   pub popped : new ≡ after_pop base old job
 
@@ -80,21 +80,21 @@ abbrev pub after_taking : State → ℕ → State
 after_taking s session = record s { outcomes = slice_set s.outcomes session None }
 
 -- pops into a batch that may have one more, publications of a batch that is not empty and leaves no place missing, and batches given up
-pub data Goes (base : Option Database) (max_places : ℕ) : State → State → Type 0 where
-  stays : (s : State) → Goes base max_places s s
-  pops : (s t : State) (job : Job) → Goes base max_places s t → length t.batch < t.gather → Goes base max_places s (after_pop base t job)
-  puts : (s t : State) → Goes base max_places s t → 0 < length t.batch → length (newest t.published) + length t.batch ≤ max_places → Goes base max_places s (after_put base t)
-  gives_up : (s t u : State) → Goes base max_places s t → GivesUpBatch max_places t u → Goes base max_places s u
+pub data Goes (base : Option Database) (config : Config) : State → State → Type 0 where
+  stays : (s : State) → Goes base config s s
+  pops : (s t : State) (job : Job) → Goes base config s t → length t.batch < config.gather → Goes base config s (after_pop base t job)
+  puts : (s t : State) → Goes base config s t → 0 < length t.batch → length (newest t.published) + length t.batch ≤ config.max_places → Goes base config s (after_put base t)
+  gives_up : (s t u : State) → Goes base config s t → GivesUpBatch config.max_places t u → Goes base config s u
 
 -- such steps, at the end of which this session's outcome is taken, if there is one, and no other's
-pub record Serves (base : Option Database) (max_places session : ℕ) (old new : State) : Type 0 where
+pub record Serves (base : Option Database) (config : Config) (session : ℕ) (old new : State) : Type 0 where
   pub before : State
-  pub goes : Goes base max_places old before
+  pub goes : Goes base config old before
   pub taken : new ≡ after_taking before session
 
 -- at the end of such steps this session's outcome is taken, which is this one
-pub record Takes (base : Option Database) (max_places session : ℕ) (old new : State) (outcome : Fate) : Type 0 where
+pub record Takes (base : Option Database) (config : Config) (session : ℕ) (old new : State) (outcome : Fate) : Type 0 where
   pub before : State
-  pub goes : Goes base max_places old before
+  pub goes : Goes base config old before
   pub found : outcome_of before.outcomes session ≡ Some outcome
   pub taken : new ≡ after_taking before session

@@ -35,15 +35,15 @@ compaction_of seat = record { seat = seat; command = Compact }
 abbrev pub after_swap : Option Database → State → Seat → State
 after_swap base s seat = record s { published = published_with base s.published (compaction_of seat ∷ []) }
 
--- a compaction is published, where a place is left, and the copy lacks no lost purge and at most so many touched documents
-pub record Swaps (base : Option Database) (max_places slack : ℕ) (copy : CopyView) (seat : Seat) (old new : State) : Type 0 where
-  pub place : HasPlace max_places old
+-- a compaction is published, where a place is left, and the copy lacks no lost purge and at most as many touched documents as the slack
+pub record Swaps (base : Option Database) (config : Config) (copy : CopyView) (seat : Seat) (old new : State) : Type 0 where
+  pub place : HasPlace config.max_places old
   pub within : is_past base copy old ≡ false
-  pub few : behind_by base copy old ≤ slack
+  pub few : behind_by base copy old ≤ config.slack
   pub swapped : new ≡ after_swap base old seat
 
 -- The end of a compaction does to a world's history and batch what was done to the updater's, where the copy that is open
 -- in the world is this one, and of this session.
-abbrev pub IsSwap : Option Database → ℕ → ℕ → CopyView → ℕ → State → State → Type 0
-IsSwap base max_places slack copy session old new = (c : Config) (w : World) → c.max_places ≡ max_places → c.slack ≡ slack
-    → w.copy ≡ Some (record { session = session; left = copy.left; marks = copy.marks }) → IsOf w old → IsOf (step (base_of base) c w Swap) new
+abbrev pub IsSwap : Option Database → Config → CopyView → ℕ → State → State → Type 0
+IsSwap base config copy session old new = (w : World) → w.copy ≡ Some (record { session = session; left = copy.left; marks = copy.marks }) → IsOf w old
+    → IsOf (step (base_of base) config w Swap) new

@@ -1,5 +1,5 @@
 -- What the updater does, as events of a world.
-use Rattle.std.specs.Prelude.{◌≡◌, ℕ, Option}
+use Rattle.std.specs.Prelude.{◌≡◌, Option}
 use Rattle.model.specs.Database.{Database}
 use Rattle.model.specs.World.{Config, World, Event, step}
 use Rattle.model.specs.History.{base_of}
@@ -12,5 +12,5 @@ pub record IsOf (w : World) (s : State) : Type 0 where
   pub batch : w.batch ≡ s.batch
 
 -- over this base the event does to a world's history and batch what was done to the updater's
-abbrev pub IsEvent : Option Database → Event → ℕ → State → State → Type 0
-IsEvent base event max_places old new = (c : Config) (w : World) → c.max_places ≡ max_places → IsOf w old → IsOf (step (base_of base) c w event) new
+abbrev pub IsEvent : Option Database → Config → Event → State → State → Type 0
+IsEvent base config event old new = (w : World) → IsOf w old → IsOf (step (base_of base) config w event) new

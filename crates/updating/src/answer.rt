@@ -96,12 +96,12 @@ impl<J: Opening> Model for Filled<J> {
 
     ghost view = { λ f. f.found };
 
-    ghost invariant = { λ f. length (newest f.found) ≡ J.max_places };
+    ghost invariant = { λ f. length (newest f.found) ≡ J.config.max_places };
 }
 
 impl<J: Opening> Filled<J> {
     pub(crate) fn new(found: Published<J>) -> Filled<J>
-        requires { length (newest found) ≡ J.max_places }
+        requires { length (newest found) ≡ J.config.max_places }
         ensures { result ≡ found }
     {
         Filled { found }
@@ -110,7 +110,7 @@ impl<J: Opening> Filled<J> {
     /// The version.
     pub fn into_found(self) -> Published<J>
         ensures found { result ≡ self }
-        ensures full { length (newest result) ≡ J.max_places }
+        ensures full { length (newest result) ≡ J.config.max_places }
     {
         let Filled { found } = self;
         found

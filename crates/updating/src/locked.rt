@@ -25,6 +25,7 @@ use turns::Clerk;
 pub struct Core<R: Wait + Drop, J: Opening> {
     pub(crate) alloc: Global,
     pub(crate) gather: u16,
+    pub(crate) slack: u16,
     max_places: u32,
     pub(crate) book: Book<J>,
     pub(crate) current: Published<J>,
@@ -39,6 +40,7 @@ impl<R: Wait + Drop, J: Opening> Drop for Core<R, J> {
         let Core {
             alloc: _,
             gather: _,
+            slack: _,
             max_places: _,
             book: _,
             current: _,
@@ -63,9 +65,10 @@ impl<R: Wait + Drop, J: Opening> Model for Core<R, J> {
 
     ghost coded = { coded_state (Prim.hlevel (codes, coded_members)) (Prim.hlevel (codes, coded_members)) (Prim.hlevel (codes, coded_members)) };
 
-    ghost view = { λ c. record { gather = c.gather; published = c.current; popped = c.clerk.taken; batch = c.batch.items; outcomes = c.outcomes.items } };
+    ghost view = { λ c. record { published = c.current; popped = c.clerk.taken; batch = c.batch.items; outcomes = c.outcomes.items } };
 
-    ghost invariant = { λ c. (c.max_places ≡ J.max_places) × (c.gather ≤ vec_capacity c.batch) × (c.clerk.made ≤ length c.outcomes.items) × (length (newest c.current) ≤ J.max_places) × MayFollow (replay (base_of J.base) (newest c.current)) c.batch.items };
+    ghost invariant = { λ c. (c.max_places ≡ J.config.max_places) × (c.gather ≤ vec_capacity c.batch) × (c.clerk.made ≤ length c.outcomes.items) × (length (newest c.current) ≤ J.config.max_places)
+        × MayFollow (replay (base_of J.base) (newest c.current)) c.batch.items × (c.gather ≡ J.config.gather) × (c.slack ≡ J.config.slack) };
 }
 
 impl<R: Wait + Drop, J: Opening> Core<R, J> {
@@ -78,10 +81,10 @@ impl<R: Wait + Drop, J: Opening> Core<R, J> {
         clerk: Clerk<J>,
         press: Press<R, J>,
     ) -> Result<Core<R, J>, AllocError>
-        requires max_places { config.max_places ≡ J.max_places }
+        requires config { config ≡ J.config }
         requires sessions { clerk.made ≤ config.sessions }
-        requires few { length (newest current) ≤ J.max_places }
-        ensures { IfOk result (λ core. core ≡ record { gather = config.gather; published = current; popped = clerk.taken; batch = []; outcomes = replicate config.sessions None }) }
+        requires few { length (newest current) ≤ J.config.max_places }
+        ensures { IfOk result (λ core. core ≡ record { published = current; popped = clerk.taken; batch = []; outcomes = replicate config.sessions None }) }
     {
         let limits = config.limits();
         let batch = Vec::with_capacity(alloc, limits.gather as usize)?;
@@ -89,6 +92,7 @@ impl<R: Wait + Drop, J: Opening> Core<R, J> {
         Ok(Core {
             alloc,
             gather: limits.gather,
+            slack: limits.slack,
             max_places: limits.max_places,
             book,
             current,
@@ -108,7 +112,7 @@ impl<R: Wait + Drop, J: Opening> Core<R, J> {
 
     /// How many entries the history may still gain.
     pub(crate) fn room(&self) -> u64
-        ensures { result ≡ J.max_places - length (newest self.now.published) }
+        ensures { result ≡ J.config.max_places - length (newest self.now.published) }
     {
         let places = self.current.version().place();
         (self.max_places as u64).saturating_sub(places)
@@ -121,10 +125,10 @@ impl<R: Wait + Drop, J: Opening> Core<R, J> {
     /// All that grows, grows before the entries stand.
     pub fn put(&mut self) -> Result<(), PutFault>
         ensures empty { self.old.batch ≡ [] → (result ≡ Ok tt) × (self.new ≡ self.old) }
-        ensures put { OnOk result (0 < length self.old.batch → Puts J.base J.max_places self.old self.new) }
+        ensures put { OnOk result (0 < length self.old.batch → Puts J.base J.config.max_places self.old self.new) }
         ensures kept { OnErr result (self.new ≡ self.old) }
-        ensures event { OnOk result (IsEvent J.base Put J.max_places self.old self.new) }
-        ensures full { 0 < length self.old.batch → (result ≡ Err Full) ↔ (J.max_places < length (newest self.old.published) + length self.old.batch) }
+        ensures event { OnOk result (IsEvent J.base J.config Put self.old self.new) }
+        ensures full { 0 < length self.old.batch → (result ≡ Err Full) ↔ (J.config.max_places < length (newest self.old.published) + length self.old.batch) }
     {
         if self.batch.is_empty() {
             return Ok(());
@@ -147,8 +151,8 @@ impl<R: Wait + Drop, J: Opening> Core<R, J> {
     /// Gives up the batch, with no entry: each of its jobs is told that memory was refused, or that no place is
     /// left. It takes no memory.
     pub fn give_up(&mut self)
-        ensures given_up { GivesUpBatch J.max_places self.old self.new }
-        ensures event { IsEvent J.base GiveUp J.max_places self.old self.new }
+        ensures given_up { GivesUpBatch J.config.max_places self.old self.new }
+        ensures event { IsEvent J.base J.config GiveUp self.old self.new }
     {
         let is_full = self.current.version().place() == self.max_places as u64;
         give_up_all(

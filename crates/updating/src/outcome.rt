@@ -1,6 +1,7 @@
 //! What became of a job.
 ghost use Rattle.std.specs.Prelude.{◌≡◌};
 ghost use Rattle.updating.specs.Fates.{fate_of};
+ghost use Rattle.updating.specs.Outcomes.{has_entry};
 
 use crate::answer::{Answer, Filled};
 use crate::naming::Opening;
@@ -48,6 +49,16 @@ impl<J: Opening> Outcome<J> {
         ensures { result ≡ fate_of kind }
     {
         Outcome { kind }
+    }
+
+    /// Whether the job has an entry.
+    pub fn has_entry(&self) -> bool
+        ensures { result ≡ has_entry self.now }
+    {
+        match &self.kind {
+            OutcomeKind::Stood(_) => true,
+            OutcomeKind::Full(_) | OutcomeKind::Memory | OutcomeKind::Dropped => false,
+        }
     }
 
     /// What became of the job.

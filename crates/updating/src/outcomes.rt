@@ -59,8 +59,8 @@ pub(crate) fn no_outcomes<J: Opening>(
 
 /// What a job is told that is given up: that no place is left, or that memory was refused.
 fn given_up<J: Opening>(current: &Published<J>, is_full: bool) -> Outcome<J>
-    requires { IsTrue is_full → length (newest current.now) ≡ J.max_places }
-    ensures { IsGivenUp J.max_places current.now result }
+    requires { IsTrue is_full → length (newest current.now) ≡ J.config.max_places }
+    ensures { IsGivenUp J.config.max_places current.now result }
 {
     if !is_full {
         return Outcome::new(OutcomeKind::Memory);
@@ -78,8 +78,8 @@ pub(crate) fn give_up_all<J: Opening>(
     current: &Published<J>,
     is_full: bool,
 )
-    requires { IsTrue is_full → length (newest current.now) ≡ J.max_places }
-    ensures { GivesUp J.max_places current.now jobs.now outcomes.old.items outcomes.new.items }
+    requires { IsTrue is_full → length (newest current.now) ≡ J.config.max_places }
+    ensures { GivesUp J.config.max_places current.now jobs.now outcomes.old.items outcomes.new.items }
 {
     for job in jobs {
         tell(outcomes, job.seat.session(), given_up(current, is_full));

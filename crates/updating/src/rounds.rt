@@ -1,6 +1,7 @@
 //! Rounds of the updater: a batch is popped, and published or given up.
-ghost use Rattle.std.specs.Prelude.{◌≡◌, ◌<◌, false, None, Some, IfSome, MatchBool, vec_len, vec_capacity};
+ghost use Rattle.std.specs.Prelude.{◌≡◌, ◌+◌, ◌<◌, ◌≤◌, false, None, Some, length, IfSome, MatchBool, vec_len, vec_capacity};
 ghost use Rattle.model.specs.History.{now};
+ghost use Rattle.publications.specs.Histories.{newest};
 ghost use Rattle.turns.specs.Turns.{count};
 ghost use Rattle.updater.specs.Batches.{MayFollow};
 ghost use Rattle.updating.specs.Outcomes.{outcome_of};
@@ -45,7 +46,7 @@ impl<R: Wait + Drop, J: Opening> Core<R, J> {
     /// its session's next call or the session has a job in the batch. It answers whether a job was
     /// popped, and pops none where the batch has as many as it may.
     pub fn pop<W: Wait>(&mut self, rt: &W, line: &Line<J>) -> bool
-        ensures { MatchBool result (Pops J.base self.old self.new) (self.new ≡ self.old) }
+        ensures { MatchBool result (Pops J.base J.config self.old self.new) (self.new ≡ self.old) }
     {
         if self.batch.len() >= self.gather as usize {
             return false;
@@ -63,7 +64,10 @@ impl<R: Wait + Drop, J: Opening> Core<R, J> {
     }
 
     /// How many jobs the next batch may have: those past the last place are batches of their own.
-    fn most(&self) -> u64 {
+    fn most(&self) -> u64
+        ensures few { result ≤ J.config.gather }
+        ensures within { length (newest self.now.published) < J.config.max_places → length (newest self.now.published) + result ≤ J.config.max_places }
+    {
         match self.room() {
             0 => self.gather as u64,
             room => room.min(self.gather as u64),
@@ -72,7 +76,7 @@ impl<R: Wait + Drop, J: Opening> Core<R, J> {
 
     /// Pops a batch.
     fn gather<W: Wait>(&mut self, rt: &W, line: &Line<J>)
-        ensures { Goes J.base J.max_places self.old self.new }
+        ensures { Goes J.base J.config self.old self.new }
     {
         for _ in 0..self.most() {
             if !self.pop(rt, line) {
@@ -83,7 +87,7 @@ impl<R: Wait + Drop, J: Opening> Core<R, J> {
 
     /// Pops a batch, and publishes it or gives it up.
     fn round<W: Wait, G: Gate>(&mut self, rt: &W, line: &Line<J>, gate: &G, session: u16)
-        ensures { Goes J.base J.max_places self.old self.new }
+        ensures { Goes J.base J.config self.old self.new }
     {
         self.gather(rt, line);
         if self.batch.is_empty() {
@@ -134,8 +138,8 @@ impl<R: Wait + Drop, J: Opening> Core<R, J> {
         session: u16,
         most: u16,
     ) -> Option<Told<J>>
-        ensures goes { Serves J.base J.max_places session self.old self.new }
-        ensures own { IfSome result (λ told. Takes J.base J.max_places session self.old self.new told.outcome) }
+        ensures goes { Serves J.base J.config session self.old self.new }
+        ensures own { IfSome result (λ told. Takes J.base J.config session self.old self.new told.outcome) }
         ensures word { IfSome result (λ told. told.word ≡ record { number = session; gone = count session self.new.popped }) }
     {
         for _ in 0..most {

@@ -80,7 +80,7 @@ impl<R: Wait + Drop, J: Opening> Core<R, J> {
     }
 
     /// Swaps the copy of a compaction in: the history gains one entry of that seat, with one publication.
-    /// The copy takes over what was touched since, which is at most `slack`. Where no place is left, the
+    /// The copy takes over what was touched since, which is at most the configuration's slack. Where no place is left, the
     /// copy is behind or overrun, or memory is refused, all stays as it was.
     ///
     /// All that grows, grows before the entry stands.
@@ -88,20 +88,19 @@ impl<R: Wait + Drop, J: Opening> Core<R, J> {
         &mut self,
         copy: &mut Compaction,
         seat: Seat,
-        slack: u64,
     ) -> Result<Answer<J>, SwapFault>
         requires sliced { copy.old.left ≡ 0 }
         requires follows { Extends (latest_of J.base self.old) copy.old.seen }
         requires next { joins (database_of J.base self.old) self.old.batch (compaction_of seat) ≡ true }
-        ensures swaps { OnOk result (Swaps J.base J.max_places slack copy.old seat self.old self.new) }
+        ensures swaps { OnOk result (Swaps J.base J.config copy.old seat self.old self.new) }
         ensures answer { IfOk result (λ answer. answer ≡ record { published = self.new.published; place = length (newest self.old.published) + 1; reply = Done }) }
         ensures kept { OnErr result (self.new ≡ self.old) }
-        ensures event { result ≢ Err Memory → IsSwap J.base J.max_places slack copy.old seat.session self.old self.new }
-        ensures full { (result ≡ Err Full) ↔ (J.max_places ≤ length (newest self.old.published)) }
-        ensures overrun { (result ≡ Err Overrun) ↔ (HasPlace J.max_places self.old × (is_past J.base copy.old self.old ≡ true)) }
-        ensures behind { (result ≡ Err Behind) ↔ (HasPlace J.max_places self.old × (is_past J.base copy.old self.old ≡ false)
-            × (slack < behind_by J.base copy.old self.old)) }
-        ensures visits { result ≢ Err Full → copy.new.visited ≤ slack }
+        ensures event { result ≢ Err Memory → IsSwap J.base J.config copy.old seat.session self.old self.new }
+        ensures full { (result ≡ Err Full) ↔ (J.config.max_places ≤ length (newest self.old.published)) }
+        ensures overrun { (result ≡ Err Overrun) ↔ (HasPlace J.config.max_places self.old × (is_past J.base copy.old self.old ≡ true)) }
+        ensures behind { (result ≡ Err Behind) ↔ (HasPlace J.config.max_places self.old × (is_past J.base copy.old self.old ≡ false)
+            × (J.config.slack < behind_by J.base copy.old self.old)) }
+        ensures visits { result ≢ Err Full → copy.new.visited ≤ J.config.slack }
         ensures no_visits { result ≡ Err Full → copy.new ≡ copy.old }
         ensures copy { copy.new ≡ record copy.old { visited = copy.new.visited } }
     {
@@ -114,7 +113,7 @@ impl<R: Wait + Drop, J: Opening> Core<R, J> {
             &self.current,
             copy,
             seat,
-            slack,
+            self.slack as u64,
         )?;
         put_in_place(&mut self.current, found);
         Ok(answer)
@@ -122,7 +121,7 @@ impl<R: Wait + Drop, J: Opening> Core<R, J> {
 
     /// The version that was published last, which has no place left.
     pub fn filled(&self) -> Result<Filled<J>, AllocError>
-        requires full { J.max_places ≤ length (newest self.now.published) }
+        requires full { J.config.max_places ≤ length (newest self.now.published) }
         ensures same { IfOk result (λ filled. filled ≡ self.now.published) }
     {
         let found = self.current.share()?;

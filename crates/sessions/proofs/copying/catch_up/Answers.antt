@@ -6,13 +6,13 @@ use Rattle.model.proofs.TouchedLaws.{touched-rest}
 use Rattle.sessions.proofs.copying.catch_up.Goals as goal
 
 pub catch_up-requires-clause-follows : goal.catch_up-requires-clause-follows
-catch_up-requires-clause-follows c = extends c.args.version.now c.args.copy.now.seen c.requires.follows
+catch_up-requires-clause-follows g c = extends c.args.version.now c.args.copy.now.seen c.requires.follows
 
 pub returns-clause-rest : goal.returns-clause-rest
-returns-clause-rest c =
+returns-clause-rest g c =
     let d : Database = now c.args.version.now in
     let m = c.args.copy.now.marks in
-    let n = c.args.n in
+    let n = c.slice-n.result in
     c.in_ok-left.ensures.left
     ∙ sym (length-drop n (touched d m))
     ∙ ap length (sym (touched-rest d m n c.place-place.ensures.history.database.log.numbered))

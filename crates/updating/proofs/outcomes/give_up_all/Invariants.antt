@@ -4,4 +4,4 @@ use Rattle.updating.proofs.outcomes.give_up_all.Given as goal
 
 -- what the rest of the jobs come to, all of them come to
 abbrev pub invariant-loop-job : goal.invariant-loop-job
-invariant-loop-job g l = (last : List (Option Fate)) → GivesUp g.J.Opening.max_places l.current (drop l.job-index l.jobs) l.outcomes.items last → GivesUp g.J.Opening.max_places l.current l.jobs l.initial.outcomes.items last
+invariant-loop-job g l = (last : List (Option Fate)) → GivesUp g.J.Opening.config.max_places l.current (drop l.job-index l.jobs) l.outcomes.items last → GivesUp g.J.Opening.config.max_places l.current l.jobs l.initial.outcomes.items last

@@ -12,5 +12,5 @@ returns-clause-follows g c = try_follows c.swap_seen.result c.swap_seen.new.copy
 
 pub returns-clause-fault : goal.returns-clause-fault
 returns-clause-fault g c =
-    IfErr-weaker c.swap_seen.result (λ e. Leaves g.J.Naming.base g.J.Opening.max_places e c.refresh.new.self c.swap_seen.new.self) (λ e. Leaves g.J.Naming.base g.J.Opening.max_places e c.args.self.now c.swap_seen.new.self)
-    (λ e. leaves_then g.J.Naming.base g.J.Opening.max_places e c.args.self.now c.refresh.new.self c.swap_seen.new.self c.in_ok-refresh.ensures.looks) c.swap_seen.ensures.fault
+    IfErr-weaker c.swap_seen.result (λ e. Leaves g.J.Naming.base g.J.Opening.config e c.refresh.new.self c.swap_seen.new.self) (λ e. Leaves g.J.Naming.base g.J.Opening.config e c.args.self.now c.swap_seen.new.self)
+    (λ e. leaves_then g.J.Naming.base g.J.Opening.config e c.args.self.now c.refresh.new.self c.swap_seen.new.self c.in_ok-refresh.ensures.looks) c.swap_seen.ensures.fault

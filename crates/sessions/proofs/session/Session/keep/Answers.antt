@@ -1,4 +1,5 @@
-use Rattle.std.proofs.Common.{ap, sym, ◌∙◌, ◌≡◌, length}
+use Rattle.std.proofs.Common.{ap, sym, ◌∙◌, ◌≡◌, List, length}
+use Rattle.model.specs.Command.{Entry}
 use Rattle.model.specs.History.{of_session}
 use Rattle.publications.specs.Histories.{newest}
 use Rattle.sessions.specs.Known.{Known}
@@ -8,8 +9,10 @@ pub invariant_of-self : goal.invariant_of-self
 invariant_of-self g c =
     let holds = c.self.invariant in
     let number : c.self.inside.number ≡ c.args.self.now.number = ap (λ (k : Known). k.number) c.self.view_is in
+    let receipted : c.again.result ≡ c.args.found = c.again.ensures.same ∙ c.front.ensures.front in
     record {
-      counted = c.requires.calls ∙ ap (λ n. length (of_session n (newest c.args.found))) (sym number);
+      counted = c.requires.calls ∙ (λ i. length (of_session (sym number i) (newest (sym receipted i))));
+      own = ap (λ (p : List (List Entry)). of_session c.self.inside.number (newest p)) (sym receipted);
       grows = c.requires.grows;
       session = holds.session;
       ticket_is = holds.ticket_is;

@@ -24,7 +24,7 @@ returns-clause-receipt g c =
     let seat_is = c.requires.seat in
     let count : length (of_session old.number (newest found)) ≡ length old.receipts + 1 = ap (λ (q : Seat). length (of_session q.session (newest found))) (sym seat_is) ∙ t.last ∙ ap (λ (q : Seat). q.call) seat_is in
     writes g.J.Naming.base uncalled old c.keep.new.self found asked receipt t.entry
-    (subst SeesOwn view refl)
+    (subst SeesOwn view c.self.invariant.own)
     (subst (λ (l : List (List Entry)). IsPrefix l found) (ap (λ (k : Known). k.published) view) c.if-not-precedes.ensures.published)
     parts.grows
     t.at

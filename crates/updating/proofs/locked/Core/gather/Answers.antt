@@ -6,4 +6,4 @@ pub loop-init : goal.loop-init
 loop-init g c = stays c.args.self.now
 
 pub loop-preserved : goal.loop-preserved
-loop-preserved g c = Goes-pops g.J.Naming.base g.J.Opening.max_places c.args.self.now c.loop.self c.pop.new.self c.loop.invariant c.if-not-pop.ensures
+loop-preserved g c = Goes-pops g.J.Naming.base g.J.Opening.config c.args.self.now c.loop.self c.pop.new.self c.loop.invariant c.if-not-pop.ensures

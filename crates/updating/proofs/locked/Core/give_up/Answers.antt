@@ -14,7 +14,9 @@ invariant_of-self g c =
       omega (arith, old.2, length-given_up _ _ _ c.self.inside.outcomes.items c.give_up_all.new.outcomes.items c.give_up_all.ensures),
       old.3,
       subst (MayFollow (replay (base_of g.J.Naming.base) (newest c.self.inside.current))) (sym c.clear.ensures.items) tt,
+      old.5,
+      old.6,
     )
 
 pub returns-clause-event : goal.returns-clause-event
-returns-clause-event g c = give_up_is_event g.J.Naming.base g.J.Opening.max_places c.args.self.now _ (search rules)
+returns-clause-event g c = give_up_is_event g.J.Naming.base g.J.Opening.config c.args.self.now _ (search rules)
