@@ -26,6 +26,10 @@ pub(crate) trait Caller<X> {
 
 impl<R: Wait + Drop, J: Opening, G: Gate + Drop, X: Wait> Caller<X> for Session<Core<R, J>, J, G> {
     fn write(&mut self, context: &X, command: Command) -> Told {
+        if command.is_compaction() {
+            let answer = self.compact(context);
+            return told(answer, self.version());
+        }
         let answer = self.write(context, command);
         told(answer, self.version())
     }

@@ -9,12 +9,12 @@ use updating::Point;
 pub(crate) struct Script {
     pub(crate) name: &'static str,
     pub(crate) limits: Limits,
-    /// Where session 0 is held, the first time that it comes there.
+    /// Where session 0 is held, the first times that it comes there.
     pub(crate) held: Option<Point>,
     /// What session 0 does.
     pub(crate) held_acts: &'static [Act],
-    /// What session 1 does while session 0 is held.
-    pub(crate) acts: &'static [Act],
+    /// What session 1 does each time that session 0 is held.
+    pub(crate) acts: &'static [&'static [Act]],
     /// What session 1 does after they met.
     pub(crate) last_acts: &'static [Act],
 }
@@ -24,15 +24,23 @@ pub(crate) struct Script {
 pub(crate) enum Case {
     Crossed,
     Behind,
+    Touched,
+    Twice,
+    Thrice,
+    Given,
     Overrun,
     Cut,
     Full,
     Met,
 }
 
-pub(crate) const CASES: [Case; 6] = [
+pub(crate) const CASES: [Case; 10] = [
     Case::Crossed,
     Case::Behind,
+    Case::Touched,
+    Case::Twice,
+    Case::Thrice,
+    Case::Given,
     Case::Overrun,
     Case::Cut,
     Case::Full,
@@ -44,6 +52,10 @@ impl Case {
         match self {
             Case::Crossed => CROSSED,
             Case::Behind => BEHIND,
+            Case::Touched => TOUCHED,
+            Case::Twice => TWICE,
+            Case::Thrice => THRICE,
+            Case::Given => GIVEN,
             Case::Overrun => OVERRUN,
             Case::Cut => CUT,
             Case::Full => FULL,
@@ -71,7 +83,7 @@ const CROSSED: Script = Script {
     limits: LIMITS,
     held: Some(Point::Sliced),
     held_acts: &[Act::Put('x'), Act::Put('y'), Act::Compact],
-    acts: &[Act::Purge('x'), Act::Edit('y'), Act::Look],
+    acts: &[&[Act::Purge('x'), Act::Edit('y'), Act::Look]],
     last_acts: &[
         Act::Look,
         Act::Find('x', Generation::First),
@@ -89,8 +101,46 @@ const BEHIND: Script = Script {
     },
     held: Some(Point::CaughtUp),
     held_acts: &[Act::Compact, Act::Look, Act::Compact],
-    acts: &[Act::Put('x'), Act::Put('y')],
+    acts: &[&[Act::Put('x'), Act::Put('y')]],
     last_acts: &[Act::Look],
+};
+
+const TOUCHED: Script = Script {
+    name: "as many documents as the slack while a copy that caught up is held",
+    held_acts: &[Act::Compact],
+    acts: &[&[Act::Put('x')]],
+    ..BEHIND
+};
+
+const TWICE: Script = Script {
+    name: "two tries, of which the first is behind, after slices of two documents",
+    limits: Limits {
+        slice: 2,
+        tries: 2,
+        ..LIMITS
+    },
+    held_acts: &[
+        Act::Put('a'),
+        Act::Put('b'),
+        Act::Put('c'),
+        Act::Put('d'),
+        Act::Put('e'),
+        Act::Compact,
+    ],
+    ..TOUCHED
+};
+
+const THRICE: Script = Script {
+    name: "three tries, of which the first two are behind",
+    limits: Limits { tries: 3, ..LIMITS },
+    acts: &[&[Act::Put('x')], &[Act::Put('y')]],
+    ..TOUCHED
+};
+
+const GIVEN: Script = Script {
+    name: "two tries, which are both behind",
+    limits: Limits { tries: 2, ..LIMITS },
+    ..THRICE
 };
 
 const OVERRUN: Script = Script {
@@ -101,7 +151,7 @@ const OVERRUN: Script = Script {
     },
     held: Some(Point::Sliced),
     held_acts: &[Act::PutMany(MANY), Act::Compact, Act::Look, Act::Compact],
-    acts: &[Act::PurgeMany(MANY)],
+    acts: &[&[Act::PurgeMany(MANY)]],
     last_acts: &[Act::Look],
 };
 
@@ -119,7 +169,7 @@ const CUT: Script = Script {
         Act::Look,
         Act::Compact,
     ],
-    acts: &[Act::Purge('x'), Act::Purge('y'), Act::KeepPurges(1)],
+    acts: &[&[Act::Purge('x'), Act::Purge('y'), Act::KeepPurges(1)]],
     last_acts: &[Act::Look],
 };
 

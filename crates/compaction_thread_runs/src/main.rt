@@ -12,6 +12,7 @@ mod caller;
 mod case;
 mod command;
 mod content;
+mod count;
 mod hold;
 mod notes;
 mod part;

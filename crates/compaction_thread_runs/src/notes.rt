@@ -1,11 +1,11 @@
 //! What all threads of a run note.
 
+use crate::count::Count;
 use crate::hold::Marks;
 use crate::told::{Line, Replied, Told};
 use revision_id::RevId;
 use sessions::Fault;
 use std::alloc::Global;
-use std::sync::atomic::{AtomicU64, Ordering};
 use std::sync::{Mutex, Wait};
 
 /// What there is of a document in the history of a length.
@@ -18,28 +18,6 @@ pub(crate) struct Sample {
     pub(crate) winner: Option<RevId>,
     /// How many of its revisions have a body.
     pub(crate) bodies: usize,
-}
-
-/// How often it happened.
-#[derive(Drop)]
-struct Count {
-    times: AtomicU64,
-}
-
-impl Count {
-    fn new() -> Count {
-        Count {
-            times: AtomicU64::new(0),
-        }
-    }
-
-    fn add(&self) {
-        self.times.fetch_add(1, Ordering::SeqCst);
-    }
-
-    fn get(&self) -> u64 {
-        self.times.load(Ordering::SeqCst)
-    }
 }
 
 /// What all threads of a run note.

@@ -27,11 +27,11 @@ pub(crate) fn part<X: Wait + Clock, S: Caller<X>>(
     if index != OTHER {
         return do_all(rt, alloc, notes, index, session, script.held_acts);
     }
-    if script.held.is_some() {
-        notes.marks.wait_for_held(rt);
+    for (turn, acts) in script.acts.iter().enumerate() {
+        notes.marks.wait_for_held(rt, (turn as u64).saturating_add(1));
+        do_all(rt, alloc, notes, index, session, *acts);
+        notes.marks.release();
     }
-    do_all(rt, alloc, notes, index, session, script.acts);
-    notes.marks.release();
 }
 
 /// Has both meet, and then the other one do the rest.

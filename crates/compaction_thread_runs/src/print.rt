@@ -25,7 +25,17 @@ pub(crate) fn print_case(
         "closed at place {}, calls {first} and {second}",
         ending.place
     )?;
+    print_points(rt, notes)?;
     print_ending(rt, notes, ending)
+}
+
+/// Prints how often session 0 came to each point of a compaction.
+fn print_points(rt: &impl Print, notes: &Notes) -> io::Result<()> {
+    let points = notes.marks.points();
+    println!(rt;
+        "sliced {}, caught up {}, finishing {}",
+        points.sliced, points.caught_up, points.finishing
+    )
 }
 
 /// Prints how much a soak did, and whether the history has just the entries with a receipt.

@@ -1,5 +1,5 @@
 //! A run: a database is opened, its sessions work on threads, and it is closed.
-ghost use Rattle.std.specs.Prelude.{◌≡◌};
+ghost use Rattle.history_lock.specs.Names.{IsNamed};
 
 use crate::case::Case;
 use crate::hold::Hold;
@@ -31,10 +31,19 @@ pub(crate) enum Work {
 }
 
 impl Work {
+    /// Where session 0 is held.
     fn held(self) -> Option<Point> {
         match self {
             Work::Case(case) => case.script().held,
             Work::Soak => None,
+        }
+    }
+
+    /// How often.
+    fn times(self) -> u64 {
+        match self {
+            Work::Case(case) => case.script().acts.len() as u64,
+            Work::Soak => 0,
         }
     }
 }
@@ -76,14 +85,9 @@ fn worked<J: Opening + Send + Sync, R: Threads + Wait + Clock + Sync>(
     notes: &Notes,
     opened: Opened,
 ) -> Option<Ending>
-    requires book { opened.book ≡ J.book }
-    requires base { opened.base ≡ J.base }
-    requires table { opened.queue.table ≡ J.table }
-    requires capacity { opened.queue.capacity ≡ J.capacity }
-    requires sessions { opened.queue.sessions ≡ J.sessions }
-    requires max_places { opened.max_places ≡ J.max_places }
+    requires named { IsNamed J.book J.base J.table J.capacity J.sessions J.config opened }
 {
-    let hold = Hold::new(rt, &notes.marks, work.held());
+    let hold = Hold::new(rt, &notes.marks, work.held(), work.times());
     let Ok((master, mut sessions)) = open::<&R, J, Hold<'_, R>>(rt, opened, hold) else {
         return None;
     };

@@ -6,9 +6,8 @@ use Rattle.model.specs.Database.{Database}
 use Rattle.model.specs.World.{Config}
 use Rattle.publications.specs.Histories.{newest}
 use Rattle.compactor.specs.Copy.{CopyView}
-use Rattle.updater.specs.Batches.{joins}
-use Rattle.updating.specs.State.{State, database_of}
-use Rattle.updating.specs.Swaps.{HasPlace, Swaps, compaction_of, is_past, behind_by}
+use Rattle.updating.specs.State.{State}
+use Rattle.updating.specs.Swaps.{HasPlace, Swaps, may_swap, is_past, behind_by}
 use Rattle.sessions.specs.declared.swapping.Swapped.{Swapped}
 use Rattle.sessions.specs.declared.swapping.Swapped.TheVariants as swapped
 
@@ -23,4 +22,4 @@ EndsTry base config copy seat seen old new (swapped.Full found) = (new ≡ old) 
 EndsTry base config copy seat seen old new swapped.Behind = (new ≡ old) × IsBehind base config copy seen old
 EndsTry base config copy seat seen old new swapped.Overrun = (new ≡ old) × HasPlace config.max_places old × (is_past base copy old ≡ true)
 EndsTry base config copy seat seen old new swapped.Memory = new ≡ old
-EndsTry base config copy seat seen old new swapped.Lost = (new ≡ old) × (joins (database_of base old) old.batch (compaction_of seat) ≡ false)
+EndsTry base config copy seat seen old new swapped.Lost = (new ≡ old) × (may_swap base old seat ≡ false)

@@ -1,5 +1,5 @@
 //! A run over the end of a history: a database is closed, and goes on as its successor.
-ghost use Rattle.std.specs.Prelude.{◌≡◌};
+ghost use Rattle.history_lock.specs.Names.{IsNamed};
 
 use crate::run::Outcome;
 use crate::work::{Told, write_twice};
@@ -26,12 +26,7 @@ fn ended<J: Opening, R: Wait>(
     config: Config,
     opened: Opened,
 ) -> Option<Outcome>
-    requires book { opened.book ≡ J.book }
-    requires base { opened.base ≡ J.base }
-    requires table { opened.queue.table ≡ J.table }
-    requires capacity { opened.queue.capacity ≡ J.capacity }
-    requires sessions { opened.queue.sessions ≡ J.sessions }
-    requires max_places { opened.max_places ≡ J.max_places }
+    requires named { IsNamed J.book J.base J.table J.capacity J.sessions J.config opened }
 {
     let Ok((told, closed)) = epoch::<J, R>(rt, alloc, opened, "a") else {
         return None;
@@ -72,12 +67,7 @@ fn begun<J: Opening, R: Wait>(
     alloc: Global,
     opened: Opened,
 ) -> Result<Option<Outcome>, Fault>
-    requires book { opened.book ≡ J.book }
-    requires base { opened.base ≡ J.base }
-    requires table { opened.queue.table ≡ J.table }
-    requires capacity { opened.queue.capacity ≡ J.capacity }
-    requires sessions { opened.queue.sessions ≡ J.sessions }
-    requires max_places { opened.max_places ≡ J.max_places }
+    requires named { IsNamed J.book J.base J.table J.capacity J.sessions J.config opened }
 {
     let (told, closed) = epoch::<J, R>(rt, alloc, opened, "b")?;
     let Some(told) = told else {
@@ -96,12 +86,7 @@ fn epoch<J: Opening, R: Wait>(
     opened: Opened,
     id: &str,
 ) -> Result<(Option<[Option<Told>; 2]>, Closed<J>), Fault>
-    requires book { opened.book ≡ J.book }
-    requires base { opened.base ≡ J.base }
-    requires table { opened.queue.table ≡ J.table }
-    requires capacity { opened.queue.capacity ≡ J.capacity }
-    requires sessions { opened.queue.sessions ≡ J.sessions }
-    requires max_places { opened.max_places ≡ J.max_places }
+    requires named { IsNamed J.book J.base J.table J.capacity J.sessions J.config opened }
 {
     let (master, mut sessions) = open::<&R, J, NoGate>(rt, opened, NoGate)?;
     let told = written(rt, alloc, sessions.as_mut_slice(), id);

@@ -1,5 +1,5 @@
 //! A run: a database is opened, its sessions work on threads, and it is closed.
-ghost use Rattle.std.specs.Prelude.{◌≡◌};
+ghost use Rattle.history_lock.specs.Names.{IsNamed};
 
 use crate::epochs::run_on;
 use crate::plan::{Plan, Work};
@@ -40,12 +40,7 @@ fn worked<J: Opening + Send + Sync, R: Threads + Wait + Sync>(
     opened: Opened,
     work: Work,
 ) -> Option<Outcome>
-    requires book { opened.book ≡ J.book }
-    requires base { opened.base ≡ J.base }
-    requires table { opened.queue.table ≡ J.table }
-    requires capacity { opened.queue.capacity ≡ J.capacity }
-    requires sessions { opened.queue.sessions ≡ J.sessions }
-    requires max_places { opened.max_places ≡ J.max_places }
+    requires named { IsNamed J.book J.base J.table J.capacity J.sessions J.config opened }
 {
     let Ok((master, mut sessions)) = open::<&R, J, NoGate>(rt, opened, NoGate) else {
         return None;

@@ -1,4 +1,6 @@
 //! What one session does.
+ghost use Rattle.std.specs.Prelude.{◌≡◌, false, IfSome};
+ghost use Rattle.model.specs.World.{is_compact};
 
 use commands::{Command, Edit};
 use document_id::DocId;
@@ -15,7 +17,9 @@ const MAX_SESSIONS: usize = 64;
 const SCATTER: u32 = 2_654_435_761;
 
 /// The first edit of the document of an id, with the body `{}`.
-fn put(alloc: Global, id: &str) -> Option<Command> {
+fn put(alloc: Global, id: &str) -> Option<Command>
+    ensures { IfSome result (λ command. is_compact command ≡ false) }
+{
     let edit = Edit {
         id: DocId::new(alloc, id).ok()?,
         named: None,

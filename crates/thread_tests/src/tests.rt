@@ -1,4 +1,6 @@
 //! Sessions over one opened database.
+ghost use Rattle.std.specs.Prelude.{◌≡◌, false, IfSome};
+ghost use Rattle.model.specs.World.{is_compact};
 
 mod epochs;
 mod held;
@@ -36,12 +38,16 @@ const LIMITS: Limits = Limits {
 };
 
 /// The first edit of the document of an id, with the body `{}`.
-fn put(alloc: Global, id: &str) -> Option<Command> {
+fn put(alloc: Global, id: &str) -> Option<Command>
+    ensures { IfSome result (λ command. is_compact command ≡ false) }
+{
     edit(alloc, DocId::new(alloc, id).ok()?, None)
 }
 
 /// An edit over the revision that is named, with the body `{}`.
-fn edit(alloc: Global, id: DocId, named: Option<RevId>) -> Option<Command> {
+fn edit(alloc: Global, id: DocId, named: Option<RevId>) -> Option<Command>
+    ensures { IfSome result (λ command. is_compact command ≡ false) }
+{
     let edit = Edit {
         id,
         named,

@@ -8,6 +8,7 @@ use Rattle.model.specs.Compaction.{touched}
 use Rattle.model.specs.World.{Config, World, Swap, step}
 use Rattle.publications.specs.Histories.{newest}
 use Rattle.compactor.specs.Copy.{CopyView}
+use Rattle.updater.specs.Batches.{joins}
 use Rattle.updating.specs.State.{State, database_of, published_with}
 use Rattle.updating.specs.Worlds.{IsOf}
 
@@ -30,6 +31,10 @@ behind_by base copy s = length (touched (database_of base s) copy.marks)
 -- a compaction of this seat, as a job
 abbrev pub compaction_of : Seat → Job
 compaction_of seat = record { seat = seat; command = Compact }
+
+-- a compaction of this seat is its session's next call, and no job of the batch is of the session
+abbrev pub may_swap : Option Database → State → Seat → Bool
+may_swap base s seat = joins (database_of base s) s.batch (compaction_of seat)
 
 -- one publication more, whose history gains the entry of the compaction
 abbrev pub after_swap : Option Database → State → Seat → State

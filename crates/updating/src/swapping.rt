@@ -6,9 +6,8 @@ ghost use Rattle.model.specs.History.{now, replay, Extends, base_of};
 ghost use Rattle.model.specs.Compaction.{touched};
 ghost use Rattle.model.specs.PurgeLog.{is_overrun};
 ghost use Rattle.publications.specs.Histories.{newest};
-ghost use Rattle.updater.specs.Batches.{joins};
-ghost use Rattle.updating.specs.State.{database_of, published_with};
-ghost use Rattle.updating.specs.Swaps.{HasPlace, Swaps, IsSwap, latest_of, compaction_of, is_past, behind_by};
+ghost use Rattle.updating.specs.State.{published_with};
+ghost use Rattle.updating.specs.Swaps.{HasPlace, Swaps, IsSwap, latest_of, compaction_of, may_swap, is_past, behind_by};
 ghost use Rattle.updating.specs.declared.fault.SwapFault.TheVariants.{Full, Behind, Overrun, Memory};
 
 use crate::answer::{Answer, Filled};
@@ -70,7 +69,7 @@ impl<R: Wait + Drop, J: Opening> Core<R, J> {
     /// Whether a compaction of this seat may be swapped in: it is its session's next call, and no job of
     /// the batch is of the session.
     pub fn may_swap(&self, seat: Seat) -> bool
-        ensures { result ≡ joins (database_of J.base self.now) self.now.batch (compaction_of seat) }
+        ensures { result ≡ may_swap J.base self.now seat }
     {
         let job = Job {
             seat,
@@ -91,7 +90,7 @@ impl<R: Wait + Drop, J: Opening> Core<R, J> {
     ) -> Result<Answer<J>, SwapFault>
         requires sliced { copy.old.left ≡ 0 }
         requires follows { Extends (latest_of J.base self.old) copy.old.seen }
-        requires next { joins (database_of J.base self.old) self.old.batch (compaction_of seat) ≡ true }
+        requires next { may_swap J.base self.old seat ≡ true }
         ensures swaps { OnOk result (Swaps J.base J.config copy.old seat self.old self.new) }
         ensures answer { IfOk result (λ answer. answer ≡ record { published = self.new.published; place = length (newest self.old.published) + 1; reply = Done }) }
         ensures kept { OnErr result (self.new ≡ self.old) }

@@ -1,5 +1,5 @@
 //! A database that goes on after its history was closed.
-ghost use Rattle.std.specs.Prelude.{◌≡◌};
+ghost use Rattle.history_lock.specs.Names.{IsNamed};
 
 use crate::tests::{FIRST, LIMITS, answer, put};
 use commands::{Config, Limits};
@@ -123,12 +123,7 @@ fn first_epoch<J: Opening, R: Wait>(
     config: Config,
     opened: Opened,
 ) -> Option<Epochs>
-    requires book { opened.book ≡ J.book }
-    requires base { opened.base ≡ J.base }
-    requires table { opened.queue.table ≡ J.table }
-    requires capacity { opened.queue.capacity ≡ J.capacity }
-    requires sessions { opened.queue.sessions ≡ J.sessions }
-    requires max_places { opened.max_places ≡ J.max_places }
+    requires named { IsNamed J.book J.base J.table J.capacity J.sessions J.config opened }
 {
     let (first, closed) = worked::<J, R>(rt, alloc, opened, "a", "a")?;
     let one = Opened::after(alloc, config, &closed);
@@ -156,12 +151,7 @@ fn goes_on<R: Wait>(
 
 /// Has another document written, and then the one of the epoch before.
 fn last_epoch<J: Opening, R: Wait>(rt: &R, alloc: Global, opened: Opened) -> Option<Epoch>
-    requires book { opened.book ≡ J.book }
-    requires base { opened.base ≡ J.base }
-    requires table { opened.queue.table ≡ J.table }
-    requires capacity { opened.queue.capacity ≡ J.capacity }
-    requires sessions { opened.queue.sessions ≡ J.sessions }
-    requires max_places { opened.max_places ≡ J.max_places }
+    requires named { IsNamed J.book J.base J.table J.capacity J.sessions J.config opened }
 {
     let (epoch, _closed) = worked::<J, R>(rt, alloc, opened, "b", "a")?;
     Some(epoch)
@@ -175,12 +165,7 @@ fn worked<J: Opening, R: Wait>(
     one: &str,
     other: &str,
 ) -> Option<(Epoch, Closed<J>)>
-    requires book { opened.book ≡ J.book }
-    requires base { opened.base ≡ J.base }
-    requires table { opened.queue.table ≡ J.table }
-    requires capacity { opened.queue.capacity ≡ J.capacity }
-    requires sessions { opened.queue.sessions ≡ J.sessions }
-    requires max_places { opened.max_places ≡ J.max_places }
+    requires named { IsNamed J.book J.base J.table J.capacity J.sessions J.config opened }
 {
     let Ok((master, mut sessions)) = open::<&R, J, NoGate>(rt, opened, NoGate) else {
         return None;

@@ -1,5 +1,7 @@
 //! Writes that come while session 0 is held.
-ghost use Rattle.std.specs.Prelude.{◌≡◌};
+ghost use Rattle.std.specs.Prelude.{◌≡◌, false, IfSome};
+ghost use Rattle.model.specs.World.{is_compact};
+ghost use Rattle.history_lock.specs.Names.{IsNamed};
 
 mod plan;
 mod tally;
@@ -94,7 +96,9 @@ fn write<R: Wait, C: Wait + Drop, J: Opening, G: Gate + Drop>(
 }
 
 /// The first edit of a session's own document.
-fn own_put(alloc: Global, index: usize) -> Option<Command> {
+fn own_put(alloc: Global, index: usize) -> Option<Command>
+    ensures { IfSome result (λ command. is_compact command ≡ false) }
+{
     put(alloc, DOCUMENTS.get(index)?)
 }
 
@@ -114,12 +118,7 @@ fn run<J: Opening + Send + Sync, R: Threads + Wait + Clock + Sync>(
     tally: &Tally,
     opened: Opened,
 ) -> Option<u64>
-    requires book { opened.book ≡ J.book }
-    requires base { opened.base ≡ J.base }
-    requires table { opened.queue.table ≡ J.table }
-    requires capacity { opened.queue.capacity ≡ J.capacity }
-    requires sessions { opened.queue.sessions ≡ J.sessions }
-    requires max_places { opened.max_places ≡ J.max_places }
+    requires named { IsNamed J.book J.base J.table J.capacity J.sessions J.config opened }
 {
     let gate = Holds {
         clock: rt,

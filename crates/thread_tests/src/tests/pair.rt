@@ -1,8 +1,8 @@
 //! Sessions in one thread.
-ghost use Rattle.std.specs.Prelude.{◌≡◌};
+ghost use Rattle.history_lock.specs.Names.{IsNamed};
 
 use crate::tests::{FIRST, LIMITS, answer, put};
-use commands::{Command, Config, Limits};
+use commands::{Config, Limits};
 use history_lock::{Closed, Opened, open};
 use model::Refusal;
 use revision_id::RevId;
@@ -60,29 +60,21 @@ fn a_write_is_seen_by_others(rt: HostRuntime) -> Result<(), Fail> {
         ..LIMITS
     };
     let config = Config::new(limits).ok_or("limits")?;
-    let first = put(alloc, "a").ok_or("memory")?;
-    let second = put(alloc, "a").ok_or("memory")?;
-    writes_and_meets::<Brand, _>(&rt, Opened::new(alloc, config)?, first, second)
+    writes_and_meets::<Brand, _>(&rt, alloc, Opened::new(alloc, config)?)
 }
 
 /// Has two sessions write one document and the others look, wait and refresh, and closes the database.
 fn writes_and_meets<J: Opening, R: Wait + Clock + Abort>(
     rt: &R,
+    alloc: Global,
     opened: Opened,
-    first: Command,
-    second: Command,
 ) -> Result<(), Fail>
-    requires book { opened.book ≡ J.book }
-    requires base { opened.base ≡ J.base }
-    requires table { opened.queue.table ≡ J.table }
-    requires capacity { opened.queue.capacity ≡ J.capacity }
-    requires sessions { opened.queue.sessions ≡ J.sessions }
-    requires max_places { opened.max_places ≡ J.max_places }
+    requires named { IsNamed J.book J.base J.table J.capacity J.sessions J.config opened }
 {
     let Ok((master, mut sessions)) = open::<&R, J, NoGate>(rt, opened, NoGate) else {
         return Err(Fail::from("open"));
     };
-    let told = told_to_all(rt, sessions.as_mut_slice(), first, second);
+    let told = told_to_all(rt, alloc, sessions.as_mut_slice());
     let closed = master.close(sessions, rt);
     let end = end_of(&closed);
     drop(closed);
@@ -124,27 +116,26 @@ const EXPECTED_END: End = End {
 /// Sessions 0 and 1 write one after the other, and all three see it.
 fn told_to_all<J: Opening, R: Wait + Clock>(
     rt: &R,
+    alloc: Global,
     sessions: &mut [Session<Core<&R, J>, J, NoGate>],
-    first: Command,
-    second: Command,
 ) -> Option<(Seen, Met)> {
     let (zero, others) = sessions.split_first_mut()?;
     let (one, others) = others.split_first_mut()?;
     let two = others.first_mut()?;
-    let seen = seen_by_others(rt, zero, one, two, first)?;
-    let met = meets(rt, zero, one, two, second)?;
+    let seen = seen_by_others(rt, alloc, zero, one, two)?;
+    let met = meets(rt, alloc, zero, one, two)?;
     Some((seen, met))
 }
 
 /// Session 0 writes, session 1 looks, and session 2 waits for an update.
 fn seen_by_others<R: Wait + Clock, C: Wait + Drop, J: Opening>(
     rt: &R,
+    alloc: Global,
     zero: &mut Session<Core<C, J>, J, NoGate>,
     one: &mut Session<Core<C, J>, J, NoGate>,
     two: &mut Session<Core<C, J>, J, NoGate>,
-    command: Command,
 ) -> Option<Seen> {
-    let receipt = told_by(&zero.write(rt, command).ok()?);
+    let receipt = told_by(&zero.write(rt, put(alloc, "a")?).ok()?);
     let looked = one.look().ok()?.place();
     let past = two.wait_past(rt, 0, 1).ok()?;
     Some(Seen {
@@ -158,12 +149,12 @@ fn seen_by_others<R: Wait + Clock, C: Wait + Drop, J: Opening>(
 /// Session 1 writes, session 2 refreshes, and sessions 0 and 1 meet.
 fn meets<R: Wait, C: Wait + Drop, J: Opening>(
     rt: &R,
+    alloc: Global,
     zero: &mut Session<Core<C, J>, J, NoGate>,
     one: &mut Session<Core<C, J>, J, NoGate>,
     two: &mut Session<Core<C, J>, J, NoGate>,
-    command: Command,
 ) -> Option<Met> {
-    let receipt = told_by(&one.write(rt, command).ok()?);
+    let receipt = told_by(&one.write(rt, put(alloc, "a")?).ok()?);
     two.refresh().ok()?;
     let met = zero.meet(one).ok()?;
     Some(Met {

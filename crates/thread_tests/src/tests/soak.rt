@@ -1,5 +1,7 @@
 //! Many threads that write and look for a while.
-ghost use Rattle.std.specs.Prelude.{◌≡◌};
+ghost use Rattle.std.specs.Prelude.{◌≡◌, false, IfSome};
+ghost use Rattle.model.specs.World.{is_compact};
+ghost use Rattle.history_lock.specs.Names.{IsNamed};
 
 use crate::tests::{DOCUMENTS, LIMITS, edit};
 use commands::{Command, Config, Entry, Limits, Seat};
@@ -32,7 +34,9 @@ fn winner(version: &Version, id: &DocId) -> Option<RevId> {
 }
 
 /// An edit of a document over what wins in the version.
-fn next_edit(alloc: Global, version: &Version, turn: usize) -> Option<Command> {
+fn next_edit(alloc: Global, version: &Version, turn: usize) -> Option<Command>
+    ensures { IfSome result (λ command. is_compact command ≡ false) }
+{
     let id = DocId::new(alloc, DOCUMENTS.get(turn % DOCUMENTS.len())?).ok()?;
     let named = winner(version, &id);
     edit(alloc, id, named)
@@ -110,12 +114,7 @@ fn soaked<J: Opening + Send + Sync, R: Threads + Wait + Sync>(
     alloc: Global,
     opened: Opened,
 ) -> Option<(u64, u64)>
-    requires book { opened.book ≡ J.book }
-    requires base { opened.base ≡ J.base }
-    requires table { opened.queue.table ≡ J.table }
-    requires capacity { opened.queue.capacity ≡ J.capacity }
-    requires sessions { opened.queue.sessions ≡ J.sessions }
-    requires max_places { opened.max_places ≡ J.max_places }
+    requires named { IsNamed J.book J.base J.table J.capacity J.sessions J.config opened }
 {
     let right = AtomicU64::new(0);
     let Ok((master, mut sessions)) = open::<&R, J, NoGate>(rt, opened, NoGate) else {

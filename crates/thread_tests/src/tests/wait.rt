@@ -1,5 +1,5 @@
 //! Waits of a session for an update that does not come.
-ghost use Rattle.std.specs.Prelude.{◌≡◌};
+ghost use Rattle.history_lock.specs.Names.{IsNamed};
 
 use crate::tests::LIMITS;
 use commands::{Config, Limits};
@@ -32,12 +32,7 @@ fn a_wait_lasts_as_long_turn_by_turn(rt: HostRuntime) -> Result<(), Fail> {
 
 /// Has a session wait in vain, at once and turn by turn, and closes the database.
 fn waits_in_vain<J: Opening, R: Wait + Clock + Abort>(rt: &R, opened: Opened) -> Result<(), Fail>
-    requires book { opened.book ≡ J.book }
-    requires base { opened.base ≡ J.base }
-    requires table { opened.queue.table ≡ J.table }
-    requires capacity { opened.queue.capacity ≡ J.capacity }
-    requires sessions { opened.queue.sessions ≡ J.sessions }
-    requires max_places { opened.max_places ≡ J.max_places }
+    requires named { IsNamed J.book J.base J.table J.capacity J.sessions J.config opened }
 {
     let Ok((master, mut sessions)) = open::<&R, J, NoGate>(rt, opened, NoGate) else {
         return Err(Fail::from("open"));

@@ -5,7 +5,7 @@ abbrev pub ghosts-ended-J-Naming : goal.ghosts-ended-J-Naming
 ghosts-ended-J-Naming g a = record { book = a.opened.book; base = a.opened.base }
 
 abbrev pub ghosts-ended-J-Queued : goal.ghosts-ended-J-Queued
-ghosts-ended-J-Queued g a = record { table = a.opened.queue.table; capacity = a.opened.queue.capacity; sessions = a.opened.queue.sessions }
+ghosts-ended-J-Queued g a = record { table = a.opened.table; capacity = a.opened.config.queue; sessions = a.opened.config.sessions }
 
 abbrev pub ghosts-ended-J-Opening : goal.ghosts-ended-J-Opening
-ghosts-ended-J-Opening g a = record { max_places = a.opened.max_places }
+ghosts-ended-J-Opening g a = record { config = a.opened.config }

@@ -5,7 +5,7 @@ abbrev pub ghosts-begun-J-Naming : goal.ghosts-begun-J-Naming
 ghosts-begun-J-Naming g a = record { book = a.opened.book; base = a.opened.base }
 
 abbrev pub ghosts-begun-J-Queued : goal.ghosts-begun-J-Queued
-ghosts-begun-J-Queued g a = record { table = a.opened.queue.table; capacity = a.opened.queue.capacity; sessions = a.opened.queue.sessions }
+ghosts-begun-J-Queued g a = record { table = a.opened.table; capacity = a.opened.config.queue; sessions = a.opened.config.sessions }
 
 abbrev pub ghosts-begun-J-Opening : goal.ghosts-begun-J-Opening
-ghosts-begun-J-Opening g a = record { max_places = a.opened.max_places }
+ghosts-begun-J-Opening g a = record { config = a.opened.config }

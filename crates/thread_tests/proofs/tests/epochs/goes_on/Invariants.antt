@@ -5,7 +5,7 @@ abbrev pub ghosts-last_epoch-J-Naming : goal.ghosts-last_epoch-J-Naming
 ghosts-last_epoch-J-Naming g a = record { book = a.opened.book; base = a.opened.base }
 
 abbrev pub ghosts-last_epoch-J-Queued : goal.ghosts-last_epoch-J-Queued
-ghosts-last_epoch-J-Queued g a = record { table = a.opened.queue.table; capacity = a.opened.queue.capacity; sessions = a.opened.queue.sessions }
+ghosts-last_epoch-J-Queued g a = record { table = a.opened.table; capacity = a.opened.config.queue; sessions = a.opened.config.sessions }
 
 abbrev pub ghosts-last_epoch-J-Opening : goal.ghosts-last_epoch-J-Opening
-ghosts-last_epoch-J-Opening g a = record { max_places = a.opened.max_places }
+ghosts-last_epoch-J-Opening g a = record { config = a.opened.config }

@@ -5,7 +5,7 @@ abbrev pub ghosts-run-J-Naming : goal.ghosts-run-J-Naming
 ghosts-run-J-Naming g a = record { book = a.opened.book; base = a.opened.base }
 
 abbrev pub ghosts-run-J-Queued : goal.ghosts-run-J-Queued
-ghosts-run-J-Queued g a = record { table = a.opened.queue.table; capacity = a.opened.queue.capacity; sessions = a.opened.queue.sessions }
+ghosts-run-J-Queued g a = record { table = a.opened.table; capacity = a.opened.config.queue; sessions = a.opened.config.sessions }
 
 abbrev pub ghosts-run-J-Opening : goal.ghosts-run-J-Opening
-ghosts-run-J-Opening g a = record { max_places = a.opened.max_places }
+ghosts-run-J-Opening g a = record { config = a.opened.config }

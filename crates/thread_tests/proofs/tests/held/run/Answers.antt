@@ -24,4 +24,4 @@ for_each_mut-requires-send-T g c κs within = search (session-send (param 0 g.ro
 pub close-requires : goal.close-requires
 close-requires g c =
     let lent = c.as_mut_slice in
-    record { all = no_more c.in-Ok.sessions.items lent.result.now _ c.in-Ok.sessions.len _ _ c.in-Ok.ensures.sessions c.requires.sessions lent.ensures.value lent.ensures.len }
+    record { all = no_more c.in-Ok.sessions.items lent.result.now _ c.in-Ok.sessions.len _ _ c.in-Ok.ensures.sessions c.requires.named.sessions_is lent.ensures.value lent.ensures.len }

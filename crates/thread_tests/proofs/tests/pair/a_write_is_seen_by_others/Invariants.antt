@@ -5,7 +5,7 @@ abbrev pub ghosts-writes_and_meets-J-Naming : goal.ghosts-writes_and_meets-J-Nam
 ghosts-writes_and_meets-J-Naming g a = record { book = a.opened.book; base = a.opened.base }
 
 abbrev pub ghosts-writes_and_meets-J-Queued : goal.ghosts-writes_and_meets-J-Queued
-ghosts-writes_and_meets-J-Queued g a = record { table = a.opened.queue.table; capacity = a.opened.queue.capacity; sessions = a.opened.queue.sessions }
+ghosts-writes_and_meets-J-Queued g a = record { table = a.opened.table; capacity = a.opened.config.queue; sessions = a.opened.config.sessions }
 
 abbrev pub ghosts-writes_and_meets-J-Opening : goal.ghosts-writes_and_meets-J-Opening
-ghosts-writes_and_meets-J-Opening g a = record { max_places = a.opened.max_places }
+ghosts-writes_and_meets-J-Opening g a = record { config = a.opened.config }

@@ -5,7 +5,7 @@ abbrev pub ghosts-soaked-J-Naming : goal.ghosts-soaked-J-Naming
 ghosts-soaked-J-Naming g a = record { book = a.opened.book; base = a.opened.base }
 
 abbrev pub ghosts-soaked-J-Queued : goal.ghosts-soaked-J-Queued
-ghosts-soaked-J-Queued g a = record { table = a.opened.queue.table; capacity = a.opened.queue.capacity; sessions = a.opened.queue.sessions }
+ghosts-soaked-J-Queued g a = record { table = a.opened.table; capacity = a.opened.config.queue; sessions = a.opened.config.sessions }
 
 abbrev pub ghosts-soaked-J-Opening : goal.ghosts-soaked-J-Opening
-ghosts-soaked-J-Opening g a = record { max_places = a.opened.max_places }
+ghosts-soaked-J-Opening g a = record { config = a.opened.config }
