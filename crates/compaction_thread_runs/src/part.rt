@@ -28,7 +28,9 @@ pub(crate) fn part<X: Wait + Clock, S: Caller<X>>(
         return do_all(rt, alloc, notes, index, session, script.held_acts);
     }
     for (turn, acts) in script.acts.iter().enumerate() {
-        notes.marks.wait_for_held(rt, (turn as u64).saturating_add(1));
+        notes
+            .marks
+            .wait_for_held(rt, (turn as u64).saturating_add(1));
         do_all(rt, alloc, notes, index, session, *acts);
         notes.marks.release();
     }

@@ -24,15 +24,15 @@ module _ (J : RattleType) (q : Queued.Ghosts J.Denot) (o : Opening.Ghosts J.Deno
   boxes-sync = search (told-send, parts) depth 60
 
   module _ (C G : RattleType) where
-    shared-send : IsSend C → IsSend G → IsSend (Shared.the_row C J G q o n)
+    shared-send : IsSend C → IsSend G → IsSend (Shared.the_row C J G o n q)
     shared-send c g = search (boxes-send, parts) depth 60
 
-    shared-sync : IsSend C → IsSync G → IsSync (Shared.the_row C J G q o n)
+    shared-sync : IsSend C → IsSync G → IsSync (Shared.the_row C J G o n q)
     shared-sync c g = search (boxes-sync, parts) depth 60
 
-    over-send : IsSend C → IsSend G → IsSync G → IsSend (Session.the_row C J G q o n)
+    over-send : IsSend C → IsSend G → IsSync G → IsSend (Session.the_row C J G o n q)
     over-send c g h = search (shared-send, shared-sync, parts) depth 60
 
   -- A search finds it soon where J and what follows it are given.
-  pub session-send : (R G : RattleType) → IsSend R → IsSend G → IsSync G → IsSend (Session.the_row (Core.the_row R J n o q) J G q o n)
+  pub session-send : (R G : RattleType) → IsSend R → IsSend G → IsSync G → IsSend (Session.the_row (Core.the_row R J n o q) J G o n q)
   session-send R G r g h = over-send (Core.the_row R J n o q) G (core-send J q o n R r) g h

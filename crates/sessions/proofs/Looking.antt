@@ -1,5 +1,5 @@
 -- Looks one after another, and a call after a look.
-use Rattle.std.proofs.Common.{◌≡◌, ℕ, ◌+◌, Bool, true, false, [], ◌∷◌, ◌++◌, refl, ap, sym, ◌∙◌, subst}
+use Rattle.std.proofs.Common.{◌≡◌, ◌⊎◌, inl, inr, ℕ, ◌+◌, Bool, true, false, [], ◌∷◌, ◌++◌, refl, ap, sym, ◌∙◌, subst}
 use Rattle.std.proofs.lemmas.List.{append-nil}
 use Rattle.std.specs.Prelude.{Result, Ok, Err, Option, Some, None, IfOk, IfErr, IfSome, IfNone, IsErrAnd}
 use Rattle.model.specs.Command.{Command}
@@ -45,6 +45,20 @@ with_calls base a b tried entered lost p = record {
 lost_as : (base : Option Database) (a b : Known) → Looks base a b → b.lost ≡ a.lost
 lost_as base a b p = ap (λ (k : Known). k.lost) p.same
 
+-- a compaction that begins has only looked
+pub begun : (base : Option Database) (a b : Known) → b ≡ record a { tried = 0; entered = false } → IsLegal (base_of base) (seen b) → SeesOwn b → OnlyLooks base a b
+begun base a b is legal own =
+    let tried : b.tried ≡ 0 = ap (λ (k : Known). k.tried) is in
+    subst (λ (k : Known). Looks base k b) (is ∙ (λ i. record a { tried = sym tried i; entered = false })) (looks_self base b legal own)
+
+pub begun_then : (base : Option Database) (a b c : Known) → b ≡ record a { tried = 0; entered = false } → Looks base b c → OnlyLooks base a c
+begun_then base a b c is p =
+    let tried : c.tried ≡ 0 = ap (λ (k : Known). k.tried) p.same ∙ ap (λ (k : Known). k.tried) is in
+    subst (λ (k : Known). Looks base k c) (is ∙ (λ i. record a { tried = sym tried i; entered = false })) p
+
+pub looks_lost : (base : Option Database) (k : Known) → IsLegal (base_of base) (seen k) → SeesOwn k → k.lost ≡ true → Looks base (record k { lost = true }) k
+looks_lost base k legal own lost = record { legal = legal; extends = prefix_self (seen k); own = own; same = λ i. record k { lost = lost i } }
+
 -- a compaction that has not been told of an entry
 pub only_looks : (base : Option Database) (k : Known) → IsLegal (base_of base) (seen k) → SeesOwn k → k.entered ≡ false → OnlyLooks base k k
 only_looks base k legal own none = record { legal = legal; extends = prefix_self (seen k); own = own; same = λ i. record k { entered = none i } }
@@ -54,6 +68,23 @@ only_looks_then base a b c p q =
     let here = with_calls base a b c.tried false b.lost p in
     looks_then base (record a { tried = c.tried; entered = false }) (record b { tried = c.tried; entered = false }) c
     (subst (λ (l : Bool). Looks base (record a { tried = c.tried; entered = false; lost = l }) (record b { tried = c.tried; entered = false })) (lost_as base a b p) here) q
+
+-- a look, and a try that was behind
+pub tried_then : (base : Option Database) (a b c : Known) → Looks base a b → c ≡ record b { tried = b.tried + 1 } → Looks base (record a { tried = a.tried + 1 }) c
+tried_then base a b c p is =
+    let same : b.tried ≡ a.tried = ap (λ (k : Known). k.tried) p.same in
+    let this : record b { tried = a.tried + 1 } ≡ c = (λ i. record b { tried = sym same i + 1 }) ∙ sym is in
+    subst (Looks base (record a { tried = a.tried + 1 })) this (record {
+      legal = p.legal;
+      extends = p.extends;
+      own = p.own;
+      same = ap (λ (k : Known). record k { tried = a.tried + 1 }) p.same;
+    })
+
+pub try_behind : (base : Option Database) (r : Result (Option Told) Fault) (a b c : Known) → Looks base a b → IfOk r (λ found. IfNone found (c ≡ record b { tried = b.tried + 1 })) → IfOk r (λ found. IfNone found (Looks base (record a { tried = a.tried + 1 }) c))
+try_behind base (Ok (Some t)) a b c p is = tt
+try_behind base (Ok None) a b c p is = tried_then base a b c p is
+try_behind base (Err e) a b c p is = tt
 
 -- after a try that was behind, which had only looked before
 pub only_looks_more : (base : Option Database) (a b c : Known) → OnlyLooks base a b → b.entered ≡ false → Looks base (record b { tried = b.tried + 1 }) c → OnlyLooks base a c
@@ -116,6 +147,17 @@ writes_after base a b c command receipt p w =
       same = w'.same;
     }
 
+-- ---- faults of a look
+
+pub refused-leaves : (base : Option Database) (config : Config) (e : Fault) (a b : Known) → (e ≡ fault.Lost) ⊎ (e ≡ fault.EntryRefused) → (e ≡ fault.Lost → ⊥) → OnlyLooks base a b → Leaves base config e a b
+refused-leaves base config e a b (inl lost) known p = absurd (known lost)
+refused-leaves base config e a b (inr refused) known p = subst (λ (f : Fault). Leaves base config f a b) (sym refused) p
+
+-- the fault that is answered
+pub leaves_of : {X : Type 0} (base : Option Database) (config : Config) (r : Result X Fault) (e : Fault) (a b c : Known) → OnlyLooks base a b → IfErr r (λ f. Leaves base config f b c) → r ≡ Err e → Leaves base config e a c
+leaves_of base config (Ok x) e a b c p fault is = absurd (cc)
+leaves_of base config (Err f) e a b c p fault is = let same : f ≡ e = cc in leaves_after base config e a b c p (subst (λ (q : Fault). Leaves base config q b c) same fault)
+
 -- ---- faults of a copy
 
 pub of_copy-leaves : (base : Option Database) (config : Config) (e : Fault) (a b : Known) → IsOfCopy e → OnlyLooks base a b → Leaves base config e a b
@@ -139,6 +181,10 @@ pub try_receipt : (base : Option Database) (r : Result (Option Told) Fault) (a b
 try_receipt base (Ok (Some t)) a b c command p w = writes_then base a b c command t p w
 try_receipt base (Ok None) a b c command p w = tt
 try_receipt base (Err e) a b c command p w = tt
+
+pub receipt_begun : (base : Option Database) (r : Result Told Fault) (a b c : Known) (command : Command) → OnlyLooks base a b → IfOk r (λ t. Writes base b command t c) → IfOk r (λ t. Writes base a command t c)
+receipt_begun base (Ok t) a b c command p w = writes_after base a b c command t p w
+receipt_begun base (Err e) a b c command p w = tt
 
 -- the same after tries
 pub receipt_after : (base : Option Database) (r : Result (Option Told) Fault) (a b c : Known) (command : Command) (t : Told) → OnlyLooks base a b → r ≡ Ok (Some t) → IfOk r (λ found. IfSome found (λ t. Writes base b command t c)) → Writes base a command t c

@@ -40,6 +40,7 @@ impl<R: Wait + Drop, J: Opening, G: Gate + Drop> Session<Core<R, J>, J, G> {
         ensures pushes { self.new.pushes ≡ self.old.pushes }
     {
         if self.lost {
+            let _place = self.place();
             return Err(Fault::Lost);
         }
         self.begin_compaction();

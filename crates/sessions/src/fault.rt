@@ -3,31 +3,31 @@
 use compactor::CopyFault;
 use thiserror::Error;
 
-/// Why a call has no answer. Only after `Lost` is the session of no more use.
+/// Why a call has no answer. Only after `Lost` is the session of no more use. After each other fault it was told of no
+/// entry of the call, and its next receipt shows that there is none.
 #[derive(Clone, Copy, Debug, PartialEq, Eq, Drop, Error)]
 pub enum Fault {
-    /// Memory was refused. The call left no entry.
+    /// Memory was refused.
     #[error("out of memory")]
     Memory,
-    /// The queue was full. The call left no entry, and nothing changed.
+    /// The queue was full.
     #[error("busy")]
     Busy,
     /// What became of a call of this session is not known: it may have left an entry. All later
     /// calls answer this.
     #[error("lost")]
     Lost,
-    /// The history is full. The call left no entry.
+    /// The history is full.
     #[error("the history is full")]
     Full,
     /// A reader, an entry or a share was refused, or a call of this session without a receipt stands in
-    /// the history that was found. The call left no entry; a wait or a compaction may have looked before.
+    /// the history that was found. A wait or a compaction may have looked before.
     #[error("the entry was refused")]
     EntryRefused,
-    /// Others wrote faster than the compaction could catch up, as often as it is tried. It left no
-    /// entry.
+    /// Others wrote faster than the compaction could catch up, each time that it was tried.
     #[error("behind")]
     Behind,
-    /// So much was purged meanwhile that the compaction can't catch up. It left no entry.
+    /// So much was purged meanwhile that the compaction can't catch up.
     #[error("overrun")]
     Overrun,
 }

@@ -83,11 +83,7 @@ impl<R: Wait + Drop, J: Opening> Core<R, J> {
     /// copy is behind or overrun, or memory is refused, all stays as it was.
     ///
     /// All that grows, grows before the entry stands.
-    pub fn swap(
-        &mut self,
-        copy: &mut Compaction,
-        seat: Seat,
-    ) -> Result<Answer<J>, SwapFault>
+    pub fn swap(&mut self, copy: &mut Compaction, seat: Seat) -> Result<Answer<J>, SwapFault>
         requires sliced { copy.old.left ≡ 0 }
         requires follows { Extends (latest_of J.base self.old) copy.old.seen }
         requires next { may_swap J.base self.old seat ≡ true }
