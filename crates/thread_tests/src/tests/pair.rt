@@ -3,10 +3,9 @@ ghost use Rattle.history_lock.specs.Names.{IsNamed};
 
 use crate::tests::{FIRST, LIMITS, answer, put};
 use commands::{Config, Limits};
-use history_lock::{Closed, Opened, open};
+use history_lock::{Closed, Core, NoGate, Opened, Opening, Receipt, Session, open};
 use model::Refusal;
 use revision_id::RevId;
-use sessions::{Receipt, Session};
 use snapshots::Version;
 use std::alloc::Global;
 use std::marker::Brand;
@@ -14,7 +13,6 @@ use std::process::Abort;
 use std::sync::Wait;
 use std::test::*;
 use std::time::Clock;
-use updating::{Core, NoGate, Opening};
 
 /// What a receipt tells of one write.
 #[derive(Debug, Clone, Copy, PartialEq, Eq)]
