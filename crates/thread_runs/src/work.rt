@@ -26,7 +26,8 @@ fn put(alloc: Global, id: &str) -> Option<Command>
         deleted: false,
         body: Arc::new(alloc, Body::empty(alloc)).ok()?,
     };
-    Command::edits(Vec::from_array(alloc, [edit]).ok()?)
+    let command = Command::edits(Vec::from_array(alloc, [edit]).ok()?)?;
+    Some(command)
 }
 
 /// What a write or a compaction is answered.

@@ -54,7 +54,8 @@ fn edit(alloc: Global, id: DocId, named: Option<RevId>) -> Option<Command>
         deleted: false,
         body: Arc::new(alloc, Body::empty(alloc)).ok()?,
     };
-    Command::edits(Vec::from_array(alloc, [edit]).ok()?)
+    let command = Command::edits(Vec::from_array(alloc, [edit]).ok()?)?;
+    Some(command)
 }
 
 /// What a command of one write is answered: its revision, or why it is refused.
