@@ -6,7 +6,7 @@ use crate::copies::written;
 use crate::questions::query;
 use crate::replies::{push_content, push_reply};
 use commands::{Config, Limits};
-use machine::{Completed, Event, Record, run, run_after};
+use machine::{Completed, Event, Machine, Record, run, run_after};
 use queries::Query;
 use snapshots::Version;
 use std::alloc::{AllocError, Global};
@@ -41,6 +41,21 @@ fn happened_after(alloc: Global, version: &Version, events: &[Event]) -> Result<
     }
     let record = run_after(alloc, config()?, version, events)?;
     Ok(record)
+}
+
+/// The same as [`told`], one event after another. An event that is refused memory is told, and happens then.
+pub(crate) fn told_by_steps(alloc: Global, row: &str) -> Result<String, Fail> {
+    let events = events(alloc, row)?;
+    let mut machine = Machine::new(alloc, config()?)?;
+    let mut text = String::new(alloc);
+    for event in &events {
+        if machine.step(event).is_err() {
+            text.push_str("out of memory;")?;
+            machine.step(event)?;
+        }
+    }
+    push_record(&mut text, &machine.into_record())?;
+    Ok(text)
 }
 
 /// Three sessions, of whose jobs four may wait, and no slack.
