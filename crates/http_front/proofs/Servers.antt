@@ -1,65 +1,72 @@
 -- What the sessions of a server come to.
-use Rattle.std.proofs.Common.{◌≡◌, ℕ, ◌<◌, ◌-◌, List, length, map, take, drop, ◌++◌, [], ◌∷◌, Option, None, Some, false, filter, refl, sym, ◌∙◌, ap, subst, arith, slice_index_or, inl}
-use Rattle.std.specs.Prelude.{IfNone, cond}
+use Rattle.std.proofs.Common.{◌≡◌, ℕ, ◌<◌, ◌-◌, List, length, map, take, drop, ◌++◌, [], ◌∷◌, Option, None, Some, sym, refl, ◌∙◌, ap, subst, arith, slice_index_or}
+use Rattle.std.specs.Prelude.{IfNone}
 use Rattle.std.specs.List.{range_with_len}
 use Rattle.std.proofs.lemmas.Option.{none-some}
-use Rattle.std.proofs.lemmas.List.{get_or-map, length-map, take-append-le, take_all}
-use Rattle.std.proofs.lemmas.List.Elements.{All-head, All-map}
+use Rattle.std.proofs.lemmas.List.{take-append-le, take_all}
 use Rattle.std.proofs.lemmas.List.FromFn.{get_or-map-range_with_len, length-map-range_with_len}
-use mathlib.Core.List.{IsPrefix}
-use Rattle.model.specs.Command.{Entry}
 use Rattle.model.specs.Database.{Database}
-use Rattle.model.proofs.ListLaws.{by_cases}
+use Rattle.model.specs.World.{Config}
 use Rattle.serving.specs.Served.{Streams}
 use Rattle.serving.specs.declared.outcome.Ended.{Ended}
-use Rattle.sessions.specs.Known.{Known as KnownOfThreads, SeesOwn, fresh, seen as seen_by}
-use Rattle.sessions.specs.Ends.{is_lost, IsExact}
+use Rattle.sessions.specs.Known.{Known as KnownOfThreads, fresh}
 use Rattle.history_lock.specs.Ending.{Ending, Ends}
-use Rattle.http_handlers.specs.Known.{Known}
 use Rattle.http_handlers.specs.Listening.{ServesAll}
 use Rattle.http_handlers.specs.Connection.{IsConnection}
-use Rattle.http_front.specs.Once.{ServesDatabase, max_places}
-use Rattle.http_front.specs.Server.{ServesSessions, ServesListener, opened_as}
-use Rattle.http_handlers.specs.Sessions.{known_of}
+use Rattle.http_handlers.specs.Sessions.{Goes, known_of as known_of_session}
+use Rattle.http_front.specs.Opening.{GoesBy, known_of}
+use Rattle.http_front.specs.Once.{ServesDatabase, once_turns}
+use Rattle.http_front.specs.Server.{ServesSessions}
 
 -- a reader and a writer
 abbrev pub streams_of : {R W : Type 0} → (R → Option (List ℕ)) → (R → ℕ) → (W → Option (List ℕ)) → (W → ℕ) → R → W → Streams
 streams_of left failed_reads taken failed_writes r w = record { left = left r; failed_reads = failed_reads r; taken = taken w; failed_writes = failed_writes w }
 
--- each session served from what it knew of the opened database on
-abbrev pub ServesEach : Option Database → ℕ → ℕ → List KnownOfThreads → List KnownOfThreads → Type 0
-ServesEach base room connections before after =
-    (i : ℕ) (d : KnownOfThreads) → i < length before → ServesAll connections (known_of base room (slice_index_or before i d)) (known_of base room (slice_index_or after i d))
+-- each session served from its first state on
+abbrev pub ServesEach : Option Database → Config → ℕ → ℕ → ℕ → ℕ → List KnownOfThreads → List KnownOfThreads → Type 0
+ServesEach base config sessions queue turns connections before after =
+    (i : ℕ) (d : KnownOfThreads) → i < length before
+    → ServesAll (Goes base config sessions queue) (known_of_session base config sessions queue) turns connections (slice_index_or before i d) (slice_index_or after i d)
 
-pub serves_sessions : (base : Option Database) (workers connections room : ℕ) (before after : List KnownOfThreads) (closed : Ending) → room ≡ max_places
-    → before ≡ map fresh (range_with_len 0 workers) → length after ≡ length before → ServesEach base room connections before after → Ends base after closed
-    → ServesSessions base workers connections
-serves_sessions base workers connections room before after closed same new long serves ends =
+-- what is said of sessions by the numbers of a name holds of those that the database was opened with
+named : (P : Config → ℕ → ℕ → Type 0) (config told : Config) (sessions queue : ℕ) → told ≡ config → told.sessions ≡ sessions → told.queue ≡ queue → (right : Config) → told ≡ right
+    → P config sessions queue → P right right.sessions right.queue
+named P config told sessions queue config_is sessions_is queue_is right right_is p =
+    subst (λ (c : Config). P c c.sessions c.queue) right_is
+    (subst (λ (q : ℕ). P told told.sessions q) (sym queue_is) (subst (λ (n : ℕ). P told n queue) (sym sessions_is) (subst (λ (c : Config). P c sessions queue) (sym config_is) p)))
+
+serves_sessions : (base : Option Database) (config : Config) (turns connections : ℕ) (before after : List KnownOfThreads) (closed : Ending)
+    → before ≡ map fresh (range_with_len 0 config.sessions) → length after ≡ length before → ServesEach base config config.sessions config.queue turns connections before after → Ends base after closed
+    → ServesSessions base config turns connections
+serves_sessions base config turns connections before after closed new long serves ends =
+    let workers = config.sessions in
     let count : length before ≡ workers = ap length new ∙ length-map-range_with_len fresh 0 workers in
     record {
-      finals = map (known_of base max_places) after;
-      count = length-map after (known_of base max_places) ∙ long ∙ count;
+      finals = after;
+      count = long ∙ count;
       each = λ i d within.
-          let inside : i < length before = omega (arith, count) in
-          let inside_after : i < length after = omega (arith, long, inside) in
-          let from = ap (λ (items : List KnownOfThreads). slice_index_or items i (fresh 0)) new ∙ get_or-map-range_with_len fresh 0 workers i i (fresh 0) within (omega arith) in
-          let to = get_or-map (known_of base max_places) after i (fresh 0) d inside_after in
-          let here = subst (λ (r : ℕ). ServesAll connections (known_of base r (slice_index_or before i (fresh 0))) (known_of base r (slice_index_or after i (fresh 0)))) same (serves i (fresh 0) inside) in
-          let started = subst (λ (k : KnownOfThreads). ServesAll connections (known_of base max_places k) (known_of base max_places (slice_index_or after i (fresh 0)))) from here in
-          subst (ServesAll connections (opened_as base i)) (sym to) started;
-      history = closed.history;
-      legal = ends.legal;
-      one = All-map (λ (k : Known). IsPrefix k.seen closed.history) (known_of base max_places) after ends.extends;
+          let from = ap (λ (items : List KnownOfThreads). slice_index_or items i d) new ∙ get_or-map-range_with_len fresh 0 workers i i d within (omega arith) in
+          subst (λ (k : KnownOfThreads). ServesAll (GoesBy base config) (known_of base config) turns connections k (slice_index_or after i d)) from (serves i d (omega (arith, count, within)));
+      end = closed;
+      ends = ends;
     }
 
 -- the same of sessions that are lent as a slice, and come back as long as they were
-pub serves_closed : (base : Option Database) (workers connections room count len : ℕ) (items lent new : List KnownOfThreads) (closed : Ending) → room ≡ max_places
-    → items ≡ map fresh (range_with_len 0 count) → count ≡ workers → lent ≡ items → length lent ≡ len → length new ≡ length lent
-    → ServesEach base room connections lent new → Ends base (take len (new ++ drop (length new) items)) closed → ServesListener base workers connections 0
-serves_closed base workers connections room count len items lent new closed same opened counted is long kept serves ends =
+pub serves_closed : (base : Option Database) (config : Config) (turns connections len : ℕ) (items lent new : List KnownOfThreads) (closed : Ending)
+    → items ≡ map fresh (range_with_len 0 config.sessions) → lent ≡ items → length lent ≡ len → length new ≡ length lent
+    → ServesEach base config config.sessions config.queue turns connections lent new → Ends base (take len (new ++ drop (length new) items)) closed → ServesSessions base config turns connections
+serves_closed base config turns connections len items lent new closed opened is long kept serves ends =
     let all : take len (new ++ drop (length new) items) ≡ new = take-append-le len new (drop (length new) items) (omega (arith, long, kept)) ∙ take_all len new (omega (arith, long, kept)) in
-    let begun : lent ≡ map fresh (range_with_len 0 workers) = is ∙ opened ∙ ap (λ (n : ℕ). map fresh (range_with_len 0 n)) counted in
-    inl (serves_sessions base workers connections room lent new closed same begun kept serves (subst (λ (after : List KnownOfThreads). Ends base after closed) all ends), refl)
+    serves_sessions base config turns connections lent new closed (is ∙ opened) kept serves (subst (λ (after : List KnownOfThreads). Ends base after closed) all ends)
+
+-- the same where a name tells the numbers
+pub serves_named : (base : Option Database) (config told : Config) (sessions queue turns connections len : ℕ) (items lent new : List KnownOfThreads) (closed : Ending)
+    → told ≡ config → told.sessions ≡ sessions → told.queue ≡ queue → (right : Config) → told ≡ right
+    → items ≡ map fresh (range_with_len 0 told.sessions) → lent ≡ items → length lent ≡ len → length new ≡ length lent
+    → ServesEach base config sessions queue turns connections lent new → Ends base (take len (new ++ drop (length new) items)) closed → ServesSessions base right turns connections
+serves_named base config told sessions queue turns connections len items lent new closed config_is sessions_is queue_is right right_is opened is long kept serves ends =
+    serves_closed base right turns connections len items lent new closed (opened ∙ ap (λ (c : Config). map fresh (range_with_len 0 c.sessions)) right_is) is long kept
+    (named (λ c n q. ServesEach base c n q turns connections lent new) config told sessions queue config_is sessions_is queue_is right right_is serves) ends
 
 -- the first of the sessions of a database with one
 first_fresh : (items : List KnownOfThreads) (count : ℕ) (d : KnownOfThreads) → items ≡ map fresh (range_with_len 0 count) → count ≡ 1 → d ≡ slice_index_or items 0 d → d ≡ fresh 0
@@ -88,27 +95,17 @@ none_left items popped count len opened one long rest =
     let at : len - 1 ≡ 0 = omega (arith, is_one) in
     rest ∙ ap (λ (n : ℕ). take n items) at ∙ take_none items
 
--- where no session is named lost, this one isn't
-not_lost : (h : List Entry) (k : KnownOfThreads) → map (λ (q : KnownOfThreads). q.number) (filter (is_lost h) (k ∷ [])) ≡ [] → is_lost h k ≡ false
-not_lost h k none =
-    by_cases (is_lost h k)
-    (λ yes.
-    let named : k.number ∷ [] ≡ [] = ap (λ b. map (λ (q : KnownOfThreads). q.number) (cond b (k ∷ []) [])) (sym yes) ∙ none in
-    absurd (cc))
-    (λ no. no)
-
 -- the only session served a connection, and was closed
-pub serves_database : (base : Option Database) (before after : Streams) (room : ℕ) (old new : KnownOfThreads) (sessions : List KnownOfThreads) (ended : Ended) (closed : Ending) → room ≡ max_places → old ≡ fresh 0
-    → IsConnection before after (known_of base room old) (known_of base room new) ended → SeesOwn new → sessions ≡ new ∷ [] → Ends base sessions closed → ServesDatabase base before after ended closed
-serves_database base before after room old new sessions ended closed same first connection owns one ends =
-    let here = subst (λ (r : ℕ). IsConnection before after (known_of base r old) (known_of base r new) ended) same connection in
-    let all : Ends base (new ∷ []) closed = subst (λ (ks : List KnownOfThreads). Ends base ks closed) one ends in
+pub serves_database : (base : Option Database) (config told : Config) (sessions queue : ℕ) (before after : Streams) (old new : KnownOfThreads) (closing : List KnownOfThreads) (ended : Ended) (closed : Ending)
+    → told ≡ config → told.sessions ≡ sessions → told.queue ≡ queue → (right : Config) → told ≡ right → old ≡ fresh 0
+    → IsConnection (Goes base config sessions queue) (known_of_session base config sessions queue) once_turns before after old new ended → closing ≡ new ∷ [] → Ends base closing closed
+    → ServesDatabase base right before after ended closed
+serves_database base config told sessions queue before after old new closing ended closed config_is sessions_is queue_is right right_is first connection one ends =
+    let here = named (λ c n q. IsConnection (Goes base c n q) (known_of_session base c n q) once_turns before after old new ended) config told sessions queue config_is sessions_is queue_is right right_is connection in
     record {
-      final = known_of base max_places new;
-      connection = subst (λ (k : KnownOfThreads). IsConnection before after (known_of base max_places k) (known_of base max_places new) ended) first here;
-      legal = all.legal;
-      extends = All-head (λ (k : KnownOfThreads). IsPrefix (seen_by k) closed.history) new [] all.extends;
-      own = λ none. All-head (IsExact closed.history) new [] all.exact (not_lost closed.history new (sym all.lost ∙ none)) ∙ sym owns;
+      final = new;
+      connection = subst (λ (k : KnownOfThreads). IsConnection (GoesBy base right) (known_of base right) once_turns before after k new ended) first here;
+      ends = subst (λ (ks : List KnownOfThreads). Ends base ks closed) one ends;
     }
 
 -- what holds where there is nothing

@@ -1,3 +1,4 @@
+pub mod Opening
 pub mod Once
 pub mod Dumping
 pub mod Server

@@ -1,27 +1,34 @@
 -- A run of a program that serves the connections of a listener.
-use Rattle.std.specs.Prelude.{◌≡◌, ℕ, ◌⊎◌, ◌<◌, List, length, All, slice_index_or, Option}
-use mathlib.Core.List.{IsPrefix}
-use Rattle.model.specs.Command.{Entry}
+use Rattle.std.specs.Prelude.{◌≡◌, ℕ, ◌<◌, Bool, true, false, List, length, slice_index_or, Option}
 use Rattle.model.specs.Database.{Database}
-use Rattle.model.specs.History.{IsLegal, base_of}
-use Rattle.http_handlers.specs.Known.{Known, opened}
+use Rattle.model.specs.World.{Config}
+use Rattle.history_lock.specs.Ending.{Ending, Ends}
+use Rattle.sessions.specs.Known.{Known as KnownOfThreads, fresh}
 use Rattle.http_handlers.specs.Listening.{ServesAll}
-use Rattle.http_front.specs.Once.{max_places}
+use Rattle.http_front.specs.Opening.{GoesBy, known_of, program_config}
 
--- what the session of this number knows of a database that was just opened over this base
-abbrev pub opened_as : Option Database → ℕ → Known
-opened_as base number = record (opened base max_places) { number = number }
+-- how often a wait for changes looks
+unfoldable pub server_turns : ℕ
+server_turns = 100000
 
--- Each session of a database that was opened over this base served connections, and one legal history extends what each of
--- them has seen.
-pub record ServesSessions (base : Option Database) (workers connections : ℕ) : Type 0 where
-  pub finals : List Known
-  pub count : length finals ≡ workers
-  pub each : (i : ℕ) (d : Known) → i < workers → ServesAll connections (opened_as base i) (slice_index_or finals i d)
-  pub history : List Entry
-  pub legal : IsLegal (base_of base) history
-  pub one : All (λ (k : Known). IsPrefix k.seen history) finals
+-- Each session of a database that was opened over this base with these numbers served connections, and the database was
+-- closed: its last history is legal, goes on from what each of them has seen, and has exactly the entries with a receipt of
+-- each that is not lost.
+pub record ServesSessions (base : Option Database) (config : Config) (turns connections : ℕ) : Type 0 where
+  pub finals : List KnownOfThreads
+  pub count : length finals ≡ config.sessions
+  pub each : (i : ℕ) (d : KnownOfThreads) → i < config.sessions
+      → ServesAll (GoesBy base config) (known_of base config) turns connections (fresh i) (slice_index_or finals i d)
+  pub end : Ending
+  pub ends : Ends base finals end
 
--- so it was and the status is 0, or it is 1, as where no database was opened
-abbrev pub ServesListener : Option Database → ℕ → ℕ → ℕ → Type 0
-ServesListener base workers connections status = (ServesSessions base workers connections × (status ≡ 0)) ⊎ (status ≡ 1)
+-- the exit status of a server that served, or whose database was not opened, since it, its routes or a reader was refused
+abbrev pub server_status : Bool → ℕ
+server_status true = 0
+server_status false = 1
+
+-- the status tells whether the sessions served
+pub record ServesListener (base : Option Database) (workers connections status : ℕ) : Type 0 where
+  pub served : Bool
+  pub tells : status ≡ server_status served
+  pub sessions : served ≡ true → ServesSessions base (program_config workers) server_turns connections

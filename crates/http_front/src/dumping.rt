@@ -1,7 +1,8 @@
 //! What the program does with its standard streams where the history is asked for.
 ghost use Rattle.std.specs.Prelude.{◌≡◌, None};
 ghost use Rattle.serving.specs.Served.{Streams};
-ghost use Rattle.http_front.specs.Once.{max_places};
+ghost use Rattle.history_lock.specs.Names.{IsNamed};
+ghost use Rattle.http_front.specs.Opening.{program_config};
 ghost use Rattle.http_front.specs.Dumping.{DumpsOnce, WritesDump};
 
 use crate::nowhere::Nowhere;
@@ -56,14 +57,8 @@ fn dump_opened<J: Opening, T: Wait + Drop, R: Source, W: Sink, A: AllocGlobal + 
     writer_rt: T,
     opened: Opened,
 ) -> u8
-    requires book { opened.book ≡ J.book }
-    requires base { opened.base ≡ J.base }
-    requires table { opened.queue.table ≡ J.table }
-    requires capacity { opened.queue.capacity ≡ J.capacity }
-    requires sessions { opened.queue.sessions ≡ J.sessions }
-    requires max_places { opened.max_places ≡ J.max_places }
-    requires one { opened.queue.sessions ≡ 1 }
-    requires room { opened.max_places ≡ max_places }
+    requires named { IsNamed J.book J.base J.table J.capacity J.sessions J.config opened }
+    requires config { opened.config ≡ program_config 1 }
     ensures { DumpsOnce J.base
         (record {
           left = R.left reader.old;

@@ -2,7 +2,9 @@
 ghost use Rattle.std.specs.Prelude.{◌≡◌, [], ◌∷◌, IfSome, IfNone, None};
 ghost use Rattle.serving.specs.Served.{Streams};
 ghost use Rattle.sessions.specs.Known.{fresh};
-ghost use Rattle.http_front.specs.Once.{ServesDatabase, ServesOnce, exit_status, max_places};
+ghost use Rattle.history_lock.specs.Names.{IsNamed};
+ghost use Rattle.http_front.specs.Once.{ServesDatabase, ServesOnce, exit_status};
+ghost use Rattle.http_front.specs.Opening.{program_config};
 
 use crate::opening::{NOT_OPENED, config};
 use history_lock::{Closed, Opened, open};
@@ -64,14 +66,8 @@ fn once_opened<J: Opening, T: Wait + Drop, R: Source, W: Sink, A: AllocGlobal + 
     writer_rt: T,
     opened: Opened,
 ) -> u8
-    requires book { opened.book ≡ J.book }
-    requires base { opened.base ≡ J.base }
-    requires table { opened.queue.table ≡ J.table }
-    requires capacity { opened.queue.capacity ≡ J.capacity }
-    requires sessions { opened.queue.sessions ≡ J.sessions }
-    requires max_places { opened.max_places ≡ J.max_places }
-    requires one { opened.queue.sessions ≡ 1 }
-    requires room { opened.max_places ≡ max_places }
+    requires named { IsNamed J.book J.base J.table J.capacity J.sessions J.config opened }
+    requires config { opened.config ≡ program_config 1 }
     ensures { ServesOnce J.base
         (record {
           left = R.left reader.old;
@@ -111,15 +107,9 @@ pub(crate) fn serve_opened<
     writer_rt: T,
     opened: Opened,
 ) -> Option<(Ended, Closed<J>)>
-    requires book { opened.book ≡ J.book }
-    requires base { opened.base ≡ J.base }
-    requires table { opened.queue.table ≡ J.table }
-    requires capacity { opened.queue.capacity ≡ J.capacity }
-    requires sessions { opened.queue.sessions ≡ J.sessions }
-    requires max_places { opened.max_places ≡ J.max_places }
-    requires one { opened.queue.sessions ≡ 1 }
-    requires room { opened.max_places ≡ max_places }
-    ensures served { IfSome result (λ served. ServesDatabase J.base
+    requires named { IsNamed J.book J.base J.table J.capacity J.sessions J.config opened }
+    requires config { opened.config ≡ program_config 1 }
+    ensures served { IfSome result (λ served. ServesDatabase J.base (program_config 1)
         (record {
           left = R.left reader.old;
           failed_reads = R.failed_reads reader.old;

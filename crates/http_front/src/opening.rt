@@ -1,6 +1,6 @@
 //! How a program opens a database.
 ghost use Rattle.std.specs.Prelude.{◌≡◌, ◌≤◌};
-ghost use Rattle.http_front.specs.Once.{max_places};
+ghost use Rattle.http_front.specs.Opening.{program_config};
 
 use commands::{Config, Limits};
 
@@ -10,8 +10,7 @@ pub(crate) const NOT_OPENED: u8 = 1;
 /// A database of so many sessions.
 pub(crate) fn config(sessions: u16) -> Config
     requires { (1 ≤ sessions) × (sessions ≤ 64) }
-    ensures sessions { result.sessions ≡ sessions }
-    ensures room { result.max_places ≡ max_places }
+    ensures { result ≡ program_config sessions }
 {
     let Some(config) = Config::new(Limits {
         sessions,

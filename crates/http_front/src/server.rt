@@ -1,7 +1,8 @@
 //! What the program does with a listener.
-ghost use Rattle.std.specs.Prelude.{◌≡◌, ◌≤◌, None};
-ghost use Rattle.http_front.specs.Once.{max_places};
-ghost use Rattle.http_front.specs.Server.{ServesListener};
+ghost use Rattle.std.specs.Prelude.{◌≡◌, ◌≤◌, IsTrue, None};
+ghost use Rattle.history_lock.specs.Names.{IsNamed};
+ghost use Rattle.http_front.specs.Opening.{program_config};
+ghost use Rattle.http_front.specs.Server.{ServesListener, ServesSessions, server_status, server_turns};
 
 use crate::opening::{NOT_OPENED, config};
 use history_lock::{Opened, open};
@@ -33,12 +34,22 @@ pub fn run_server<A: AllocGlobal + Threads + Wait + Clock + Sync>(
     ensures { ServesListener None workers connections result }
 {
     let Ok(opened) = Opened::new(rt.alloc(), config(workers)) else {
-        return NOT_OPENED;
+        return server_status(false);
     };
-    serve_opened::<Brand, &A, A>(listener, workers, connections, rt, rt, opened)
+    let served = serve_opened::<Brand, &A, A>(listener, workers, connections, rt, rt, opened);
+    server_status(served)
 }
 
-/// Serves a database of so many sessions, whose writer keeps a runtime of its own.
+/// The exit status of a server that served, or whose database was not opened.
+fn server_status(served: bool) -> u8
+    ensures { result ≡ server_status served }
+{
+    if served { SERVED } else { NOT_OPENED }
+}
+
+/// Serves a database of so many sessions, whose writer keeps a runtime of its own, and answers whether
+/// it was opened.
+#[tactic(auto, unfolding(crate::specs::Server::server_turns))]
 fn serve_opened<
     J: Opening + Send + Sync,
     R: Wait + Drop + Send,
@@ -50,24 +61,18 @@ fn serve_opened<
     rt: &A,
     writer_rt: R,
     opened: Opened,
-) -> u8
-    requires book { opened.book ≡ J.book }
-    requires base { opened.base ≡ J.base }
-    requires table { opened.queue.table ≡ J.table }
-    requires capacity { opened.queue.capacity ≡ J.capacity }
-    requires sessions { opened.queue.sessions ≡ J.sessions }
-    requires max_places { opened.max_places ≡ J.max_places }
-    requires workers { opened.queue.sessions ≡ workers }
-    requires room { opened.max_places ≡ max_places }
-    ensures { ServesListener J.base workers connections result }
+) -> bool
+    requires named { IsNamed J.book J.base J.table J.capacity J.sessions J.config opened }
+    requires config { opened.config ≡ program_config workers }
+    ensures { IsTrue result → ServesSessions J.base (program_config workers) server_turns connections }
 {
     let Ok((master, mut sessions)) = open::<R, J, NoGate>(writer_rt, opened, NoGate) else {
-        return NOT_OPENED;
+        return false;
     };
     let Ok(setting) = Setting::new(rt.alloc(), rt, TURNS) else {
-        return NOT_OPENED;
+        return false;
     };
     listen(rt, listener, sessions.as_mut_slice(), connections, &setting);
     let _closed = master.close(sessions, rt);
-    SERVED
+    true
 }

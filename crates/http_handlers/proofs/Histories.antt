@@ -1,19 +1,16 @@
 -- Histories, as sessions see them.
-use Rattle.std.proofs.Common.{◌≡◌, ℕ, zero, suc, ◌-◌, ◌≤◌, false, nat_lt, List, [], ◌∷◌, ◌++◌, length, map, slice_get, Some, refl, ap, sym, ◌∙◌, subst, arith, append_assoc, length-append}
-use Rattle.std.proofs.lemmas.Bool.Decides.{nat_tests}
+use Rattle.std.proofs.Common.{◌≡◌, ℕ, zero, suc, ◌-◌, ◌≤◌, List, [], ◌∷◌, ◌++◌, length, slice_get, Some, refl, ap, sym, ◌∙◌, subst, arith, append_assoc, length-append}
 use Rattle.std.proofs.lemmas.Option.{none-some, same_Some}
 use Rattle.std.proofs.lemmas.List.{append-nil, take_all, take-append-le}
 use Rattle.std.proofs.lemmas.List.Elements.{filter-append}
 use Rattle.model.specs.Map.{same_key}
-use Rattle.model.specs.Command.{Entry, Id, numbers}
-use Rattle.model.specs.declared.style.Style.{Style}
-use Rattle.model.specs.Changes.{row}
-use Rattle.model.specs.Database.{Database, Record, act, reply_to}
+use Rattle.model.specs.Command.{Entry, numbers}
+use Rattle.model.specs.Database.{Database, act, reply_to}
 use Rattle.model.specs.History.{IsLegal, now, of_session, replay, base_of}
 use Rattle.model.specs.Told.{NoneFalls}
 use Rattle.model.proofs.TellLaws.{Tells-within}
 use Rattle.snapshots.specs.Version.{entry_at}
-use Rattle.http_handlers.specs.Known.{Known, HasEntryAt, database_at, history_of, sees_more}
+use Rattle.http_handlers.specs.Known.{Known, HasEntryAt, database_at, history_of, sees_more, with_calls}
 use Rattle.http_handlers.specs.Calls.{Looks}
 
 pub of_session-append : (session : ℕ) (xs ys : List Entry) → of_session session (xs ++ ys) ≡ of_session session xs ++ of_session session ys
@@ -62,6 +59,15 @@ looks_then a b c p q =
       none = of_session-append a.number p.more q.more ∙ ap (λ (es : List Entry). es ++ of_session a.number q.more) p.none ∙ ap (λ (n : ℕ). of_session n q.more) (sym number) ∙ q.none;
     }
 
+-- a look, where calls and a loss are told apart
+pub looks_only : (old new : Known) → Looks old new → Looks (with_calls old new.pushes new.lost) new
+looks_only old new looks = record {
+  legal = looks.legal;
+  more = looks.more;
+  extends = looks.extends ∙ (λ i. with_calls (sees_more old looks.more) (ap (λ (k : Known). k.pushes) (sym looks.extends) i) (ap (λ (k : Known). k.lost) (sym looks.extends) i));
+  none = looks.none;
+}
+
 -- ---- the database at a place
 
 -- what was seen is what is seen at its place
@@ -78,11 +84,3 @@ database-append old new looks place within = database-more old looks.more place 
 -- what was seen before, too
 pub database_before : (old new : Known) → Looks old new → now (history_of old) ≡ database_at new (length old.seen)
 database_before old new looks = database_seen old ∙ database-append old new looks (length old.seen) (omega arith)
-
-pub no_more : (n : ℕ) → nat_lt 0 n ≡ false → n ≡ 0
-no_more n none = grind (arith, nat_tests)
-
--- where no document changed there are no rows
-pub no_rows : (style : Style) (changed : List (ℕ × (Id × Record))) → length changed ≡ 0 → map (row style) changed ≡ []
-no_rows style [] none = refl
-no_rows style (e ∷ changed) none = absurd (omega (arith, none))

@@ -1,4 +1,6 @@
 pub mod Histories
+pub mod Doing
+pub mod Waits
 pub mod Texts
 pub mod Turns
 pub mod Told

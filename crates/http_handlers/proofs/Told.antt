@@ -1,6 +1,6 @@
 -- Turns of a session are told by the history at their end.
-use Rattle.std.proofs.Common.{◌≡◌, ℕ, ◌≤◌, List, [], ◌∷◌, ◌++◌, length, take, Option, None, Some, inl, inr, refl, ap, sym, ◌∙◌, subst, arith, append_assoc, length-append}
-use Rattle.std.specs.Prelude.{IfSome}
+use Rattle.std.proofs.Common.{◌≡◌, ℕ, ◌≤◌, List, [], ◌∷◌, ◌++◌, length, take, Bool, true, Some, inl, inr, refl, ap, sym, ◌∙◌, subst, arith, append_assoc, length-append}
+use Rattle.std.specs.Prelude.{IsTrue}
 use Rattle.std.specs.List.{FoldsTo, AllZip}
 use Rattle.std.proofs.lemmas.List.{append-nil}
 use Rattle.model.specs.Command.{Entry}
@@ -10,16 +10,18 @@ use Rattle.model.specs.History.{IsLegal, of_session, base_of}
 use Rattle.model.specs.World.{WroteAt, Asked as AskedAt}
 use Rattle.model.specs.Told.{NoneFalls}
 use Rattle.model.proofs.TellLaws.{Tells-append}
+use Rattle.http_framing.specs.Input.{closes_connection}
 use Rattle.serving.specs.Turn.{Turn, all_turns}
 use Rattle.serving.specs.Served.{Streams, Served}
 use Rattle.serving.specs.declared.outcome.Ended.{Ended}
-use Rattle.http_handlers.specs.Known.{Known, database_at, sees_more}
+use Rattle.http_handlers.specs.Deeds.{Deed}
+use Rattle.http_handlers.specs.Known.{Known, database_at, sees_more, with_calls}
 use Rattle.http_handlers.specs.Changes.{MayWait, changes_query}
 use Rattle.http_handlers.specs.Outcome.{Outcome, Fixed, Wrote, WroteUntold, Read, Fed, Memory, Failed, Placed, AsksQuery, IsToldAt, IsWritten, IsRead, IsFed, TellsAt, places_spoken, written}
-use Rattle.http_handlers.specs.Feed.{Piece, Ending, GivesPiece, EndsFeed, feed_start}
+use Rattle.http_handlers.specs.Feed.{Piece, Ending, LastLine, LookRefused, RowsRefused, WriteFailed, GivesPiece, EndsBy, feed_start}
 use Rattle.http_handlers.specs.declared.progress.Progress.{Progress}
 use Rattle.http_handlers.specs.Answers.{Answers}
-use Rattle.http_handlers.specs.Connection.{IsConnection, SeesInTurn, all_places, entries_written}
+use Rattle.http_handlers.specs.Connection.{IsConnection, GoesInTurn, all_places, entries_written}
 use Rattle.http_handlers.proofs.Histories.{of_session-append, falls_on, database-more}
 
 module _ (k : Known) (more : List Entry) where
@@ -58,18 +60,17 @@ module _ (k : Known) (more : List Entry) where
   runs-append [] before after runs = runs
   runs-append (p ∷ ps) before after runs = (runs.0, gives-append before p runs.0 runs.1, runs-append ps runs.0 after runs.2)
 
-  pub ends-append : (after : Progress) (ending : Ending) → EndsFeed k after ending → EndsFeed (sees_more k more) after ending
-  ends-append after ending ends = record {
+  pub ends-append : (after : Progress) (ending : Ending) → EndsBy k after ending → EndsBy (sees_more k more) after ending
+  ends-append after (LastLine place pending) ends = record {
     within = omega (arith, ends.within, length-append k.seen more);
-    counted = ends.counted ∙ ap (λ (d : Database). length (rows_since (wanted_by after.follower.ids) d after.follower.cursor after.follower.style)) (database-more k more ending.place ends.within);
+    counted = ends.counted ∙ ap (λ (d : Database). length (rows_since (wanted_by after.follower.ids) d after.follower.cursor after.follower.style)) (database-more k more place ends.within);
     all = ends.all;
   }
+  ends-append after (LookRefused why) ends = tt
+  ends-append after RowsRefused ends = tt
+  ends-append after WriteFailed ends = tt
 
-  ends-if : (after : Progress) (ending : Option Ending) → IfSome ending (EndsFeed k after) → IfSome ending (EndsFeed (sees_more k more) after)
-  ends-if after None ends = tt
-  ends-if after (Some ending) ends = ends-append after ending ends
-
-  fed-append : {item : _} {place : ℕ} {pieces : List Piece} {ending : Option Ending} {text : List ℕ} → IsFed k item place pieces ending text → IsFed (sees_more k more) item place pieces ending text
+  fed-append : {item : _} {place : ℕ} {pieces : List Piece} {ending : Ending} {text : List ℕ} → IsFed k item place pieces ending text → IsFed (sees_more k more) item place pieces ending text
   fed-append {place = place} {pieces = pieces} {ending = ending} f = record {
     changes = f.changes;
     asked = f.asked;
@@ -77,7 +78,7 @@ module _ (k : Known) (more : List Entry) where
     within = omega (arith, f.within, length-append k.seen more);
     after = f.after;
     runs = subst (λ (d : Database). FoldsTo (GivesPiece (sees_more k more)) (feed_start d f.changes) pieces f.after) (database-more k more place f.within) (runs-append pieces (feed_start (database_at k place) f.changes) f.after f.runs);
-    ends = ends-if f.after ending f.ends;
+    ends = ends-append f.after ending f.ends;
     said = f.said;
   }
 
@@ -86,92 +87,161 @@ module _ (k : Known) (more : List Entry) where
   TellsAt-append turn low place (Wrote form entry) last n t = (written-append t.0, t.1, t.2)
   TellsAt-append turn low place (WroteUntold form entry) last n t = (written-append t.0, t.1, t.2)
   TellsAt-append turn low place (Read first query answer) last n t = (read-append n.1.0 t.0, t.1, t.2)
-  TellsAt-append turn low place (Fed pieces ending) last n t = (fed-append t.0, t.1)
+  TellsAt-append turn low place (Fed pieces ending) last n t = (fed-append t.0, t.1, t.2)
   TellsAt-append turn low place Memory last n t = t
-  TellsAt-append turn low place (Failed why) last n t =
-      (record { asking = t.0.asking; asked = t.0.asked; fails = t.0.fails; full = t.0.full }, t.1, t.2)
+  TellsAt-append turn low place (Failed why) last n t = t
 
--- what is told of turns by what is known at their end
-pub record AreTold (old : Known) (turns : List Turn) (final : Known) : Type 0 where
-  pub outcomes : List Placed
-  pub more : List Entry
-  pub told : AllZip (IsToldAt final) turns outcomes
-  pub extends : final ≡ sees_more old more
-  pub entries : of_session old.number more ≡ entries_written outcomes
-  pub sees : SeesInTurn old.number old.seen outcomes final.seen
-  pub places : NoneFalls (length old.seen) (all_places outcomes ++ length final.seen ∷ [])
+-- calls and a loss tell nothing of a feed
+pub runs-calls : (k : Known) (pushes : ℕ) (lost : Bool) (pieces : List Piece) (before after : Progress) → FoldsTo (GivesPiece k) before pieces after → FoldsTo (GivesPiece (with_calls k pushes lost)) before pieces after
+runs-calls k pushes lost [] before after runs = runs
+runs-calls k pushes lost (p ∷ ps) before after runs =
+    let gives = runs.1 in
+    (runs.0, record { within = gives.within; count = gives.count; rows = gives.rows; follower = gives.follower; left = gives.left }, runs-calls k pushes lost ps runs.0 after runs.2)
 
-pub are_told : (old : Known) (turns : List Turn) (final : Known) → FoldsTo Answers old turns final → AreTold old turns final
-are_told old [] final same = record {
-  outcomes = [];
-  more = [];
-  told = tt;
-  extends = sym same ∙ (λ i. record old { seen = sym (append-nil old.seen) i });
-  entries = refl;
-  sees = sym (ap (λ (k : Known). k.seen) same);
-  places = (omega (arith, ap (λ (k : Known). length k.seen) same), tt);
-}
-are_told old (turn ∷ turns) final (new, answers, runs) =
-    let rest = are_told new turns final runs in
-    let placed = answers.placed in
-    let sees = answers.sees in
-    let spoken = places_spoken placed.place placed.outcome in
-    let is : new ≡ record old { seen = placed.seen } = answers.new_is in
-    let number : new.number ≡ old.number = ap (λ (k : Known). k.number) is in
-    let seen : new.seen ≡ placed.seen = ap (λ (k : Known). k.seen) is in
-    record {
-      outcomes = placed ∷ rest.outcomes;
-      more = sees.more ++ rest.more;
-      told = (subst (λ (k : Known). IsToldAt k turn placed) (sym rest.extends) (TellsAt-append new rest.more turn (length old.seen) placed.place placed.outcome (length placed.seen ∷ []) sees.places answers.told), rest.told);
-      extends = rest.extends ∙ ap (λ (k : Known). sees_more k rest.more) is ∙ (λ i. record old { seen = (ap (λ (es : List Entry). es ++ rest.more) sees.extends ∙ append_assoc old.seen sees.more rest.more) i });
-      entries = of_session-append old.number sees.more rest.more ∙ ap (λ (es : List Entry). es ++ of_session old.number rest.more) sees.entries ∙ ap (λ (n : ℕ). written placed.outcome ++ of_session n rest.more) (sym number) ∙ ap (λ (es : List Entry). written placed.outcome ++ es) rest.entries;
-      sees = (sees, subst (λ (es : List Entry). SeesInTurn old.number es rest.outcomes final.seen) seen (subst (λ (n : ℕ). SeesInTurn n new.seen rest.outcomes final.seen) number rest.sees));
-      places =
-          let later = subst (λ (es : List Entry). NoneFalls (length es) (all_places rest.outcomes ++ length final.seen ∷ [])) seen rest.places in
-          subst (NoneFalls (length old.seen)) (sym (append_assoc spoken (all_places rest.outcomes) (length final.seen ∷ [])))
-          (falls_on (length old.seen) (length placed.seen) spoken _ sees.places later);
-    }
+ends-calls : (k : Known) (pushes : ℕ) (lost : Bool) (after : Progress) (ending : Ending) → EndsBy k after ending → EndsBy (with_calls k pushes lost) after ending
+ends-calls k pushes lost after (LastLine place pending) ends = record { within = ends.within; counted = ends.counted; all = ends.all }
+ends-calls k pushes lost after (LookRefused why) ends = tt
+ends-calls k pushes lost after RowsRefused ends = tt
+ends-calls k pushes lost after WriteFailed ends = tt
 
--- ---- a session that is lent
+-- calls and a loss tell nothing of a turn
+TellsAt-calls : (k : Known) (pushes : ℕ) (lost : Bool) (turn : Turn) (place : ℕ) (outcome : Outcome) → TellsAt k turn place outcome → TellsAt (with_calls k pushes lost) turn place outcome
+TellsAt-calls k pushes lost turn place Fixed t = t
+TellsAt-calls k pushes lost turn place (Wrote form entry) t = (record { asked = t.0.asked; own = t.0.own; told = t.0.told }, t.1, t.2)
+TellsAt-calls k pushes lost turn place (WroteUntold form entry) t = (record { asked = t.0.asked; own = t.0.own; told = t.0.told }, t.1, t.2)
+TellsAt-calls k pushes lost turn place (Read first query answer) t = (record { asked = asks-calls t.0.asked; told = t.0.told }, t.1, t.2)
+  where
+    asks-calls : AsksQuery k turn.item first place query → AsksQuery (with_calls k pushes lost) turn.item first place query
+    asks-calls (inl asks) = inl asks
+    asks-calls (inr asks) = inr (record { changes = asks.changes; asked = asks.asked; waits = asks.waits; query_is = asks.query_is })
+TellsAt-calls k pushes lost turn place (Fed pieces ending) t = (record { changes = t.0.changes; asked = t.0.asked; goes_on = t.0.goes_on; within = t.0.within; after = t.0.after; runs = runs-calls k pushes lost pieces _ t.0.after t.0.runs; ends = ends-calls k pushes lost t.0.after ending t.0.ends; said = t.0.said }, t.1, t.2)
+TellsAt-calls k pushes lost turn place Memory t = t
+TellsAt-calls k pushes lost turn place (Failed why) t = t
 
-module _ {T N : Type 0} (known : T → Known) (name : T → N) where
-  -- by each turn it stays the same session, and comes from what it knew to what it knows
-  abbrev pub AnswersLent : T → Turn → T → Type 0
-  AnswersLent old turn new = Answers (known old) turn (known new) × (name new ≡ name old)
+-- a turn is told by what is known later, of calls and of a loss too
+told-later : (k : Known) (more : List Entry) (final : Known) → final ≡ with_calls (sees_more k more) final.pushes final.lost → (turn : Turn) (placed : Placed) (low : ℕ) (last : List ℕ)
+    → NoneFalls low (places_spoken placed.place placed.outcome ++ last) → IsToldAt k turn placed → IsToldAt final turn placed
+told-later k more final is turn placed low last falls told =
+    subst (λ (q : Known). IsToldAt q turn placed) (sym is)
+    (TellsAt-calls (sees_more k more) final.pushes final.lost turn placed.place placed.outcome (TellsAt-append k more turn low placed.place placed.outcome last falls told))
 
-  pub all_known : (old : T) (turns : List Turn) (final : T) → FoldsTo AnswersLent old turns final → FoldsTo Answers (known old) turns (known final)
-  all_known old [] final same = ap known same
-  all_known old (turn ∷ turns) final (new, answers, runs) = (known new, answers.0, all_known new turns final runs)
+-- a turn in which nothing is told of a write that failed has the same outcome, whole or not
+pub whole-or-not : (k : Known) (turn : Turn) (place : ℕ) (outcome : Outcome) (whole : Bool) → turn.whole ≡ true → TellsAt k turn place outcome → TellsAt k (record turn { whole = whole }) place outcome
+whole-or-not k turn place Fixed whole is t = t
+whole-or-not k turn place (Wrote form entry) whole is t = t
+whole-or-not k turn place (WroteUntold form entry) whole is t = t
+whole-or-not k turn place (Read first query answer) whole is t = t
+whole-or-not k turn place (Fed pieces (LastLine at pending)) whole is t = t
+whole-or-not k turn place (Fed pieces (LookRefused why)) whole is t = t
+whole-or-not k turn place (Fed pieces RowsRefused) whole is t = t
+whole-or-not k turn place (Fed pieces WriteFailed) whole is t = absurd (cc (t.2, is))
+whole-or-not k turn place Memory whole is t = t
+whole-or-not k turn place (Failed why) whole is t = t
 
-  pub same_name : (old : T) (turns : List Turn) (final : T) → FoldsTo AnswersLent old turns final → name final ≡ name old
-  same_name old [] final same = sym (ap name same)
-  same_name old (turn ∷ turns) final (new, answers, runs) = same_name new turns final runs ∙ answers.1
+-- the connection closes where its item asks for that
+tells-closes : (k : Known) (turn : Turn) (place : ℕ) (outcome : Outcome) → TellsAt k turn place outcome → IsTrue (closes_connection turn.item) → IsTrue turn.closes
+tells-closes k turn place Fixed t asked = subst IsTrue (sym t.1) asked
+tells-closes k turn place (Wrote form entry) t asked = subst IsTrue (sym t.2) asked
+tells-closes k turn place (WroteUntold form entry) t asked = subst IsTrue (sym t.2) search
+tells-closes k turn place (Read first query answer) t asked = subst IsTrue (sym t.2) asked
+tells-closes k turn place (Fed pieces ending) t asked = subst IsTrue (sym t.1) search
+tells-closes k turn place Memory t asked = subst IsTrue (sym t.1) search
+tells-closes k turn place (Failed why) t asked = subst IsTrue (sym t.1) asked
 
-  pub served_lent : (before after : Streams) (old final : T) (ended : Ended) → Served AnswersLent before after old final ended → IsLegal (base_of (known final).base) (known final).seen
-      → IsConnection before after (known old) (known final) ended
-  served_lent before after old final ended served legal =
-      let turns = all_turns served.turns served.cut in
-      let told = are_told (known old) turns (known final) (all_known old turns final served.runs) in
+module _ {S : Type 0} (goes : S → Deed → S → Type 0) (known : S → Known) (often : ℕ) where
+  pub answers-closes : (old new : S) (turn : Turn) → Answers goes known often old turn new → IsTrue (closes_connection turn.item) → IsTrue turn.closes
+  answers-closes old new turn answers asked = tells-closes (known new) turn answers.placed.place answers.placed.outcome answers.told asked
+
+  pub answers-whole : (old new : S) (turn : Turn) (whole : Bool) → turn.whole ≡ true → Answers goes known often old turn new → Answers goes known often old (record turn { whole = whole }) new
+  answers-whole old new turn whole is answers = record {
+    placed = answers.placed;
+    told = whole-or-not (known new) turn answers.placed.place answers.placed.outcome whole is answers.told;
+    goes_by = answers.goes_by;
+  }
+
+  -- what is told of turns by what is known at their end
+  pub record AreTold (old : S) (turns : List Turn) (final : S) : Type 0 where
+    pub outcomes : List Placed
+    pub more : List Entry
+    pub told : AllZip (IsToldAt (known final)) turns outcomes
+    pub extends : known final ≡ with_calls (sees_more (known old) more) (known final).pushes (known final).lost
+    pub entries : of_session (known old).number more ≡ entries_written outcomes
+    pub goes_by : GoesInTurn goes known often old turns outcomes final
+    pub places : NoneFalls (length (known old).seen) (all_places outcomes ++ length (known final).seen ∷ [])
+
+  pub are_told : (old : S) (turns : List Turn) (final : S) → FoldsTo (Answers goes known often) old turns final → AreTold old turns final
+  are_told old [] final same = record {
+    outcomes = [];
+    more = [];
+    told = tt;
+    extends = subst (λ (s : S). known s ≡ with_calls (sees_more (known old) []) (known s).pushes (known s).lost) same (λ i. record (known old) { seen = sym (append-nil (known old).seen) i });
+    entries = refl;
+    goes_by = sym same;
+    places = (omega (arith, ap (λ (s : S). length (known s).seen) same), tt);
+  }
+  are_told old (turn ∷ turns) final (new, answers, runs) =
+      let rest = are_told new turns final runs in
+      let placed = answers.placed in
+      let sees = answers.goes_by.sees in
+      let spoken = places_spoken placed.place placed.outcome in
+      let k = known new in
+      let number : k.number ≡ (known old).number = ap (λ (k : Known). k.number) sees.extends in
+      let seen : k.seen ≡ (known old).seen ++ sees.more = ap (λ (k : Known). k.seen) sees.extends in
       record {
-        read = served.read;
-        turns = served.turns;
-        cut = served.cut;
-        rest = served.rest;
-        part = served.part;
-        outcomes = told.outcomes;
-        more = told.more;
-        reads = served.reads;
-        splits = served.splits;
-        told = told.told;
-        legal = legal;
-        extends = told.extends;
-        entries = told.entries;
-        sees = told.sees;
-        places = told.places;
-        writes = served.writes;
-        is_part = served.is_part;
-        answered = served.answered;
-        ends = served.ends;
-        failed_reads = served.failed_reads;
-        failed_writes = served.failed_writes;
+        outcomes = placed ∷ rest.outcomes;
+        more = sees.more ++ rest.more;
+        told = (told-later k rest.more (known final) rest.extends turn placed (length (known old).seen) (length k.seen ∷ []) sees.places answers.told, rest.told);
+        extends = rest.extends
+            ∙ ap (λ (q : Known). with_calls (sees_more q rest.more) (known final).pushes (known final).lost) sees.extends
+            ∙ (λ i. with_calls (record (known old) { seen = append_assoc (known old).seen sees.more rest.more i }) (known final).pushes (known final).lost);
+        entries = of_session-append (known old).number sees.more rest.more ∙ ap (λ (es : List Entry). es ++ of_session (known old).number rest.more) sees.entries ∙ ap (λ (n : ℕ). written placed.outcome ++ of_session n rest.more) (sym number) ∙ ap (λ (es : List Entry). written placed.outcome ++ es) rest.entries;
+        goes_by = (new, answers.goes_by, rest.goes_by);
+        places = subst (NoneFalls (length (known old).seen)) (sym (append_assoc spoken (all_places rest.outcomes) (length (known final).seen ∷ [])))
+            (falls_on (length (known old).seen) (length k.seen) spoken _ sees.places rest.places);
       }
+
+  -- ---- a session that is lent
+
+  module _ {T N : Type 0} (session : T → S) (name : T → N) where
+    -- by each turn it stays the same session, and goes from one state to another
+    abbrev pub AnswersLent : T → Turn → T → Type 0
+    AnswersLent old turn new = Answers goes known often (session old) turn (session new) × (name new ≡ name old)
+
+    pub all_known : (old : T) (turns : List Turn) (final : T) → FoldsTo AnswersLent old turns final → FoldsTo (Answers goes known often) (session old) turns (session final)
+    all_known old [] final same = ap session same
+    all_known old (turn ∷ turns) final (new, answers, runs) = (session new, answers.0, all_known new turns final runs)
+
+    pub same_name : (old : T) (turns : List Turn) (final : T) → FoldsTo AnswersLent old turns final → name final ≡ name old
+    same_name old [] final same = sym (ap name same)
+    same_name old (turn ∷ turns) final (new, answers, runs) = same_name new turns final runs ∙ answers.1
+
+    pub served_lent : (before after : Streams) (old final : T) (ended : Ended) → Served AnswersLent before after old final ended → IsLegal (base_of (known (session final)).base) (known (session final)).seen
+        → IsConnection goes known often before after (session old) (session final) ended
+    served_lent before after old final ended served legal =
+        let turns = all_turns served.turns served.cut in
+        let told = are_told (session old) turns (session final) (all_known old turns final served.runs) in
+        record {
+          read = served.read;
+          served = served.turns;
+          cut = served.cut;
+          rest = served.rest;
+          part = served.part;
+          outcomes = told.outcomes;
+          more = told.more;
+          reads = served.reads;
+          splits = served.splits;
+          told = told.told;
+          legal = legal;
+          extends = told.extends;
+          entries = told.entries;
+          goes_by = told.goes_by;
+          places = told.places;
+          writes = served.writes;
+          whole = served.whole;
+          not_whole = served.not_whole;
+          is_part = served.is_part;
+          answered = served.answered;
+          ends = served.ends;
+          failed_reads = served.failed_reads;
+          failed_writes = served.failed_writes;
+        }

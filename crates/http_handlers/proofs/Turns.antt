@@ -1,12 +1,13 @@
 -- The turns of a session.
-use Rattle.std.proofs.Common.{◌≡◌, ℕ, ◌≤◌, Bool, List, [], ◌∷◌, ◌++◌, length, take, Ok, inl, inr, refl, ap, sym, ◌∙◌, subst, arith, append_assoc}
+use Rattle.std.proofs.Common.{◌≡◌, ℕ, ◌≤◌, ◌⊎◌, Bool, false, List, [], ◌∷◌, ◌++◌, length, take, Ok, Err, inl, inr, refl, ap, sym, ◌∙◌, subst, arith}
+use Rattle.std.specs.Prelude.{Result}
 use Rattle.std.proofs.lemmas.List.{append-nil, take_all}
 use Rattle.model.specs.Command.{Command, Entry}
-use Rattle.model.specs.Query.{Query}
-use Rattle.model.specs.Changes.{rows_since, wanted_by}
+use Rattle.model.specs.Query.{Query, Changes}
 use Rattle.model.specs.Database.{Database}
-use Rattle.model.specs.History.{now, replay, of_session, base_of}
+use Rattle.model.specs.History.{now, replay, base_of}
 use Rattle.model.specs.Answers.{answer_to}
+use Rattle.model.specs.Told.{NoneFalls}
 use Rattle.http_framing.specs.Request.{Request}
 use Rattle.http_framing.specs.Input.{Item, Requested, closes_connection}
 use Rattle.http_request.specs.Decide.{decide}
@@ -22,222 +23,276 @@ use Rattle.http_request.specs.declared.changes.Feed.{Feed}
 use Rattle.http_request.specs.declared.changes.Feed.TheVariants as feed
 use Rattle.http_response.specs.Texts.{reply_text, answer_text, unavailable_text, no_memory_text}
 use Rattle.http_response.specs.declared.memory.MemoryFor.TheVariants as memory_for
-use Rattle.http_response.specs.declared.no_service.Unavailable.TheVariants as unavailable
-use Rattle.http_handlers.specs.Known.{Known, history_of, database_at}
-use Rattle.http_handlers.specs.Changes.{MayWait, changes_query, since_at}
-use Rattle.http_handlers.specs.Calls.{Looks, WritesCall, FailsFor, LookFails}
-use Rattle.http_handlers.specs.Outcome.{Outcome, Fixed, Wrote, WroteUntold, Read, Memory, Failed, AsksQuery, CanFail, IsFixedText, HasFixedText, NamesSeen, TellsAt, after_closing, places_spoken, written}
-use Rattle.http_handlers.specs.Answers.{Answers}
+use Rattle.http_handlers.specs.Known.{Known, history_of, database_at, with_calls}
+use Rattle.http_handlers.specs.Changes.{MayWait, changes_query, has_changes, since_at}
+use Rattle.http_handlers.specs.Calls.{Looks, WritesCall}
+use Rattle.http_handlers.specs.Deeds.{Deed, Refreshed}
+use Rattle.http_handlers.specs.Deeds as deed
+use Rattle.http_handlers.specs.Doing.{CarriesOut, IsNotContinuous, IsReading, LooksForChanges, Makes, WaitsWhereNone}
+use Rattle.http_handlers.specs.Outcome.{Outcome, Fixed, Wrote, WroteUntold, Read, Memory, Failed, Placed, AsksQuery, IsWritten, IsFixedText, HasFixedText, NamesSeen, TellsAt, after_closing, places_spoken, written}
+use Rattle.http_handlers.specs.Answers.{Answers, FollowsFrom, Sees}
+use Rattle.http_handlers.specs.Polling.{HasPolled}
 use Rattle.http_handlers.specs.Response.{turn_of, Sends, SaysLost, SaysFault, SendsDue}
 use Rattle.http_handlers.specs.declared.calls.CallFault.{CallFault}
 use Rattle.http_handlers.specs.declared.calls.CallFault.TheVariants as fault
 use Rattle.http_handlers.specs.declared.response.Sent.{Sent}
-use Rattle.http_handlers.proofs.Histories.{of_session-append, falls_from, looks_length, place_within, database_seen, database_before}
+use Rattle.http_handlers.proofs.Doing.{carried_runs, only_runs, read_sees, refused_sees, where_none_sees}
+use Rattle.http_handlers.proofs.Histories.{looks_length, looks_only, place_within, database_seen, database_before}
 
--- what asks a query takes the whole response
-query-whole : (k : Known) (request : Request) (first place : ℕ) (query : Query) → AsksQuery k (Requested request) first place query → extent_of request ≡ extent.Whole
-query-whole k request first place query (inl asks) = asked-whole request (asked.Query query) asks.1
-query-whole k request first place query (inr asks) = asked-whole request (asked.Changes asks.changes) asks.asked
+-- a turn with no new entry of the session's own
+pub sees_none : (old : Known) (placed : Placed) (new : Known) → Looks (with_calls old new.pushes new.lost) new → written placed.outcome ≡ []
+    → NoneFalls (length old.seen) (places_spoken placed.place placed.outcome ++ length new.seen ∷ []) → NamesSeen placed.outcome placed.place new.seen → Sees old placed new
+sees_none old placed new looks none places names = record {
+  more = looks.more;
+  extends = looks.extends;
+  entries = looks.none ∙ sym none;
+  places = places;
+  names = names;
+}
 
--- a turn after a look
-pub answers_after : (a b c : Known) (turn : _) → Looks a b → Answers b turn c → Answers a turn c
-answers_after a b c turn looks answers =
-    let seen : b.seen ≡ a.seen ++ looks.more = ap (λ (k : Known). k.seen) looks.extends in
-    let number : b.number ≡ a.number = ap (λ (k : Known). k.number) looks.extends in
-    let sees = answers.sees in
-    record {
-      placed = answers.placed;
-      told = answers.told;
-      sees = record {
-        more = looks.more ++ sees.more;
-        extends = sees.extends ∙ ap (λ (es : List Entry). es ++ sees.more) seen ∙ append_assoc a.seen looks.more sees.more;
-        entries = of_session-append a.number looks.more sees.more ∙ ap (λ (es : List Entry). es ++ of_session a.number sees.more) looks.none ∙ ap (λ (n : ℕ). of_session n sees.more) (sym number) ∙ sees.entries;
-        places = falls_from (length a.seen) (length b.seen) _ (looks_length a b looks) sees.places;
-        names = sees.names;
+module _ {S : Type 0} (goes : S → Deed → S → Type 0) (known : S → Known) (turns : ℕ) where
+  abbrev Answer : S → Request → Sent → S → Type 0
+  Answer old request sent new = Answers goes known turns old (turn_of (Requested request) sent) new
+
+  -- ---- no call
+
+  module _ (s : S) (place : ℕ) (place_is : place ≡ length (known s).seen) (sent : Sent) where
+    unchanged : (item : Item) (outcome : Outcome) → written outcome ≡ [] → places_spoken place outcome ≡ place ∷ [] → NamesSeen outcome place (known s).seen
+        → TellsAt (known s) (turn_of item sent) place outcome → FollowsFrom goes known turns item place outcome s [] s → Answers goes known turns s (turn_of item sent) s
+    unchanged item outcome none one names told follows = record {
+      placed = record { place = place; outcome = outcome; deeds = [] };
+      told = told;
+      goes_by = record {
+        runs = refl;
+        follows = follows;
+        sees = record {
+          more = [];
+          extends = (λ i. record (known s) { seen = sym (append-nil (known s).seen) i });
+          entries = sym none;
+          places = rw one (omega (arith, place_is), (omega (arith, place_is), tt));
+          names = names;
+        };
       };
-      new_is = answers.new_is ∙ ap (λ (k : Known). record k { seen = answers.placed.seen }) looks.extends;
     }
 
-module _ (k : Known) (place : ℕ) (place_is : place ≡ length k.seen) (sent : Sent) where
-  -- nothing was written
-  unchanged : (item : Item) (outcome : Outcome) → written outcome ≡ [] → places_spoken place outcome ≡ place ∷ [] → NamesSeen outcome place k.seen
-      → TellsAt k (turn_of item sent) place outcome → Answers k (turn_of item sent) k
-  unchanged item outcome none one names told = record {
-    placed = record { place = place; outcome = outcome; seen = k.seen };
-    told = told;
-    sees = record {
-      more = [];
-      extends = sym (append-nil k.seen);
-      entries = sym none;
-      places = rw one (omega (arith, place_is), (omega (arith, place_is), tt));
-      names = names;
-    };
-    new_is = refl;
-  }
+    -- memory was refused
+    pub answers_lost : (request : Request) (extent : Extent) → extent ≡ extent_of request → SaysLost place extent memory_for.Call sent → Answer s request sent s
+    answers_lost request extent is says =
+        unchanged (Requested request) Memory refl refl place_is (says.0 ∙ ap (λ (e : Extent). no_memory_text place e memory_for.Call) is, says.1) (inl (refl, refl))
 
-  -- memory was refused
-  pub answers_lost : (request : Request) (extent : Extent) → extent ≡ extent_of request → SaysLost place extent memory_for.Call sent
-      → Answers k (turn_of (Requested request) sent) k
-  answers_lost request extent is says =
-      unchanged (Requested request) Memory refl refl place_is (says.0 ∙ ap (λ (e : Extent). no_memory_text place e memory_for.Call) is, says.1)
+    -- the text of a refusal, or of `/`
+    pub answers_fixed : (item : Item) (text : List ℕ) → HasFixedText place item text → Sends text (closes_connection item) sent
+        → Answers goes known turns s (turn_of item sent) s
+    answers_fixed item text fixed sends = unchanged item Fixed refl refl place_is (subst (HasFixedText place item) (sym sends.0) fixed, sends.1) (refl, refl)
 
-  -- the text of a refusal, or of `/`
-  pub answers_fixed : (item : Item) (text : List ℕ) → HasFixedText place item text → Sends text (closes_connection item) sent
-      → Answers k (turn_of item sent) k
-  answers_fixed item text fixed sends = unchanged item Fixed refl refl place_is (subst (HasFixedText place item) (sym sends.0) fixed, sends.1)
-
-  module _ (request : Request) (closes : Bool) (closes_is : request.closes ≡ closes) where
     -- the text of what was decided, where that is a refusal or `/`
-    pub answers_decided : (decided : _) (text : List ℕ) → decided ≡ decide request → IsFixedText place closes (extent_of request) decided text
-        → Sends text closes sent → Answers k (turn_of (Requested request) sent) k
-    answers_decided decided text is fixed sends =
+    pub answers_decided : (request : Request) (closes : Bool) → request.closes ≡ closes → (decided : _) (text : List ℕ) → decided ≡ decide request
+        → IsFixedText place closes (extent_of request) decided text → Sends text closes sent → Answer s request sent s
+    answers_decided request closes closes_is decided text is fixed sends =
         answers_fixed (Requested request) text
         (subst (λ (c : Bool). IsFixedText place c (extent_of request) (decide request) text) (sym closes_is)
         (subst (λ d. IsFixedText place closes (extent_of request) d text) is fixed))
         (sends.0, sends.1 ∙ sym closes_is)
 
-    -- the call has no answer
-    says_fault : (asking : Asking) → decide request ≡ Ok asking → (why : CallFault) → FailsFor (CanFail asking) why
-        → (why ≡ fault.Unavailable unavailable.Full → length k.seen ≡ k.room)
-        → SaysFault place closes why sent → Answers k (turn_of (Requested request) sent) k
-    says_fault asking asks fault.Memory can full says = answers_lost request extent.Whole (sym (asked-whole request asking asks)) says
-    says_fault asking asks (fault.Unavailable why) can full says =
-        unchanged (Requested request) (Failed why) refl refl place_is (
-          record { asking = asking; asked = asks; fails = can; full = λ is. place_is ∙ full (ap fault.Unavailable is) },
-          says.0 ∙ ap (λ (c : Bool). unavailable_text place (after_closing c) why) (sym says.1),
+  -- ---- calls
+
+  module _ (old new : S) (sent : Sent) (request : Request) (closes : Bool) (closes_is : request.closes ≡ closes) (asking : Asking) (asks : decide request ≡ Ok asking) (deeds : List Deed) where
+    -- no entry was written, and the response names the end of what was seen
+    answers_none : (outcome : Outcome) (answer : Result ℕ CallFault) → CarriesOut goes known turns asking old deeds new answer → Looks (with_calls (known old) (known new).pushes (known new).lost) (known new)
+        → written outcome ≡ [] → places_spoken (length (known new).seen) outcome ≡ length (known new).seen ∷ [] → NamesSeen outcome (length (known new).seen) (known new).seen
+        → TellsAt (known new) (turn_of (Requested request) sent) (length (known new).seen) outcome
+        → FollowsFrom goes known turns (Requested request) (length (known new).seen) outcome old deeds new → Answer old request sent new
+    answers_none outcome answer carried looks none one names told follows =
+        let place = length (known new).seen in
+        let placed : Placed = record { place = place; outcome = outcome; deeds = deeds } in
+        record {
+          placed = placed;
+          told = told;
+          goes_by = record {
+            runs = carried_runs goes known turns asking old deeds new answer carried;
+            follows = follows;
+            sees = sees_none (known old) placed (known new) looks none (rw one (looks_length _ _ looks, (omega arith, tt))) names;
+          };
+        }
+
+    -- memory was refused by the call, or for the answer
+    answers_memory : (answer : Result ℕ CallFault) → CarriesOut goes known turns asking old deeds new answer → Looks (with_calls (known old) (known new).pushes (known new).lost) (known new)
+        → (CarriesOut goes known turns asking old deeds new (Err fault.Memory) ⊎ (IsReading asking × ((first : ℕ) × CarriesOut goes known turns asking old deeds new (Ok first))))
+        → SaysLost (length (known new).seen) extent.Whole memory_for.Call sent → Answer old request sent new
+    answers_memory answer carried looks why says =
+        answers_none Memory answer carried looks refl refl refl
+        (says.0 ∙ ap (λ (e : Extent). no_memory_text (length (known new).seen) e memory_for.Call) (sym (asked-whole request asking asks)), says.1)
+        (inr (asking, asks, why))
+
+    -- a call has no answer
+    pub answers_fault : (why : CallFault) → CarriesOut goes known turns asking old deeds new (Err why) → SaysFault (length (known new).seen) closes why sent → Answer old request sent new
+    answers_fault fault.Memory carried says = answers_memory (Err fault.Memory) carried (refused_sees goes known turns asking old deeds new fault.Memory carried) (inl carried) says
+    answers_fault (fault.Unavailable why) carried says =
+        answers_none (Failed why) (Err (fault.Unavailable why)) carried (refused_sees goes known turns asking old deeds new (fault.Unavailable why) carried) refl refl refl (
+          says.0 ∙ ap (λ (c : Bool). unavailable_text (length (known new).seen) (after_closing c) why) (sym says.1),
           says.1 ∙ sym closes_is,
-        )
+        ) (asking, asks, carried)
 
-module _ (old new : Known) (sent : Sent) (request : Request) (closes : Bool) (closes_is : request.closes ≡ closes) where
-  -- a call has no answer, and there was a look
-  pub answers_fault : Looks old new → (asking : Asking) → decide request ≡ Ok asking → (why : CallFault) → FailsFor (CanFail asking) why
-      → (why ≡ fault.Unavailable unavailable.Full → length new.seen ≡ new.room)
-      → SaysFault (length new.seen) closes why sent → Answers old (turn_of (Requested request) sent) new
-  answers_fault looks asking asks why can full says =
-      answers_after old new new _ looks (says_fault new (length new.seen) refl sent request closes closes_is asking asks why can full says)
+    -- the answer to a query
+    module _ (reading : IsReading asking) (first : ℕ) (carried : CarriesOut goes known turns asking old deeds new (Ok first)) where
+      pub answers_query : length (known old).seen ≤ first → first ≤ length (known new).seen → (query : Query)
+          → AsksQuery (known new) (Requested request) first (length (known new).seen) query
+          → SendsDue (answer_text (length (known new).seen) (after_closing closes) query (answer_to (now (history_of (known new))) query)) closes (length (known new).seen) memory_for.Call sent
+          → Answer old request sent new
+      answers_query from to query asks_query (inl sends) =
+          let k = known new in
+          let place = length k.seen in
+          let all : take place k.seen ≡ k.seen = take_all place k.seen (omega arith) in
+          let answer = answer_to (now (history_of k)) query in
+          let looks = read_sees goes known turns asking old deeds new (Ok first) reading carried in
+          let placed : Placed = record { place = place; outcome = Read first query answer; deeds = deeds } in
+          record {
+            placed = placed;
+            told = (
+              record { asked = asks_query; told = (omega arith, ap (λ (es : List Entry). answer_to (replay (base_of k.base) es) query) (sym all)) },
+              sends.0 ∙ ap (λ (c : Bool). answer_text place (after_closing c) query answer) (sym sends.1),
+              sends.1 ∙ sym closes_is,
+            );
+            goes_by = record {
+              runs = carried_runs goes known turns asking old deeds new (Ok first) carried;
+              follows = (asking, asks, carried);
+              sees = sees_none (known old) placed k (looks_only (known old) k looks) refl (from, (to, (omega arith, tt))) tt;
+            };
+          }
+      answers_query from to query asks_query (inr says) =
+          answers_memory (Ok first) carried (looks_only (known old) (known new) (read_sees goes known turns asking old deeds new (Ok first) reading carried)) (inr (reading, (first, carried))) says
 
-  -- the answer to a query
-  pub answers_query : Looks old new → (first : ℕ) → length old.seen ≤ first → first ≤ length new.seen → (query : Query)
-      → AsksQuery new (Requested request) first (length new.seen) query
-      → SendsDue (answer_text (length new.seen) (after_closing closes) query (answer_to (now (history_of new)) query)) closes (length new.seen) memory_for.Call sent
-      → Answers old (turn_of (Requested request) sent) new
-  answers_query looks first from to query asks (inl sends) =
-      let place = length new.seen in
-      let all : take place new.seen ≡ new.seen = take_all place new.seen (omega arith) in
-      let answer = answer_to (now (history_of new)) query in
-      record {
-        placed = record { place = place; outcome = Read first query answer; seen = new.seen };
-        told = (
-          record { asked = asks; told = (omega arith, ap (λ (es : List Entry). answer_to (replay (base_of new.base) es) query) (sym all)) },
-          sends.0 ∙ ap (λ (c : Bool). answer_text place (after_closing c) query answer) (sym sends.1),
-          sends.1 ∙ sym closes_is,
-        );
-        sees = record {
-          more = looks.more;
-          extends = ap (λ (k : Known). k.seen) looks.extends;
-          entries = looks.none;
-          places = (from, (to, (omega arith, tt)));
-          names = tt;
-        };
-        new_is = looks.extends ∙ (λ i. record old { seen = sym (ap (λ (k : Known). k.seen) looks.extends) i });
+  -- ---- one look
+
+  -- what a look does, where it is asked for as a query or as changes that are not waited for
+  abbrev Looked : S → S → Type 0
+  Looked old new = Makes goes known old (Refreshed (Ok tt)) new
+
+  module _ (old new : S) (sent : Sent) (request : Request) (closes : Bool) (closes_is : request.closes ≡ closes) where
+    -- the answer to a query by what was seen last
+    pub answers_asked : Looked old new → (query : Query) → decide request ≡ Ok (asked.Query query)
+        → SendsDue (answer_text (length (known new).seen) (after_closing closes) query (answer_to (now (history_of (known new))) query)) closes (length (known new).seen) memory_for.Call sent
+        → Answer old request sent new
+    answers_asked makes query asks sends =
+        answers_query old new sent request closes closes_is (asked.Query query) asks (Refreshed (Ok tt) ∷ []) tt (length (known new).seen) (Ok tt, (refl, makes), refl)
+        (looks_length _ _ makes.learns.0) (omega arith) query (inl (refl, asks)) sends
+
+    -- a look was refused
+    pub answers_refused : (why : CallFault) → Makes goes known old (Refreshed (Err why)) new → (query : Query) → decide request ≡ Ok (asked.Query query) → SaysFault (length (known new).seen) closes why sent
+        → Answer old request sent new
+    answers_refused why makes query asks says =
+        answers_fault old new sent request closes closes_is (asked.Query query) asks (Refreshed (Err why) ∷ []) why (Err why, (refl, makes), refl) says
+
+  -- ---- changes
+
+  module _ (old new : S) (sent : Sent) (request : Request) (closes : Bool) (closes_is : request.closes ≡ closes) (changes : ChangesAsked) (asks : decide request ≡ Ok (asked.Changes changes)) where
+    abbrev queried : Database → Query
+    queried d = changes_query d changes
+
+    -- a query for changes that were asked for at one place, to be answered at another
+    asks_at : (first : ℕ) → MayWait changes.feed (database_at (known new) first) changes first (length (known new).seen)
+        → AsksQuery (known new) (Requested request) first (length (known new).seen) (queried (database_at (known new) first))
+    asks_at first waits = inr (record { changes = changes; asked = asks; waits = waits; query_is = refl })
+
+    reading_by : (f : Feed) → changes.feed ≡ f → IsNotContinuous f → IsReading (asked.Changes changes)
+    reading_by f is reading = subst IsNotContinuous (sym is) reading
+
+    carried_by : (f : Feed) → changes.feed ≡ f → (deeds : List Deed) (answer : Result ℕ CallFault) → LooksForChanges goes known turns changes f old deeds new answer
+        → CarriesOut goes known turns (asked.Changes changes) old deeds new answer
+    carried_by f is deeds answer looks = subst (λ (g : Feed). LooksForChanges goes known turns changes g old deeds new answer) (sym is) looks
+
+    -- the changes that were seen last, by one look
+    pub answers_changes : changes.feed ≡ feed.Normal → Looked old new → (query : Query) → query ≡ queried (now (history_of (known new)))
+        → SendsDue (answer_text (length (known new).seen) (after_closing closes) query (answer_to (now (history_of (known new))) query)) closes (length (known new).seen) memory_for.Call sent
+        → Answer old request sent new
+    answers_changes normal makes query query_is sends =
+        let k = known new in
+        let place = length k.seen in
+        let d = database_at k place in
+        let is : query ≡ queried d = query_is ∙ ap queried (database_seen k) in
+        let waits : MayWait changes.feed d changes place place = subst (λ (f : Feed). MayWait f d changes place place) (sym normal) refl in
+        answers_query old new sent request closes closes_is (asked.Changes changes) asks (Refreshed (Ok tt) ∷ []) (reading_by feed.Normal normal tt) place
+        (carried_by feed.Normal normal (Refreshed (Ok tt) ∷ []) (Ok place) (Ok tt, (refl, makes), refl))
+        (looks_length _ _ makes.learns.0) (omega arith) query (subst (AsksQuery k (Requested request) place place) (sym is) (asks_at place waits)) sends
+
+    -- a look for changes was refused
+    pub changes_refused : (f : Feed) → changes.feed ≡ f → (deeds : List Deed) (why : CallFault) → LooksForChanges goes known turns changes f old deeds new (Err why)
+        → SaysFault (length (known new).seen) closes why sent → Answer old request sent new
+    changes_refused f is deeds why looks says =
+        answers_fault old new sent request closes closes_is (asked.Changes changes) asks deeds why (carried_by f is deeds (Err why) looks) says
+
+    may_be_later : (here : S) (waits : List Deed) → WaitsWhereNone goes known turns changes here waits new (Ok (length (known here).seen))
+        → now (history_of (known here)) ≡ database_at (known new) (length (known here).seen)
+        → MayWait feed.LongPoll (database_at (known new) (length (known here).seen)) changes (length (known here).seen) (length (known new).seen)
+    may_be_later here waits (inl (some, none, is)) same = inl (ap (λ (s : S). length (known s).seen) (sym none.1))
+    may_be_later here waits (inr (none, wait)) same = inr (subst (λ (d : Database). has_changes d (since_at d changes.since) changes.ids ≡ false) same none)
+
+    -- the changes that were seen last, by a long poll
+    pub answers_polled : changes.feed ≡ feed.LongPoll → (deeds : List Deed) (since : ℕ) → HasPolled goes known turns changes old deeds new (Ok since)
+        → (query : Query) → query ≡ Changes since changes.limit changes.style changes.ids
+        → SendsDue (answer_text (length (known new).seen) (after_closing closes) query (answer_to (now (history_of (known new))) query)) closes (length (known new).seen) memory_for.Call sent
+        → Answer old request sent new
+    answers_polled polls deeds since (inl (why, only, is)) query query_is sends = absurd (cc)
+    answers_polled polls deeds since (inr (here, waits, all, makes, (since_is, rest))) query query_is sends =
+        let k = known new in
+        let first = length (known here).seen in
+        let place = length k.seen in
+        let looks = where_none_sees goes known turns changes here waits new (Ok first) makes.learns.0.legal rest in
+        let same = database_before (known here) k looks in
+        let is : query ≡ queried (database_at k first) = query_is ∙ ap (λ (n : ℕ). Changes n changes.limit changes.style changes.ids) since_is ∙ ap queried same in
+        let may_wait : MayWait changes.feed (database_at k first) changes first place = subst (λ (f : Feed). MayWait f (database_at k first) changes first place) (sym polls) (may_be_later here waits rest same) in
+        answers_query old new sent request closes closes_is (asked.Changes changes) asks deeds (reading_by feed.LongPoll polls tt) first
+        (carried_by feed.LongPoll polls deeds (Ok first) (inr (here, waits, all, makes, rest)))
+        (looks_length _ _ makes.learns.0) (looks_length _ _ looks) query (subst (AsksQuery k (Requested request) first place) (sym is) (asks_at first may_wait)) sends
+
+  -- ---- an entry
+
+  module _ (old new : S) (sent : Sent) (request : Request) (closes : Bool) (closes_is : request.closes ≡ closes) (form : Form) (command : Command) (asks : decide request ≡ Ok (asked.Command form command)) where
+    -- the call has no answer
+    pub command_refused : (why : CallFault) → Makes goes known old (deed.Wrote command (Err why)) new → SaysFault (length (known new).seen) closes why sent → Answer old request sent new
+    command_refused why makes says = answers_fault old new sent request closes closes_is (asked.Command form command) asks (deed.Wrote command (Err why) ∷ []) why (refl, makes) says
+
+    module _ (place : ℕ) (makes : Makes goes known old (deed.Wrote command (Ok place)) new) where
+      abbrev writes : WritesCall (known old) command place (known new)
+      writes = makes.learns.0
+
+      answers_entry : (outcome : Outcome) → written outcome ≡ writes.entry ∷ [] → places_spoken place outcome ≡ place ∷ [] → NamesSeen outcome place (known new).seen
+          → TellsAt (known new) (turn_of (Requested request) sent) place outcome
+          → FollowsFrom goes known turns (Requested request) place outcome old (deed.Wrote command (Ok place) ∷ []) new → Answer old request sent new
+      answers_entry outcome one spoken names told follows =
+          let placed : Placed = record { place = place; outcome = outcome; deeds = deed.Wrote command (Ok place) ∷ [] } in
+          record {
+            placed = placed;
+            told = told;
+            goes_by = record {
+              runs = only_runs goes known old (deed.Wrote command (Ok place)) _ new (refl, makes);
+              follows = follows;
+              sees = record {
+                more = writes.more;
+                extends = writes.extends ∙ (λ i. record (known old) { seen = (known old).seen ++ writes.more; pushes = (known new).pushes; lost = ap (λ (k : Known). k.lost) (sym writes.extends) i });
+                entries = writes.only ∙ sym one;
+                places = rw spoken (omega (arith, writes.above), (place_within (known new) place writes.entry writes.told, tt));
+                names = names;
+              };
+            };
+          }
+
+      is_written : IsWritten (known new) (Requested request) place form writes.entry
+      is_written = record {
+        asked = asks ∙ ap (λ (c : Command). Ok (asked.Command form c)) (sym writes.asked);
+        own = writes.own ∙ ap (λ (k : Known). k.number) (sym writes.extends);
+        told = writes.told;
       }
-  answers_query looks first from to query asks (inr says) = answers_after old new new _ looks (answers_lost new (length new.seen) refl sent request extent.Whole (sym (query-whole new request first (length new.seen) query asks)) says)
 
-  -- the answer to a query by what was seen last
-  pub answers_asked : Looks old new → (query : Query) → decide request ≡ Ok (asked.Query query)
-      → SendsDue (answer_text (length new.seen) (after_closing closes) query (answer_to (now (history_of new)) query)) closes (length new.seen) memory_for.Call sent
-      → Answers old (turn_of (Requested request) sent) new
-  answers_asked looks query asks sends = answers_query looks (length new.seen) (looks_length old new looks) (omega arith) query (inl (refl, asks)) sends
+      follows : CarriesOut goes known turns (asked.Command form writes.entry.command) old (deed.Wrote command (Ok place) ∷ []) new (Ok place)
+      follows = subst (λ (c : Command). CarriesOut goes known turns (asked.Command form c) old (deed.Wrote command (Ok place) ∷ []) new (Ok place)) (sym writes.asked) (refl, makes)
 
-  -- the entry of a command was written
-  module _ (form : Form) (command : Command) (place : ℕ) (writes : WritesCall old command place new) where
-    answers_entry : (outcome : Outcome) → written outcome ≡ writes.entry ∷ [] → places_spoken place outcome ≡ place ∷ [] → NamesSeen outcome place new.seen
-        → TellsAt new (turn_of (Requested request) sent) place outcome → Answers old (turn_of (Requested request) sent) new
-    answers_entry outcome one spoken names told = record {
-      placed = record { place = place; outcome = outcome; seen = new.seen };
-      told = told;
-      sees = record {
-        more = writes.more;
-        extends = ap (λ (k : Known). k.seen) writes.extends;
-        entries = writes.only ∙ sym one;
-        places = rw spoken (omega (arith, writes.above), (place_within new place writes.entry writes.told, tt));
-        names = names;
-      };
-      new_is = writes.extends ∙ (λ i. record old { seen = sym (ap (λ (k : Known). k.seen) writes.extends) i });
-    }
-
-    -- the reply to a command
-    pub answers_command : decide request ≡ Ok (asked.Command form command)
-        → SendsDue (reply_text place (after_closing closes) form writes.entry.command writes.entry.reply) closes place memory_for.Reply sent
-        → Answers old (turn_of (Requested request) sent) new
-    answers_command asks (inl sends) =
-        answers_entry (Wrote form writes.entry) refl refl tt (
-          record { asked = asks ∙ ap (λ (c : Command). Ok (asked.Command form c)) (sym writes.asked); own = writes.own ∙ ap (λ (k : Known). k.number) (sym writes.extends); told = writes.told },
-          sends.0 ∙ ap (λ (c : Bool). reply_text place (after_closing c) form writes.entry.command writes.entry.reply) (sym sends.1),
-          sends.1 ∙ sym closes_is,
-        )
-    answers_command asks (inr says) =
-        answers_entry (WroteUntold form writes.entry) refl refl tt (
-          record { asked = asks ∙ ap (λ (c : Command). Ok (asked.Command form c)) (sym writes.asked); own = writes.own ∙ ap (λ (k : Known). k.number) (sym writes.extends); told = writes.told },
-          says.0,
-          says.1,
-        )
-
--- a look is not refused since the history is full
-pub never_full : {P : Type 0} (why : CallFault) → FailsFor LookFails why → why ≡ fault.Unavailable unavailable.Full → P
-never_full why can is = absurd (subst (FailsFor LookFails) is can)
-
--- ---- changes
-
--- what is no long poll is answered where it is asked
-pub reads_at_once : (d : Database) (changes : ChangesAsked) → changes.feed ≡ feed.Normal → (place : ℕ) → MayWait changes.feed d changes place place
-reads_at_once d changes is place = subst (λ (f : Feed). MayWait f d changes place place) (sym is) refl
-
--- and so may a long poll be
-pub polls_at_once : (d : Database) (changes : ChangesAsked) → changes.feed ≡ feed.LongPoll → (place : ℕ) → MayWait changes.feed d changes place place
-polls_at_once d changes is place = subst (λ (f : Feed). MayWait f d changes place place) (sym is) (inl refl)
-
-asks_changes : (k : Known) (request : Request) (changes : ChangesAsked) (query : Query) → decide request ≡ Ok (asked.Changes changes)
-    → ((place : ℕ) → MayWait changes.feed (now (history_of k)) changes place place)
-    → query ≡ changes_query (now (history_of k)) changes → AsksQuery k (Requested request) (length k.seen) (length k.seen) query
-asks_changes k request changes query asks waits query_is =
-    inr (record {
-      changes = changes;
-      asked = asks;
-      waits = subst (λ (d : Database). MayWait changes.feed d changes (length k.seen) (length k.seen)) (database_seen k) (waits (length k.seen));
-      query_is = query_is ∙ ap (λ (d : Database). changes_query d changes) (database_seen k);
-    })
-
--- the changes that were seen last
-pub answers_changes : (old new : Known) (sent : Sent) (request : Request) (closes : Bool) (closes_is : request.closes ≡ closes) → Looks old new
-    → (changes : ChangesAsked) (query : Query) → decide request ≡ Ok (asked.Changes changes)
-    → ((place : ℕ) → MayWait changes.feed (now (history_of new)) changes place place)
-    → query ≡ changes_query (now (history_of new)) changes
-    → SendsDue (answer_text (length new.seen) (after_closing closes) query (answer_to (now (history_of new)) query)) closes (length new.seen) memory_for.Call sent
-    → Answers old (turn_of (Requested request) sent) new
-answers_changes old new sent request closes closes_is looks changes query asks waits query_is sends =
-    answers_query old new sent request closes closes_is looks (length new.seen) (looks_length old new looks) (omega arith) query
-    (asks_changes new request changes query asks waits query_is) sends
-
--- where there was none, the changes are asked for before the look
-asks_before : (old new : Known) (request : Request) (changes : ChangesAsked) (query : Query) → Looks old new → decide request ≡ Ok (asked.Changes changes)
-    → changes.feed ≡ feed.LongPoll → rows_since (wanted_by changes.ids) (now (history_of old)) (since_at (now (history_of old)) changes.since) changes.style ≡ []
-    → query ≡ changes_query (now (history_of old)) changes → AsksQuery new (Requested request) (length old.seen) (length new.seen) query
-asks_before old new request changes query looks asks polls none query_is =
-    inr (record {
-      changes = changes;
-      asked = asks;
-      waits = subst (λ (f : Feed). MayWait f (database_at new (length old.seen)) changes (length old.seen) (length new.seen)) (sym polls)
-          (inr (subst (λ (d : Database). rows_since (wanted_by changes.ids) d (since_at d changes.since) changes.style ≡ []) (database_before old new looks) none));
-      query_is = query_is ∙ ap (λ (d : Database). changes_query d changes) (database_before old new looks);
-    })
-
-pub answers_polled : (old new : Known) (sent : Sent) (request : Request) (closes : Bool) (closes_is : request.closes ≡ closes) → Looks old new
-    → (changes : ChangesAsked) (query : Query) → decide request ≡ Ok (asked.Changes changes) → changes.feed ≡ feed.LongPoll
-    → rows_since (wanted_by changes.ids) (now (history_of old)) (since_at (now (history_of old)) changes.since) changes.style ≡ []
-    → query ≡ changes_query (now (history_of old)) changes
-    → SendsDue (answer_text (length new.seen) (after_closing closes) query (answer_to (now (history_of new)) query)) closes (length new.seen) memory_for.Call sent
-    → Answers old (turn_of (Requested request) sent) new
-answers_polled old new sent request closes closes_is looks changes query asks polls none query_is sends =
-    answers_query old new sent request closes closes_is looks (length old.seen) (omega arith) (looks_length old new looks) query
-    (asks_before old new request changes query looks asks polls none query_is) sends
+      -- the reply to the command
+      pub answers_command : SendsDue (reply_text place (after_closing closes) form writes.entry.command writes.entry.reply) closes place memory_for.Reply sent → Answer old request sent new
+      answers_command (inl sends) =
+          answers_entry (Wrote form writes.entry) refl refl tt (
+            is_written,
+            sends.0 ∙ ap (λ (c : Bool). reply_text place (after_closing c) form writes.entry.command writes.entry.reply) (sym sends.1),
+            sends.1 ∙ sym closes_is,
+          ) follows
+      answers_command (inr says) = answers_entry (WroteUntold form writes.entry) refl refl tt (is_written, says.0, says.1) follows

@@ -1,25 +1,63 @@
 -- The turns of a session.
-use Rattle.std.specs.Prelude.{◌≡◌, ℕ, List, [], ◌∷◌, ◌++◌, length}
+use Rattle.std.specs.Prelude.{◌≡◌, ◌⊎◌, ℕ, List, [], ◌∷◌, ◌++◌, length, Ok, Err}
+use Rattle.std.specs.List.{FoldsTo}
 use Rattle.model.specs.Command.{Entry}
 use Rattle.model.specs.History.{of_session}
 use Rattle.model.specs.Told.{NoneFalls}
+use Rattle.http_framing.specs.Input.{Item}
+use Rattle.http_request.specs.declared.asked.Asked.{Asked as Asking}
+use Rattle.http_request.specs.declared.asked.Asked.TheVariants as asked
+use Rattle.http_request.specs.declared.changes.ChangesAsked.{ChangesAsked}
 use Rattle.serving.specs.Turn.{Turn}
-use Rattle.http_handlers.specs.Known.{Known}
-use Rattle.http_handlers.specs.Outcome.{Placed, IsToldAt, NamesSeen, places_spoken, written}
+use Rattle.http_handlers.specs.Deeds.{Deed}
+use Rattle.http_handlers.specs.Doing.{CarriesOut, IsReading, Makes, MakesNone}
+use Rattle.http_handlers.specs.Feeding.{Feeds}
+use Rattle.http_handlers.specs.Known.{Known, sees_more, with_calls}
+use Rattle.http_handlers.specs.Outcome.{Outcome, Fixed, Wrote, WroteUntold, Read, Fed, Memory, Failed, Placed, Asks, IsToldAt, NamesSeen, places_spoken, written}
+use Rattle.http_handlers.specs.declared.calls.CallFault.{CallFault}
+use Rattle.http_handlers.specs.declared.calls.CallFault.TheVariants as fault
 
 -- What a session had seen before a turn and after it: its new entries of its own are those that were written, and the
 -- places that the response speaks of never fall, from the end of what it had seen before to the end of what it had
 -- seen after.
-pub record Sees (number : ℕ) (old : List Entry) (placed : Placed) : Type 0 where
+pub record Sees (old : Known) (placed : Placed) (new : Known) : Type 0 where
   pub more : List Entry
-  pub extends : placed.seen ≡ old ++ more
-  pub entries : of_session number more ≡ written placed.outcome
-  pub places : NoneFalls (length old) (places_spoken placed.place placed.outcome ++ length placed.seen ∷ [])
-  pub names : NamesSeen placed.outcome placed.place placed.seen
+  pub extends : new ≡ with_calls (sees_more old more) new.pushes new.lost
+  pub entries : of_session old.number more ≡ written placed.outcome
+  pub places : NoneFalls (length old.seen) (places_spoken placed.place placed.outcome ++ length new.seen ∷ [])
+  pub names : NamesSeen placed.outcome placed.place new.seen
 
--- by this turn a session came from what it knew to what it knows
-pub record Answers (old : Known) (turn : Turn) (new : Known) : Type 0 where
-  pub placed : Placed
-  pub told : IsToldAt new turn placed
-  pub sees : Sees old.number old.seen placed
-  pub new_is : new ≡ record old { seen = placed.seen }
+-- by what a session does, what it knows, and how often a wait looks
+module _ {S : Type 0} (goes : S → Deed → S → Type 0) (known : S → Known) (turns : ℕ) where
+  -- a call for the item was refused memory, or it was read, and memory for the answer was refused
+  abbrev pub LacksMemory : Item → S → List Deed → S → Type 0
+  LacksMemory item old deeds new =
+      (asking : Asking) × Asks item asking
+      × (CarriesOut goes known turns asking old deeds new (Err fault.Memory)
+      ⊎ (IsReading asking × ((first : ℕ) × CarriesOut goes known turns asking old deeds new (Ok first))))
+
+  -- The outcome follows from the calls that were made for the item, and from their answers: nothing is told to have failed but
+  -- what a call answered.
+  abbrev pub FollowsFrom : Item → ℕ → Outcome → S → List Deed → S → Type 0
+  FollowsFrom item place Fixed old deeds new = MakesNone old deeds new
+  FollowsFrom item place (Wrote form entry) old deeds new = CarriesOut goes known turns (asked.Command form entry.command) old deeds new (Ok place)
+  FollowsFrom item place (WroteUntold form entry) old deeds new = CarriesOut goes known turns (asked.Command form entry.command) old deeds new (Ok place)
+  FollowsFrom item place (Read first query answer) old deeds new =
+      (asking : Asking) × Asks item asking × CarriesOut goes known turns asking old deeds new (Ok first)
+  FollowsFrom item place (Fed pieces ending) old deeds new =
+      (changes : ChangesAsked) × Asks item (asked.Changes changes) × Feeds goes known turns changes old place pieces deeds ending new
+  FollowsFrom item place Memory old deeds new = MakesNone old deeds new ⊎ LacksMemory item old deeds new
+  FollowsFrom item place (Failed why) old deeds new =
+      (asking : Asking) × Asks item asking × CarriesOut goes known turns asking old deeds new (Err (fault.Unavailable why))
+
+  -- By a turn a session went from one state to another: by these calls and no other, from which the outcome follows.
+  pub record GoesBy (old : S) (item : Item) (placed : Placed) (new : S) : Type 0 where
+    pub runs : FoldsTo (Makes goes known) old placed.deeds new
+    pub follows : FollowsFrom item placed.place placed.outcome old placed.deeds new
+    pub sees : Sees (known old) placed (known new)
+
+  -- by this turn, which is told by what it knows then
+  pub record Answers (old : S) (turn : Turn) (new : S) : Type 0 where
+    pub placed : Placed
+    pub told : IsToldAt (known new) turn placed
+    pub goes_by : GoesBy old turn.item placed new

@@ -1,5 +1,5 @@
 -- A feed that goes on as changes come, told by the history that its session has seen at the end.
-use Rattle.std.specs.Prelude.{◌≡◌, ◌⊎◌, ℕ, ◌+◌, ◌≤◌, List, [], ◌∷◌, ◌++◌, length, map, take, Option, None, Some}
+use Rattle.std.specs.Prelude.{◌≡◌, ◌⊎◌, ℕ, ◌+◌, ◌≤◌, Bool, IsFalse, List, [], ◌∷◌, ◌++◌, length, map, take, ⊤}
 use Rattle.std.specs.List.{flat_map}
 use Rattle.model.specs.Query.{Row}
 use Rattle.model.specs.Database.{Database}
@@ -10,6 +10,7 @@ use Rattle.answer_json.specs.Changes.{feed_line}
 use Rattle.http_response.specs.Feed.{feed_last_text}
 use Rattle.http_handlers.specs.Known.{Known, database_at}
 use Rattle.http_handlers.specs.Changes.{since_at, most_rows}
+use Rattle.http_handlers.specs.declared.calls.CallFault.{CallFault}
 use Rattle.http_handlers.specs.declared.progress.Progress.{Progress}
 
 -- rows that are given at a place
@@ -24,22 +25,39 @@ piece_text piece = flat_map feed_line piece.rows
 abbrev pub pieces_text : List Piece → List ℕ
 pieces_text pieces = flat_map piece_text pieces
 
--- how many rows are left at a place
-pub record Ending : Type 0 where
-  pub place : ℕ
-  pub pending : ℕ
+-- why a feed ended
+pub data Ending : Type 0 where
+  -- with its last line, at this place, where so many rows are left
+  LastLine : ℕ → ℕ → Ending
+  -- a look of a wait was refused for this reason
+  LookRefused : CallFault → Ending
+  -- memory for rows was refused, or 2^64 - 1 pieces were given
+  RowsRefused : Ending
+  -- a write failed
+  WriteFailed : Ending
 
 -- the last line, which is left out after a fault
-abbrev pub ending_text : ℕ → Option Ending → List ℕ
-ending_text cursor None = []
-ending_text cursor (Some ending) = feed_last_text cursor ending.pending
+abbrev pub ending_text : ℕ → Ending → List ℕ
+ending_text cursor (LastLine place pending) = feed_last_text cursor pending
+ending_text cursor (LookRefused why) = []
+ending_text cursor RowsRefused = []
+ending_text cursor WriteFailed = []
 
-abbrev pub ending_places : Option Ending → List ℕ
-ending_places None = []
-ending_places (Some ending) = ending.place ∷ []
+abbrev pub ending_places : Ending → List ℕ
+ending_places (LastLine place pending) = place ∷ []
+ending_places (LookRefused why) = []
+ending_places RowsRefused = []
+ending_places WriteFailed = []
+
+-- a feed of which no write failed may be whole, and one of which a write failed is not
+abbrev pub MayBeWhole : Ending → Bool → Type 0
+MayBeWhole (LastLine place pending) whole = ⊤
+MayBeWhole (LookRefused why) whole = ⊤
+MayBeWhole RowsRefused whole = ⊤
+MayBeWhole WriteFailed whole = IsFalse whole
 
 -- all places behind the one that the head names
-abbrev pub feed_places : List Piece → Option Ending → List ℕ
+abbrev pub feed_places : List Piece → Ending → List ℕ
 feed_places pieces ending = map (λ piece. piece.place) pieces ++ ending_places ending
 
 -- it begins after the number that is asked for, with the documents and as many rows to give as are asked for
@@ -61,7 +79,13 @@ module _ (k : Known) where
     pub left : after.left + length piece.rows ≡ before.left
 
   -- The last line counts the rows above the cursor at its place: none, unless as many were given as were asked for.
-  pub record EndsFeed (after : Progress) (ending : Ending) : Type 0 where
-    pub within : ending.place ≤ length k.seen
-    pub counted : ending.pending ≡ length (rows_at ending.place after.follower)
-    pub all : (after.left ≡ 0) ⊎ (ending.pending ≡ 0)
+  pub record EndsFeed (after : Progress) (place pending : ℕ) : Type 0 where
+    pub within : place ≤ length k.seen
+    pub counted : pending ≡ length (rows_at place after.follower)
+    pub all : (after.left ≡ 0) ⊎ (pending ≡ 0)
+
+  abbrev pub EndsBy : Progress → Ending → Type 0
+  EndsBy after (LastLine place pending) = EndsFeed after place pending
+  EndsBy after (LookRefused why) = ⊤
+  EndsBy after RowsRefused = ⊤
+  EndsBy after WriteFailed = ⊤

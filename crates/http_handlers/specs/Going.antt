@@ -1,5 +1,5 @@
 -- How a feed goes on.
-use Rattle.std.specs.Prelude.{◌≡◌, ℕ, Bool, IsTrue, List, ◌∷◌, ◌++◌, [], length, Option, Some, IfSome, Result, Ok, IfOk}
+use Rattle.std.specs.Prelude.{◌≡◌, ℕ, Bool, IsTrue, List, ◌∷◌, ◌++◌, [], length, is_ok, Option, None, Some, Result, Ok, Err, IfOk}
 use Rattle.std.specs.List.{FoldsTo}
 use Rattle.model.specs.Told.{NoneFalls}
 use Rattle.http_framing.specs.Request.{Request}
@@ -10,35 +10,47 @@ use Rattle.streams.specs.declared.traits.Failed.{Failed}
 use Rattle.http_handlers.specs.Known.{Known}
 use Rattle.http_handlers.specs.Calls.{Looks}
 use Rattle.http_handlers.specs.Answers.{Answers}
-use Rattle.http_handlers.specs.Feed.{Piece, Ending, GivesPiece, EndsFeed, ending_text, feed_places, pieces_text, piece_text, rows_at}
+use Rattle.http_handlers.specs.Deeds.{Deed}
+use Rattle.http_handlers.specs.Feed.{Piece, Ending, GivesPiece, EndsBy, MayBeWhole, ending_text, feed_places, pieces_text, piece_text, rows_at}
+use Rattle.http_handlers.specs.Feeding.{GivesFeed}
 use Rattle.http_handlers.specs.declared.progress.Progress.{Progress}
 
--- One piece at what was seen was written, or a part of it; none where memory was refused.
+-- a piece of what had been seen was written, with this text behind what was written before, or a part of it
 pub record GivesOne (k : Known) (before after : Progress) (result : Result (Option ℕ) Failed) (taken taken' : Option (List ℕ)) : Type 0 where
   pub piece : Piece
-  pub next : Progress
-  pub gives : GivesPiece k before piece next
+  pub gives : GivesPiece k before piece after
   pub here : piece.place ≡ length k.seen
   pub writes : Writes taken taken' result (piece_text piece)
-  pub state : (pending : ℕ) → result ≡ Ok (Some pending) → after ≡ next
-  pub counts : (pending : ℕ) → result ≡ Ok (Some pending) → pending ≡ length (rows_at k (length k.seen) after.follower)
 
--- A feed was given from its start on, with this text behind its head.
-pub record GoesOn (old new : Known) (start : Progress) (text : List ℕ) : Type 0 where
-  pub looks : Looks old new
-  pub pieces : List Piece
-  pub ending : Option Ending
-  pub after : Progress
-  pub runs : FoldsTo (GivesPiece new) start pieces after
-  pub ends : IfSome ending (EndsFeed new after)
-  pub places : NoneFalls (length old.seen) (feed_places pieces ending ++ length new.seen ∷ [])
-  pub said : text ≡ pieces_text pieces ++ ending_text after.follower.cursor ending
+-- The next piece was written, after which so many rows are left; or a part of it, where a write failed; or nothing, where
+-- memory was refused.
+abbrev pub GivesNext : Known → Progress → Progress → Result (Option ℕ) Failed → Option (List ℕ) → Option (List ℕ) → Type 0
+GivesNext k before after (Ok None) taken taken' = taken' ≡ taken
+GivesNext k before after (Ok (Some pending)) taken taken' =
+    GivesOne k before after (Ok (Some pending)) taken taken' × (pending ≡ length (rows_at k (length k.seen) after.follower))
+GivesNext k before after (Err failed) taken taken' = GivesOne k before after (Err failed) taken taken'
 
--- The turn of a request: its text was written, or a part of it.
-pub record WritesTurn (old new : Known) (request : Request) (result : Result Bool Failed) (taken taken' : Option (List ℕ)) : Type 0 where
-  pub turn : Turn
-  pub of_request : turn.item ≡ Requested request
-  pub answers : Answers old turn new
-  pub closes : IsTrue request.closes → IsTrue turn.closes
-  pub writes : Writes taken taken' result turn.text
-  pub tells : IfOk result (λ c. c ≡ turn.closes)
+module _ {S : Type 0} (goes : S → Deed → S → Type 0) (known : S → Known) (turns : ℕ) where
+  -- A feed was given from its start on, with this text behind its head, whole or not.
+  pub record GoesOn (old new : S) (start : Progress) (whole : Bool) (text : List ℕ) : Type 0 where
+    pub looks : Looks (known old) (known new)
+    pub pieces : List Piece
+    pub deeds : List Deed
+    pub ending : Ending
+    pub after : Progress
+    pub gives : GivesFeed goes known turns (record { progress = start; session = old }) pieces deeds ending new
+    pub runs : FoldsTo (GivesPiece (known new)) start pieces after
+    pub ends : EndsBy (known new) after ending
+    pub places : NoneFalls (length (known old).seen) (feed_places pieces ending ++ length (known new).seen ∷ [])
+    pub said : text ≡ pieces_text pieces ++ ending_text after.follower.cursor ending
+    pub may_be_whole : MayBeWhole ending whole
+
+  -- The turn of a request: its text was written, or a part of it.
+  pub record WritesTurn (old new : S) (request : Request) (result : Result Bool Failed) (taken taken' : Option (List ℕ)) : Type 0 where
+    pub turn : Turn
+    pub of_request : turn.item ≡ Requested request
+    pub answers : Answers goes known turns old turn new
+    pub closes : IsTrue request.closes → IsTrue turn.closes
+    pub writes : Writes taken taken' result turn.text
+    pub whole : turn.whole ≡ is_ok result
+    pub tells : IfOk result (λ c. c ≡ turn.closes)

@@ -1,12 +1,16 @@
+pub mod Deeds
 pub mod Known
 pub mod Calls
 pub mod Changes
+pub mod Doing
 pub mod Feed
+pub mod Feeding
 pub mod Outcome
 pub mod Answers
 pub mod Connection
 pub mod Response
 pub mod Replies
+pub mod Polling
 pub mod Going
 pub mod Sessions
 pub mod Listening

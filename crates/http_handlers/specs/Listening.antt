@@ -1,19 +1,35 @@
 -- What a worker does with the session that it is lent.
-use Rattle.std.specs.Prelude.{ℕ, ◌<◌, ◌≤◌, List, length}
+use Rattle.std.specs.Prelude.{◌≡◌, ℕ, ◌==◌, List, length, Option, None, Some, if◌then◌else◌}
 use Rattle.std.specs.List.{FoldsTo}
 use Rattle.serving.specs.Served.{Streams}
 use Rattle.serving.specs.declared.outcome.Ended.{Ended}
 use Rattle.http_handlers.specs.Known.{Known}
 use Rattle.http_handlers.specs.Connection.{IsConnection}
+use Rattle.http_handlers.specs.Deeds.{Deed}
 
--- a connection of a session, whatever its socket gave and took
-pub record Serves (old : Known) (ended : Ended) (new : Known) : Type 0 where
-  pub before : Streams
-  pub after : Streams
-  pub connection : IsConnection before after old new ended
+-- how many connections are accepted where no number ends them
+unfoldable pub no_end : ℕ
+no_end = 18446744073709551615
 
--- connections of a session one after the other, at most so many where the number is not 0
-pub record ServesAll (connections : ℕ) (old new : Known) : Type 0 where
-  pub ends : List Ended
-  pub runs : FoldsTo Serves old ends new
-  pub at_most : 0 < connections → length ends ≤ connections
+-- how many connections are accepted, where 0 stands for no end
+abbrev pub most_connections : ℕ → ℕ
+most_connections connections = if connections == 0 then no_end else connections
+
+module _ {S : Type 0} (goes : S → Deed → S → Type 0) (known : S → Known) (turns : ℕ) where
+  -- a connection of a session, whatever its socket gave and took
+  pub record Serves (old : S) (ended : Ended) (new : S) : Type 0 where
+    pub before : Streams
+    pub after : Streams
+    pub connection : IsConnection goes known turns before after old new ended
+
+  -- a connection was served, or could not be accepted
+  abbrev pub Accepts : S → Option Ended → S → Type 0
+  Accepts old (Some ended) new = Serves old ended new
+  Accepts old None new = new ≡ old
+
+  -- Connections of a session one after the other, exactly so many with those that could not be accepted; 2^64 - 1 where the
+  -- number is 0.
+  pub record ServesAll (connections : ℕ) (old new : S) : Type 0 where
+    pub accepted : List (Option Ended)
+    pub runs : FoldsTo Accepts old accepted new
+    pub all : length accepted ≡ most_connections connections

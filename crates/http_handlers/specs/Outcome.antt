@@ -1,5 +1,5 @@
 -- What becomes of a request, and the text that tells it.
-use Rattle.std.specs.Prelude.{◌≡◌, ℕ, ◌⊎◌, ◌≤◌, Bool, true, List, [], ◌∷◌, ◌++◌, length, Option, Some, IfSome, Result, Ok, Err, if◌then◌else◌, ⊤}
+use Rattle.std.specs.Prelude.{◌≡◌, ℕ, ◌⊎◌, ◌≤◌, Bool, true, List, [], ◌∷◌, ◌++◌, length, Some, Result, Ok, Err, if◌then◌else◌, ⊤}
 use Rattle.std.specs.List.{FoldsTo}
 use Rattle.model.specs.Command.{Entry}
 use Rattle.model.specs.Query.{Query, Answer}
@@ -23,13 +23,12 @@ use Rattle.http_response.specs.declared.connection.Connection.{Connection as Aft
 use Rattle.http_response.specs.declared.connection.Connection.TheVariants as after
 use Rattle.http_response.specs.declared.memory.MemoryFor.TheVariants as memory_for
 use Rattle.http_response.specs.declared.no_service.Unavailable.{Unavailable}
-use Rattle.http_response.specs.declared.no_service.Unavailable.TheVariants as unavailable
 use Rattle.serving.specs.Turn.{Turn}
 use Rattle.http_handlers.specs.Known.{Known, HasEntryAt, database_at}
 use Rattle.http_handlers.specs.Changes.{MayWait, changes_query}
-use Rattle.http_handlers.specs.Feed.{Piece, Ending, GivesPiece, EndsFeed, ending_text, feed_places, feed_start, pieces_text}
+use Rattle.http_handlers.specs.Deeds.{Deed}
+use Rattle.http_handlers.specs.Feed.{Piece, Ending, GivesPiece, EndsBy, MayBeWhole, ending_text, feed_places, feed_start, pieces_text}
 use Rattle.http_handlers.specs.declared.progress.Progress.{Progress}
-use Rattle.http_handlers.specs.Calls.{CommandFails, LookFails}
 
 -- what becomes of what stands on a connection
 pub data Outcome : Type 0 where
@@ -41,18 +40,18 @@ pub data Outcome : Type 0 where
   WroteUntold : Form → Entry → Outcome
   -- the query, which was asked at this place or at the one that the response names, has this answer
   Read : ℕ → Query → Answer → Outcome
-  -- the rows of a feed were given, piece by piece, with a last line unless there was a fault
-  Fed : List Piece → Option Ending → Outcome
+  -- the rows of a feed were given, piece by piece, until it ended so
+  Fed : List Piece → Ending → Outcome
   -- memory was refused for a request, and no entry was written
   Memory : Outcome
   -- its call has no answer for this reason, and what was seen has no entry of it
   Failed : Unavailable → Outcome
 
--- what became of an item, the place that the response names, and the entries that the session had seen then
+-- what became of an item, the place that the response names, and the calls that the session made for it
 pub record Placed : Type 0 where
   pub place : ℕ
   pub outcome : Outcome
-  pub seen : List Entry
+  pub deeds : List Deed
 
 -- all places that an outcome speaks of, with the one that its response names
 abbrev pub places_spoken : ℕ → Outcome → List ℕ
@@ -89,13 +88,6 @@ abbrev pub Asks : Item → Asking → Type 0
 Asks (Requested request) asking = decide request ≡ Ok asking
 Asks (Refused fault) asking = ⊥
 
--- a call for what is asked may have no answer for this reason
-abbrev pub CanFail : Asking → Unavailable → Type 0
-CanFail asked.Welcome why = ⊥
-CanFail (asked.Command form command) why = CommandFails command why
-CanFail (asked.Query query) why = LookFails why
-CanFail (asked.Changes changes) why = LookFails why
-
 -- what a response says of the connection
 abbrev pub after_closing : Bool → After
 after_closing closes = if closes then after.Close else after.Open
@@ -117,10 +109,6 @@ HasFixedText place (Refused fault) text = text ≡ closing_text place fault
 abbrev pub SaysNoMemory : ℕ → Item → List ℕ → Type 0
 SaysNoMemory place (Requested request) text = text ≡ no_memory_text place (extent_of request) memory_for.Call
 SaysNoMemory place (Refused fault) text = ⊥
-
--- a full history has as many entries as there is room for
-abbrev pub IsFullAt : Known → ℕ → Unavailable → Type 0
-IsFullAt k place why = why ≡ unavailable.Full → place ≡ k.room
 
 -- by what a session knows
 module _ (k : Known) where
@@ -147,22 +135,15 @@ module _ (k : Known) where
     pub told : Tells (base_of k.base) k.seen (AskedAt k.number query place answer)
 
   -- The item is a request for a feed that goes on: its head names the place where it begins, and then come its pieces.
-  pub record IsFed (item : Item) (place : ℕ) (pieces : List Piece) (ending : Option Ending) (text : List ℕ) : Type 0 where
+  pub record IsFed (item : Item) (place : ℕ) (pieces : List Piece) (ending : Ending) (text : List ℕ) : Type 0 where
     pub changes : ChangesAsked
     pub asked : Asks item (asked.Changes changes)
     pub goes_on : changes.feed ≡ feed.Continuous
     pub within : place ≤ length k.seen
     pub after : Progress
     pub runs : FoldsTo (GivesPiece k) (feed_start (database_at k place) changes) pieces after
-    pub ends : IfSome ending (EndsFeed k after)
+    pub ends : EndsBy k after ending
     pub said : text ≡ feed_head_text place ++ (pieces_text pieces ++ ending_text after.follower.cursor ending)
-
-  -- the item is a request for a call that has no answer for this reason
-  pub record IsNotTaken (item : Item) (place : ℕ) (why : Unavailable) : Type 0 where
-    pub asking : Asking
-    pub asked : Asks item asking
-    pub fails : CanFail asking why
-    pub full : IsFullAt k place why
 
   -- the text of the turn tells what became of its item, by what the session knows
   abbrev pub TellsAt : Turn → ℕ → Outcome → Type 0
@@ -179,11 +160,10 @@ module _ (k : Known) where
       IsRead turn.item first place query answer
       × (Some turn.text ≡ answer_text place (after_closing turn.closes) query answer)
       × (turn.closes ≡ closes_connection turn.item)
-  TellsAt turn place (Fed pieces ending) = IsFed turn.item place pieces ending turn.text × (turn.closes ≡ true)
+  TellsAt turn place (Fed pieces ending) = IsFed turn.item place pieces ending turn.text × (turn.closes ≡ true) × MayBeWhole ending turn.whole
   TellsAt turn place Memory = SaysNoMemory place turn.item turn.text × (turn.closes ≡ true)
   TellsAt turn place (Failed why) =
-      IsNotTaken turn.item place why
-      × (turn.text ≡ unavailable_text place (after_closing turn.closes) why)
+      (turn.text ≡ unavailable_text place (after_closing turn.closes) why)
       × (turn.closes ≡ closes_connection turn.item)
 
   abbrev pub IsToldAt : Turn → Placed → Type 0

@@ -12,9 +12,9 @@ use Rattle.http_handlers.specs.declared.calls.CallFault.{CallFault}
 use Rattle.http_handlers.specs.declared.calls.CallFault.TheVariants as fault
 use Rattle.http_handlers.specs.declared.response.Sent.{Sent}
 
--- the turn of an item that has this response
+-- the turn of an item that has this response, which is written whole
 abbrev pub turn_of : Item → Sent → Turn
-turn_of item sent = record { item = item; text = sent.response; closes = sent.closes }
+turn_of item sent = record { item = item; text = sent.response; closes = sent.closes; whole = true }
 
 -- it sends this text
 abbrev pub Sends : List ℕ → Bool → Sent → Type 0

@@ -1,10 +1,10 @@
 //! What connections ask of a session.
+ghost use Rattle.http_handlers.specs.Calls.{Learns};
+ghost use Rattle.http_handlers.specs.Deeds as deed;
+ghost use Rattle.http_handlers.specs.Deeds.{Deed};
 ghost use Rattle.http_handlers.specs.Known.{Known, history_of};
-ghost use Rattle.http_handlers.specs.Calls.{CommandFails, FailsFor, LookFails, Looks, WritesCall};
-ghost use Rattle.http_handlers.specs.declared.calls.CallFault.TheVariants as fault;
-ghost use Rattle.http_response.specs.declared.no_service.Unavailable.TheVariants as unavailable;
-ghost use Rattle.model.specs.History.{IsLegal, now, base_of};
-ghost use Rattle.std.specs.Prelude.{◌≡◌, ◌≢◌, length, nat_lt, Err, IfOk, IfErr, OnErr};
+ghost use Rattle.model.specs.History.{IsLegal, base_of};
+ghost use Rattle.std.specs.Prelude.{◌≡◌, length};
 
 use commands::Command;
 use http_response::Unavailable;
@@ -21,9 +21,15 @@ pub enum CallFault {
 }
 
 /// Sees the history of a database grow.
+///
+/// Each of its calls is told by two relations. `goes` is its own: code that knows no more of it can't claim a call that it
+/// didn't make, nor another answer. `Learns` says what is known then, whatever it is.
 pub trait Viewer {
     /// What it knows.
     ghost known: { Self → Known };
+
+    /// It goes from one state to another by this call with its answer.
+    ghost goes: { Self → Deed → Self → Type 0 };
 
     /// The number of entries that were seen.
     fn place(&self) -> u64
@@ -41,9 +47,8 @@ pub trait Viewer {
     /// [`CallFault::Unavailable`] where the session is lost or can't enter to read. It then sees what it
     /// saw.
     fn refresh(&mut self) -> Result<(), CallFault>
-        ensures looks { Looks (known self.old) (known self.new) }
-        ensures no_memory { result ≢ Err fault.Memory }
-        ensures fault { IfErr result (FailsFor LookFails) };
+        ensures goes { goes self.old (deed.Refreshed result) self.new }
+        ensures learns { Learns (known self.old) (deed.Refreshed result) (known self.new) };
 }
 
 /// A session of a database, whose calls that wait do so by the context `X`.
@@ -52,15 +57,11 @@ pub trait Calls<X>: Viewer {
     ///
     /// # Errors
     ///
-    /// After each but [`Unavailable::Lost`] the call left no entry. After that one it may stand, and the
-    /// session never sees it.
+    /// After each but [`Unavailable::Lost`] the call left no entry. After that one it may stand, the
+    /// session never sees it, and all later calls answer the same.
     fn write(&mut self, context: &X, command: Command) -> Result<u64, CallFault>
-        ensures written { IfOk result (λ place.
-            WritesCall (Self.known self.old) command place (Self.known self.new)) }
-        ensures none { OnErr result (Looks (Self.known self.old) (Self.known self.new)) }
-        ensures fault { IfErr result (FailsFor (CommandFails command)) }
-        ensures full { result ≡ Err (fault.Unavailable unavailable.Full)
-            → length (Self.known self.new).seen ≡ (Self.known self.new).room };
+        ensures goes { Self.goes self.old (deed.Wrote command result) self.new }
+        ensures learns { Learns (Self.known self.old) (deed.Wrote command result) (Self.known self.new) };
 
     /// Looks at most `turns` times, and once where that is 0, until what was seen has an update
     /// number above `seq`, and says whether it has. It takes no memory. Calls of one turn, one after
@@ -70,9 +71,6 @@ pub trait Calls<X>: Viewer {
     ///
     /// As [`refresh`](Viewer::refresh), at the first look that is refused.
     fn wait_past(&mut self, context: &X, seq: u64, turns: u64) -> Result<bool, CallFault>
-        ensures past { IfOk result (λ past.
-            past ≡ nat_lt seq (now (history_of (Self.known self.new))).update_seq) }
-        ensures looks { Looks (Self.known self.old) (Self.known self.new) }
-        ensures no_memory { result ≢ Err fault.Memory }
-        ensures fault { IfErr result (FailsFor LookFails) };
+        ensures goes { Self.goes self.old (deed.Waited seq turns result) self.new }
+        ensures learns { Learns (Self.known self.old) (deed.Waited seq turns result) (Self.known self.new) };
 }

@@ -29,8 +29,8 @@ struct Lent<'s, S> {
 
 impl<'s, 'c, X, S: Calls<X>> Service<Setting<'c, X>> for Lent<'s, S> {
     // It stays the same session.
-    ghost answers = { λ _ old turn new.
-        Answers (S.known old.session.now) turn (S.known new.session.now)
+    ghost answers = { λ setting old turn new.
+        Answers S.goes S.known setting old.session.now turn new.session.now
         × (new.session.ghost_name ≡ old.session.ghost_name) };
 
     fn answer<W: Sink>(
@@ -54,7 +54,9 @@ impl<'s, 'c, X, S: Calls<X>> Service<Setting<'c, X>> for Lent<'s, S> {
         writer: &mut W,
     ) -> Result<(), Failed> {
         let sent = refuse(&*self.session, fault);
-        send(writer, &sent)?;
+        let Ok(_closes) = send(writer, &sent) else {
+            return Err(Failed);
+        };
         Ok(())
     }
 }
@@ -69,7 +71,7 @@ pub fn serve<R: Source, W: Sink, X, S: Calls<X>>(
     session: &mut S,
     setting: &Setting<'_, X>,
 ) -> Ended
-    ensures connection { IsConnection
+    ensures connection { IsConnection S.goes S.known setting.now
         (record {
           left = R.left reader.old;
           failed_reads = R.failed_reads reader.old;
@@ -82,7 +84,7 @@ pub fn serve<R: Source, W: Sink, X, S: Calls<X>>(
           taken = W.taken writer.new;
           failed_writes = W.failed_writes writer.new;
         })
-        (S.known session.old) (S.known session.new) result }
+        session.old session.new result }
 {
     let Ok(mut window) = Window::new(alloc) else {
         let _place = session.place();
@@ -99,7 +101,7 @@ pub(crate) fn serve_in<R: Source, W: Sink, X, S: Calls<X>>(
     session: &mut S,
     setting: &Setting<'_, X>,
 ) -> Ended
-    ensures connection { IsConnection
+    ensures connection { IsConnection S.goes S.known setting.now
         (record {
           left = R.left reader.old;
           failed_reads = R.failed_reads reader.old;
@@ -112,7 +114,7 @@ pub(crate) fn serve_in<R: Source, W: Sink, X, S: Calls<X>>(
           taken = W.taken writer.new;
           failed_writes = W.failed_writes writer.new;
         })
-        (S.known session.old) (S.known session.new) result }
+        session.old session.new result }
 {
     let mut lent = Lent { session };
     serve_lent(window, reader, writer, &mut lent, setting)
@@ -127,7 +129,7 @@ fn serve_lent<R: Source, W: Sink, X, S: Calls<X>>(
     setting: &Setting<'_, X>,
 ) -> Ended
     ensures same { lent.new.session.ghost_name ≡ lent.old.session.ghost_name }
-    ensures connection { IsConnection
+    ensures connection { IsConnection S.goes S.known setting.now
         (record {
           left = R.left reader.old;
           failed_reads = R.failed_reads reader.old;
@@ -140,7 +142,7 @@ fn serve_lent<R: Source, W: Sink, X, S: Calls<X>>(
           taken = W.taken writer.new;
           failed_writes = W.failed_writes writer.new;
         })
-        (S.known lent.old.session.now) (S.known lent.new.session.now) result }
+        lent.old.session.now lent.new.session.now result }
 {
     let ended = serving::serve(window, reader, writer, lent, setting);
     let _place = lent.session.place();

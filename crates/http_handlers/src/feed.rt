@@ -1,13 +1,16 @@
 //! Feeds that go on as changes come.
-ghost use Rattle.std.specs.Prelude.{◌≡◌, ℕ, List, length, true, false, Ok, IfOk, string_bytes};
+ghost use Rattle.std.specs.Prelude.{◌≡◌, ◌<◌, ◌++◌, ℕ, List, length, true, is_ok, Ok, IfOk, string_bytes};
 ghost use Rattle.http_framing.specs.Request as framing;
 ghost use Rattle.http_request.specs.Decide.{decide};
-ghost use Rattle.http_response.specs.Feed.{feed_last_text};
+ghost use Rattle.http_response.specs.Feed.{feed_head_text, feed_last_text};
 ghost use Rattle.streams.specs.Counts.{CountsFailure};
 ghost use Rattle.streams.specs.Writes.{Writes};
-ghost use Rattle.http_handlers.specs.Calls.{Looks};
-ghost use Rattle.http_handlers.specs.Feed.{Piece, GivesPiece, piece_text};
-ghost use Rattle.http_handlers.specs.Going.{GivesOne, GoesOn, WritesTurn};
+ghost use Rattle.model.specs.History.{now};
+ghost use Rattle.http_handlers.specs.Deeds.{Deed};
+ghost use Rattle.http_handlers.specs.Feed.{Piece, GivesPiece, feed_start, piece_text, rows_at};
+ghost use Rattle.http_handlers.specs.Feeding.{HasMore};
+ghost use Rattle.http_handlers.specs.Known.{history_of};
+ghost use Rattle.http_handlers.specs.Going.{GivesNext, GoesOn, WritesTurn};
 
 use crate::calls::{CallFault, Calls, Viewer};
 use crate::failing::fail;
@@ -35,7 +38,7 @@ pub(crate) fn follow<X, S: Calls<X>, W: Sink>(
     requires { changes.feed ≡ Feed.Continuous }
     ensures turn { (request : framing.Request) → decide request ≡ Ok (Asked.Changes changes)
         → request.closes ≡ closes
-        → WritesTurn (S.known session.old) (S.known session.new) request result
+        → WritesTurn S.goes S.known setting.now session.old session.new request result
         (W.taken writer.old) (W.taken writer.new) }
     ensures failures { CountsFailure (W.failed_writes writer.old)
         (W.failed_writes writer.new) result }
@@ -56,10 +59,12 @@ fn follow_seen<X, S: Calls<X>, W: Sink>(
     changes: ChangesAsked,
     writer: &mut W,
 ) -> Result<bool, Failed>
-    requires { changes.feed ≡ Feed.Continuous }
-    ensures turn { (request : framing.Request) → decide request ≡ Ok (Asked.Changes changes)
-        → WritesTurn (S.known session.old) (S.known session.new) request result
-        (W.taken writer.old) (W.taken writer.new) }
+    ensures goes_on { (text : List ℕ)
+        × GoesOn S.goes S.known setting.now session.old session.new
+        (feed_start (now (history_of (S.known session.old))) changes) (is_ok result) text
+        × Writes (W.taken writer.old) (W.taken writer.new) result
+        (feed_head_text (length (S.known session.old).seen) ++ text) }
+    ensures closes { IfOk result (λ closes. closes ≡ true) }
     ensures failures { CountsFailure (W.failed_writes writer.old)
         (W.failed_writes writer.new) result }
 {
@@ -81,7 +86,7 @@ fn go_on<X, S: Calls<X>, W: Sink>(
     writer: &mut W,
 ) -> Result<bool, Failed>
     ensures goes_on { (text : List ℕ)
-        × GoesOn (S.known session.old) (S.known session.new) start text
+        × GoesOn S.goes S.known setting.now session.old session.new start (is_ok result) text
         × Writes (W.taken writer.old) (W.taken writer.new) result text }
     ensures closes { IfOk result (λ closes. closes ≡ true) }
     ensures failures { CountsFailure (W.failed_writes writer.old)
@@ -115,10 +120,12 @@ fn has_more<X, S: Calls<X>>(
     progress: &Progress,
     pending: u64,
 ) -> Result<bool, CallFault>
-    ensures looks { Looks (S.known session.old) (S.known session.new) }
-    ensures none { result ≡ Ok false → pending ≡ 0 }
+    requires some { 0 < progress.now.left }
+    requires counts { pending ≡ length (rows_at (S.known session.old)
+        (length (S.known session.old).seen) progress.now.follower) }
+    ensures { (waits : List Deed) × HasMore S.goes S.known setting.now progress.now session.old waits
+        session.new result }
 {
-    let _place = session.place();
     if pending > 0 {
         return Ok(true);
     }
@@ -135,7 +142,7 @@ fn give<S: Viewer, W: Sink>(
     progress: &mut Progress,
     writer: &mut W,
 ) -> Result<Option<u64>, Failed>
-    ensures gives { GivesOne (S.known session.now) progress.old progress.new result
+    ensures gives { GivesNext (S.known session.now) progress.old progress.new result
         (W.taken writer.old) (W.taken writer.new) }
     ensures failures { CountsFailure (W.failed_writes writer.old)
         (W.failed_writes writer.new) result }

@@ -1,6 +1,6 @@
 //! Connections that come to a listener, each session with a worker of its own.
 ghost use Rattle.std.specs.Prelude.{◌≡◌, ℕ, ◌<◌, length, slice_index_or};
-ghost use Rattle.http_handlers.specs.Listening.{Serves, ServesAll};
+ghost use Rattle.http_handlers.specs.Listening.{Serves, ServesAll, most_connections};
 
 use crate::calls::Calls;
 use crate::connection::{serve, serve_in};
@@ -42,8 +42,8 @@ pub fn listen<R: Threads + Clock + Sync, X: Sync, S: Calls<X> + Send>(
 )
     ensures same_number { length sessions.new ≡ length sessions.old }
     ensures each { (i : ℕ) (d : S) → i < length sessions.old
-        → ServesAll connections (S.known (slice_index_or sessions.old i d))
-        (S.known (slice_index_or sessions.new i d)) }
+        → ServesAll S.goes S.known setting.now connections (slice_index_or sessions.old i d)
+        (slice_index_or sessions.new i d) }
 {
     let workers = sessions.len();
     if workers == 0 {
@@ -65,7 +65,7 @@ fn work<R: Clock, X, S: Calls<X>>(
     connections: u32,
     setting: &Setting<'_, X>,
 )
-    ensures { ServesAll connections (S.known session.old) (S.known session.new) }
+    ensures { ServesAll S.goes S.known setting.now connections session.old session.new }
 {
     let mut window = None;
     for _ in 0..most_of(connections) {
@@ -79,8 +79,9 @@ fn work<R: Clock, X, S: Calls<X>>(
 }
 
 /// The most connections, where 0 stands for no end.
+#[tactic(auto, unfolding(crate::specs::Listening::no_end))]
 fn most_of(connections: u32) -> u64
-    ensures { 0 < connections → result ≡ connections }
+    ensures { result ≡ most_connections connections }
 {
     if connections == 0 {
         return u64::MAX;
@@ -95,7 +96,7 @@ fn serve_socket<X, S: Calls<X>>(
     session: &mut S,
     setting: &Setting<'_, X>,
 ) -> Ended
-    ensures { Serves (S.known session.old) result (S.known session.new) }
+    ensures { Serves S.goes S.known setting.now session.old result session.new }
 {
     set_up(socket);
     if window.is_none() {

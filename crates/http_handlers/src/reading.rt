@@ -1,5 +1,5 @@
 //! Queries, and their answers.
-ghost use Rattle.std.specs.Prelude.{◌≡◌, length, Ok, Some, IfOk, IsSome};
+ghost use Rattle.std.specs.Prelude.{◌≡◌, List, length, Ok, Some, IfOk, IsSome};
 ghost use Rattle.http_framing.specs.Input.{Requested};
 ghost use Rattle.http_framing.specs.Request as framing;
 ghost use Rattle.http_request.specs.Decide.{decide};
@@ -10,12 +10,14 @@ ghost use Rattle.model.specs.History.{now};
 ghost use Rattle.model.specs.Answers.{answer_to};
 ghost use Rattle.model.specs.Query.{Changes};
 ghost use Rattle.http_handlers.specs.Answers.{Answers};
+ghost use Rattle.http_handlers.specs.Deeds.{Deed};
+ghost use Rattle.http_handlers.specs.Polling.{HasPolled, HasWaited};
 ghost use Rattle.http_handlers.specs.Known.{history_of};
 ghost use Rattle.http_handlers.specs.Changes.{since_at};
 ghost use Rattle.http_handlers.specs.Outcome.{after_closing};
 ghost use Rattle.http_handlers.specs.Response.{SendsDue, turn_of};
 
-use crate::calls::{Calls, Viewer};
+use crate::calls::{CallFault, Calls, Viewer};
 use crate::failing::fail;
 use crate::response::{Sent, connection_after};
 use crate::setting::Setting;
@@ -27,35 +29,38 @@ use queries::{Answer, Query, QueryKind};
 use std::alloc::{AllocError, Global};
 
 /// Looks, and answers a query by what is seen then.
-pub(crate) fn read<S: Viewer>(session: &mut S, alloc: Global, query: &Query, closes: bool) -> Sent
+pub(crate) fn read<X, S: Calls<X>>(
+    session: &mut S,
+    setting: &Setting<'_, X>,
+    query: &Query,
+    closes: bool,
+) -> Sent
     ensures { (request : framing.Request) → decide request ≡ Ok (Asked.Query query.now)
         → request.closes ≡ closes
-        → Answers (S.known session.old) (turn_of (Requested request) result)
-        (S.known session.new) }
+        → Answers S.goes S.known setting.now session.old (turn_of (Requested request) result) session.new }
 {
     match session.refresh() {
-        Ok(()) => read_seen(session, alloc, query, closes),
+        Ok(()) => read_seen(session, setting.alloc, query, closes),
         Err(fault) => fail(session, fault, closes),
     }
 }
 
 /// Answers which changes there are.
-pub(crate) fn read_changes<S: Viewer>(
+pub(crate) fn read_changes<X, S: Calls<X>>(
     session: &mut S,
-    alloc: Global,
+    setting: &Setting<'_, X>,
     changes: ChangesAsked,
     closes: bool,
 ) -> Sent
     requires { changes.feed ≡ Feed.Normal }
     ensures { (request : framing.Request) → decide request ≡ Ok (Asked.Changes changes)
         → request.closes ≡ closes
-        → Answers (S.known session.old) (turn_of (Requested request) result)
-        (S.known session.new) }
+        → Answers S.goes S.known setting.now session.old (turn_of (Requested request) result) session.new }
 {
     match session.refresh() {
         Ok(()) => {
             let since = since_seen(session, changes.since);
-            read_since(session, alloc, since, changes, closes)
+            read_since(session, setting.alloc, since, changes, closes)
         }
         Err(fault) => fail(session, fault, closes),
     }
@@ -71,36 +76,43 @@ pub(crate) fn poll_changes<X, S: Calls<X>>(
     requires { changes.feed ≡ Feed.LongPoll }
     ensures { (request : framing.Request) → decide request ≡ Ok (Asked.Changes changes)
         → request.closes ≡ closes
-        → Answers (S.known session.old) (turn_of (Requested request) result)
-        (S.known session.new) }
+        → Answers S.goes S.known setting.now session.old (turn_of (Requested request) result) session.new }
 {
-    match session.refresh() {
-        Ok(()) => poll_seen(session, setting, changes, closes),
+    match poll(session, setting, &changes) {
+        Ok(since) => read_since(session, setting.alloc, since, changes, closes),
         Err(fault) => fail(session, fault, closes),
     }
 }
 
-/// Answers which changes have been seen, and where there are none waits for some.
-fn poll_seen<X, S: Calls<X>>(
+/// Looks, and where there are no changes waits for some. It answers the number above which they are asked for.
+fn poll<X, S: Calls<X>>(
     session: &mut S,
     setting: &Setting<'_, X>,
-    changes: ChangesAsked,
-    closes: bool,
-) -> Sent
-    requires { changes.feed ≡ Feed.LongPoll }
-    ensures { (request : framing.Request) → decide request ≡ Ok (Asked.Changes changes)
-        → request.closes ≡ closes
-        → Answers (S.known session.old) (turn_of (Requested request) result)
-        (S.known session.new) }
+    changes: &ChangesAsked,
+) -> Result<u64, CallFault>
+    ensures { (deeds : List Deed) × HasPolled S.goes S.known setting.now changes.now session.old deeds session.new result }
 {
-    let _place = session.place();
+    match session.refresh() {
+        Ok(()) => wait_where_none(session, setting, changes),
+        Err(fault) => Err(fault),
+    }
+}
+
+/// Waits for changes, where none have been seen. It answers the number above which they are asked for.
+fn wait_where_none<X, S: Calls<X>>(
+    session: &mut S,
+    setting: &Setting<'_, X>,
+    changes: &ChangesAsked,
+) -> Result<u64, CallFault>
+    ensures { (waits : List Deed) × HasWaited S.goes S.known setting.now changes.now session.old waits session.new result }
+{
     let since = since_seen(session, changes.since);
     if has_changes(session, since, &changes.ids) {
-        return read_since(session, setting.alloc, since, changes, closes);
+        return Ok(since);
     }
     match wait_for_changes(session, setting, since, since, &changes.ids) {
-        Ok(_found) => read_since(session, setting.alloc, since, changes, closes),
-        Err(fault) => fail(session, fault, closes),
+        Ok(_came) => Ok(since),
+        Err(fault) => Err(fault),
     }
 }
 

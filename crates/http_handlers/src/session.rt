@@ -1,10 +1,10 @@
 //! A session that shares its database with other threads.
-ghost use Rattle.std.specs.Prelude.{◌≡◌, length, Err, IfOk, IfErr, OnErr};
+ghost use Rattle.std.specs.Prelude.{◌≡◌, true, false};
 ghost use Rattle.model.specs.Command.{Compact};
-ghost use Rattle.http_handlers.specs.Calls.{CompactionFails, EditFails, FailsFor, Looks, WritesCall};
-ghost use Rattle.http_handlers.specs.Sessions.{call_fault, known_of};
-ghost use Rattle.http_handlers.specs.declared.calls.CallFault.TheVariants as fault;
-ghost use Rattle.http_response.specs.declared.no_service.Unavailable.TheVariants as unavailable;
+ghost use Rattle.model.specs.World.{is_compact};
+ghost use Rattle.http_handlers.specs.Calls.{Learns};
+ghost use Rattle.http_handlers.specs.Deeds as deed;
+ghost use Rattle.http_handlers.specs.Sessions.{Goes, call_fault, known_of};
 
 use crate::calls::{CallFault, Calls, Viewer};
 use commands::Command;
@@ -16,7 +16,9 @@ use std::time::Clock;
 use updating::{Core, Gate, Opening};
 
 impl<C: Drop, J: Opening, G: Drop> Viewer for Session<C, J, G> {
-    ghost known = { λ s. known_of J.base J.max_places s };
+    ghost known = { λ s. known_of J.base J.config J.sessions J.capacity s };
+
+    ghost goes = { λ old deed new. Goes J.base J.config J.sessions J.capacity old deed new };
 
     fn place(&self) -> u64 {
         self.place()
@@ -59,13 +61,10 @@ fn edit<R: Wait + Drop, J: Opening, G: Gate + Drop, X: Wait>(
     rt: &X,
     command: Command,
 ) -> Result<u64, CallFault>
-    ensures written { IfOk result (λ place. WritesCall (known_of J.base J.max_places session.old)
-        command place (known_of J.base J.max_places session.new)) }
-    ensures none { OnErr result (Looks (known_of J.base J.max_places session.old)
-        (known_of J.base J.max_places session.new)) }
-    ensures fault { IfErr result (FailsFor EditFails) }
-    ensures full { result ≡ Err (fault.Unavailable unavailable.Full)
-        → length (known_of J.base J.max_places session.new).seen ≡ J.max_places }
+    requires edit { is_compact command ≡ false }
+    ensures goes { Goes J.base J.config J.sessions J.capacity session.old (deed.Wrote command result) session.new }
+    ensures learns { Learns (known_of J.base J.config J.sessions J.capacity session.old) (deed.Wrote command result)
+        (known_of J.base J.config J.sessions J.capacity session.new) }
 {
     let _place = session.place();
     match session.write(rt, command) {
@@ -79,13 +78,9 @@ fn compact<R: Wait + Drop, J: Opening, G: Gate + Drop, X: Wait>(
     session: &mut Session<Core<R, J>, J, G>,
     rt: &X,
 ) -> Result<u64, CallFault>
-    ensures written { IfOk result (λ place. WritesCall (known_of J.base J.max_places session.old)
-        Compact place (known_of J.base J.max_places session.new)) }
-    ensures none { OnErr result (Looks (known_of J.base J.max_places session.old)
-        (known_of J.base J.max_places session.new)) }
-    ensures fault { IfErr result (FailsFor CompactionFails) }
-    ensures full { result ≡ Err (fault.Unavailable unavailable.Full)
-        → length (known_of J.base J.max_places session.new).seen ≡ J.max_places }
+    ensures goes { Goes J.base J.config J.sessions J.capacity session.old (deed.Wrote Compact result) session.new }
+    ensures learns { Learns (known_of J.base J.config J.sessions J.capacity session.old) (deed.Wrote Compact result)
+        (known_of J.base J.config J.sessions J.capacity session.new) }
 {
     let _place = session.place();
     match session.compact(rt) {

@@ -1,5 +1,5 @@
 //! The turns of a session.
-ghost use Rattle.std.specs.Prelude.{◌≡◌, Ok};
+ghost use Rattle.std.specs.Prelude.{◌≡◌, ℕ, Ok};
 ghost use Rattle.http_framing.specs.Input.{Requested, Refused};
 ghost use Rattle.http_framing.specs.Request as framing;
 ghost use Rattle.http_request.specs.Decide.{decide};
@@ -24,7 +24,7 @@ pub(crate) fn respond<X, S: Calls<X>>(
     setting: &Setting<'_, X>,
     request: &Request<'_>,
 ) -> Reply
-    ensures { Replies request.now (S.known session.old) result (S.known session.new) }
+    ensures { Replies S.goes S.known setting.now request.now session.old result session.new }
 {
     let place = session.place();
     let closes = request.closes();
@@ -51,13 +51,13 @@ fn carry_out<X, S: Calls<X>>(
     requires { HasForm asked }
     ensures { (request : framing.Request) → decide request ≡ Ok asked
         → request.closes ≡ closes
-        → Replies request (S.known session.old) result (S.known session.new) }
+        → Replies S.goes S.known setting.now request session.old result session.new }
 {
     match asked {
         Asked::Command(form, command) => {
             Reply::Sent(write(session, setting, form, command, closes))
         }
-        Asked::Query(query) => Reply::Sent(read(session, setting.alloc, &query, closes)),
+        Asked::Query(query) => Reply::Sent(read(session, setting, &query, closes)),
         Asked::Changes(changes) => tell_changes(session, setting, changes, closes),
         Asked::Welcome => {
             let response = welcome(session.place(), connection_after(closes));
@@ -75,10 +75,10 @@ fn tell_changes<X, S: Calls<X>>(
 ) -> Reply
     ensures { (request : framing.Request) → decide request ≡ Ok (Asked.Changes changes)
         → request.closes ≡ closes
-        → Replies request (S.known session.old) result (S.known session.new) }
+        → Replies S.goes S.known setting.now request session.old result session.new }
 {
     match changes.feed {
-        Feed::Normal => Reply::Sent(read_changes(session, setting.alloc, changes, closes)),
+        Feed::Normal => Reply::Sent(read_changes(session, setting, changes, closes)),
         Feed::LongPoll => Reply::Sent(poll_changes(session, setting, changes, closes)),
         Feed::Continuous => Reply::Feed(changes),
     }
@@ -86,8 +86,7 @@ fn tell_changes<X, S: Calls<X>>(
 
 /// Answers bytes that are refused.
 pub(crate) fn refuse<S: Viewer>(session: &S, fault: FramingFault) -> Sent
-    ensures { Answers (S.known session.now) (turn_of (Refused fault) result)
-        (S.known session.now) }
+    ensures { (turns : ℕ) → Answers S.goes S.known turns session.now (turn_of (Refused fault) result) session.now }
 {
     Sent {
         response: closing(session.place(), fault),

@@ -1,20 +1,21 @@
 //! Waits for changes.
-ghost use Rattle.std.specs.Prelude.{◌≡◌, [], false, IfErr};
+ghost use Rattle.std.specs.Prelude.{◌≡◌, List, max};
 ghost use Rattle.model.specs.History.{now};
-ghost use Rattle.model.specs.Changes.{rows_since, wanted_by};
-ghost use Rattle.model.specs.declared.style.Style.{Style};
-ghost use Rattle.http_handlers.specs.Calls.{FailsFor, LookFails, Looks};
+ghost use Rattle.http_handlers.specs.Changes.{has_changes};
+ghost use Rattle.http_handlers.specs.Deeds.{Deed};
+ghost use Rattle.http_handlers.specs.Doing.{WaitsFor, WaitsTurn, WaitsTurns};
 ghost use Rattle.http_handlers.specs.Known.{history_of};
 
 use crate::calls::{CallFault, Calls, Viewer};
+use crate::reading::since_seen;
 use crate::setting::Setting;
 use changes_feed::count_wanted;
 use document_id::DocIds;
+use http_request::Since;
 
 /// Whether documents that are wanted have been seen with an update number above `since`.
 pub(crate) fn has_changes<S: Viewer>(session: &S, since: u64, ids: &Option<DocIds>) -> bool
-    ensures { (style : Style) → result ≡ false
-        → rows_since (wanted_by ids.now) (now (history_of (S.known session.now))) since style ≡ [] }
+    ensures { result ≡ has_changes (now (history_of (S.known session.now))) since ids.now }
 {
     count_wanted(session.version(), since, ids) > 0
 }
@@ -28,8 +29,8 @@ pub(crate) fn wait_for_changes<X, S: Calls<X>>(
     cursor: u64,
     ids: &Option<DocIds>,
 ) -> Result<bool, CallFault>
-    ensures looks { Looks (S.known session.old) (S.known session.new) }
-    ensures fault { IfErr result (FailsFor LookFails) }
+    ensures { (deeds : List Deed) × WaitsFor S.goes S.known setting.now past cursor ids.now
+        session.old deeds session.new result }
 {
     match ids {
         Some(_) => wait_for_some(session, setting, cursor, ids),
@@ -44,10 +45,9 @@ fn wait_for_some<X, S: Calls<X>>(
     cursor: u64,
     ids: &Option<DocIds>,
 ) -> Result<bool, CallFault>
-    ensures looks { Looks (S.known session.old) (S.known session.new) }
-    ensures fault { IfErr result (FailsFor LookFails) }
+    ensures { (deeds : List Deed) × WaitsTurns S.goes S.known (max setting.now 1) cursor ids.now
+        session.old deeds session.new result }
 {
-    let _place = session.place();
     for _turn in 0..setting.turns.max(1) {
         match wait_a_turn(session, setting, cursor, ids) {
             Ok(true) => return Ok(true),
@@ -66,10 +66,9 @@ fn wait_a_turn<X, S: Calls<X>>(
     cursor: u64,
     ids: &Option<DocIds>,
 ) -> Result<bool, CallFault>
-    ensures looks { Looks (S.known session.old) (S.known session.new) }
-    ensures fault { IfErr result (FailsFor LookFails) }
+    ensures { (deed : Deed) × WaitsTurn S.goes S.known cursor ids.now session.old deed session.new result }
 {
-    let seen = session.version().database().documents().update_seq();
+    let seen = since_seen(session, Since::Now);
     match session.wait_past(setting.context, seen, 1) {
         Ok(true) => Ok(has_changes(session, cursor.max(seen), ids)),
         Ok(false) => Ok(false),

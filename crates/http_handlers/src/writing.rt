@@ -33,8 +33,7 @@ pub(crate) fn write<X, S: Calls<X>>(
     requires { IsFormOf form command }
     ensures { (request : framing.Request) → decide request ≡ Ok (Asked.Command form command)
         → request.closes ≡ closes
-        → Answers (S.known session.old) (turn_of (Requested request) result)
-        (S.known session.new) }
+        → Answers S.goes S.known setting.now session.old (turn_of (Requested request) result) session.new }
 {
     match session.write(setting.context, command) {
         Ok(place) => tell_reply(session, setting.alloc, place, form, closes),

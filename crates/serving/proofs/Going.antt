@@ -11,7 +11,7 @@ use Rattle.std.proofs.lemmas.Fn.{FoldsTo-push}
 use Rattle.streams.specs.Counts.{CountRose}
 use Rattle.http_framing.specs.Input.{Item, Begins, Splits, AreOpen, IsUnfinished, closes_connection}
 use Rattle.http_framing.proofs.More.{Splits-append, Splits-push}
-use Rattle.serving.specs.Turn.{Turn, TakesTurn, items_of, responses_of, GoesOn}
+use Rattle.serving.specs.Turn.{Turn, TakesTurn, items_of, responses_of, AreWhole, GoesOn}
 use Rattle.serving.specs.Served.{Streams, Served, EndsInput, EndsBy, CountsReads, CountsWrites}
 use Rattle.serving.specs.declared.outcome.Cause.{Cause}
 use Rattle.serving.specs.declared.outcome.Cause.TheVariants as cause
@@ -32,6 +32,7 @@ pub record Going {T : Type 0} (answers : T → Turn → T → Type 0) (before no
   pub writes : Appends before.taken now.taken (responses_of turns)
   pub count : answered ≡ length turns
   pub goes_on : GoesOn turns
+  pub whole : AreWhole turns
   pub are_open : AreOpen (items_of turns)
   pub failed_reads : now.failed_reads ≡ before.failed_reads
   pub failed_writes : now.failed_writes ≡ before.failed_writes
@@ -46,6 +47,7 @@ module _ {T : Type 0} {answers : T → Turn → T → Type 0} where
     writes = Appends-nil streams.taken;
     count = refl;
     goes_on = All-nil (λ (turn : Turn). IsFalse turn.closes);
+    whole = All-nil (λ (turn : Turn). IsTrue turn.whole);
     are_open = All-nil (λ (item : Item). IsFalse (closes_connection item));
     failed_reads = refl;
     failed_writes = refl;
@@ -72,10 +74,10 @@ module _ {T : Type 0} {answers : T → Turn → T → Type 0} where
 
   -- the connection goes on after the turn
   pub going-on : {before now later : Streams} {old state new : T} {n : ℕ} {turns : List Turn} {rest : List ℕ} {item : Item} {turn : Turn} {after : List ℕ}
-      → Going answers before now old state n turns rest → TakesTurn answers state new item turn → Begins rest item after → IsFalse turn.closes
+      → Going answers before now old state n turns rest → TakesTurn answers state new item turn → Begins rest item after → IsFalse turn.closes → IsTrue turn.whole
       → later.left ≡ now.left → later.failed_reads ≡ now.failed_reads → Appends now.taken later.taken turn.text → later.failed_writes ≡ now.failed_writes
       → Going answers before later old new (n + 1) (turns ++ turn ∷ []) after
-  going-on {before = before} {later = later} {turns = turns} {item = item} {turn = turn} {after = after} going takes begins goes_on left reads appends writes =
+  going-on {before = before} {later = later} {turns = turns} {item = item} {turn = turn} {after = after} going takes begins goes_on whole left reads appends writes =
       let opens = is_open (closes_connection item) turn.closes takes.closes goes_on in
       let opens_turn : IsFalse (closes_connection turn.item) = subst (λ (i : Item). IsFalse (closes_connection i)) (sym takes.of_item) opens in
       let items = map-append (λ (t : Turn). t.item) turns (turn ∷ []) in
@@ -87,6 +89,7 @@ module _ {T : Type 0} {answers : T → Turn → T → Type 0} where
         writes = writes-taken turn later.taken going appends;
         count = omega (arith, going.count, length-append turns (turn ∷ []));
         goes_on = All-push (λ (t : Turn). IsFalse t.closes) turns turn going.goes_on goes_on;
+        whole = All-push (λ (t : Turn). IsTrue t.whole) turns turn going.whole whole;
         are_open = subst AreOpen (sym items) (All-push (λ (i : Item). IsFalse (closes_connection i)) (items_of turns) turn.item going.are_open opens_turn);
         failed_reads = reads ∙ going.failed_reads;
         failed_writes = writes ∙ going.failed_writes;
@@ -94,10 +97,10 @@ module _ {T : Type 0} {answers : T → Turn → T → Type 0} where
 
   -- the connection closes after the turn
   pub served-closed : {before now later : Streams} {old state new : T} {n : ℕ} {turns : List Turn} {rest : List ℕ} {item : Item} {turn : Turn} (after : List ℕ)
-      → Going answers before now old state n turns rest → TakesTurn answers state new item turn → Begins rest item after → IsTrue turn.closes
+      → Going answers before now old state n turns rest → TakesTurn answers state new item turn → Begins rest item after → IsTrue turn.closes → IsTrue turn.whole
       → later.left ≡ now.left → later.failed_reads ≡ now.failed_reads → Appends now.taken later.taken turn.text → later.failed_writes ≡ now.failed_writes
       → Served answers before later old new (record { answered = n + 1; cause = cause.Closed })
-  served-closed {before = before} {later = later} {turns = turns} {turn = turn} after going takes begins closes left reads appends writes = record {
+  served-closed {before = before} {later = later} {turns = turns} {turn = turn} after going takes begins closes whole left reads appends writes = record {
     read = going.read;
     turns = turns ++ turn ∷ [];
     cut = None;
@@ -106,6 +109,8 @@ module _ {T : Type 0} {answers : T → Turn → T → Type 0} where
     reads = subst (λ (l : Option (List ℕ)). Consumes before.left l going.read) (sym left) going.reads;
     splits = splits-taken after going takes begins;
     runs = FoldsTo-push answers _ turns _ turn _ going.runs takes.answered;
+    whole = All-push (λ (t : Turn). IsTrue t.whole) turns turn going.whole whole;
+    not_whole = tt;
     writes = subst (Appends before.taken later.taken) (sym (append-nil _)) (writes-taken turn later.taken going appends);
     is_part = refl;
     answered = omega (arith, going.count, length-append turns (turn ∷ []));
@@ -116,10 +121,10 @@ module _ {T : Type 0} {answers : T → Turn → T → Type 0} where
 
   -- the response of the turn was cut
   pub served-cut : {before now later : Streams} {old state new : T} {n : ℕ} {turns : List Turn} {rest : List ℕ} {item : Item} {turn : Turn} (after : List ℕ)
-      → Going answers before now old state n turns rest → TakesTurn answers state new item turn → Begins rest item after
+      → Going answers before now old state n turns rest → TakesTurn answers state new item turn → Begins rest item after → IsFalse turn.whole
       → later.left ≡ now.left → later.failed_reads ≡ now.failed_reads → ((sent : ℕ) × (sent < length turn.text) × Appends now.taken later.taken (take sent turn.text)) → CountRose now.failed_writes later.failed_writes
       → Served answers before later old new (record { answered = n; cause = cause.WriteFault })
-  served-cut {before = before} {now = now} {later = later} {turns = turns} {turn = turn} after going takes begins left reads (sent, less, appends) rose = record {
+  served-cut {before = before} {now = now} {later = later} {turns = turns} {turn = turn} after going takes begins not_whole left reads (sent, less, appends) rose = record {
     read = going.read;
     turns = turns;
     cut = Some turn;
@@ -128,6 +133,8 @@ module _ {T : Type 0} {answers : T → Turn → T → Type 0} where
     reads = subst (λ (l : Option (List ℕ)). Consumes before.left l going.read) (sym left) going.reads;
     splits = splits-taken after going takes begins;
     runs = FoldsTo-push answers _ turns _ turn _ going.runs takes.answered;
+    whole = going.whole;
+    not_whole = not_whole;
     writes = Appends-trans before.taken now.taken later.taken _ _ going.writes appends;
     is_part = (sent, less, refl);
     answered = going.count;
@@ -150,6 +157,7 @@ module _ {T : Type 0} {answers : T → Turn → T → Type 0} where
     writes = subst (λ (t : Option (List ℕ)). Appends before.taken t (responses_of turns)) (sym taken) going.writes;
     count = going.count;
     goes_on = going.goes_on;
+    whole = going.whole;
     are_open = going.are_open;
     failed_reads = reads ∙ going.failed_reads;
     failed_writes = writes ∙ going.failed_writes;
@@ -170,6 +178,8 @@ module _ {T : Type 0} {answers : T → Turn → T → Type 0} where
     reads = Consumes-trans before.left now.left later.left going.read piece going.reads consumes;
     splits = Splits-append going.read piece (items_of turns) rest going.are_open going.splits;
     runs = going.runs;
+    whole = going.whole;
+    not_whole = tt;
     writes = subst (λ (t : Option (List ℕ)). Appends before.taken t (responses_of turns ++ [])) (sym taken) (subst (Appends before.taken now.taken) (sym (append-nil _)) going.writes);
     is_part = refl;
     answered = going.count;
@@ -192,6 +202,8 @@ module _ {T : Type 0} {answers : T → Turn → T → Type 0} where
     reads = going.reads;
     splits = going.splits;
     runs = going.runs;
+    whole = going.whole;
+    not_whole = tt;
     writes = subst (Appends before.taken now.taken) (sym (append-nil _)) going.writes;
     is_part = refl;
     answered = going.count;

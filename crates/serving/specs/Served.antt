@@ -1,10 +1,10 @@
 -- How the requests of a connection were served.
-use Rattle.std.specs.Prelude.{◌≡◌, ℕ, ◌<◌, List, [], ◌++◌, length, take, Option, None, Some, IsNone, IsSome}
+use Rattle.std.specs.Prelude.{◌≡◌, ℕ, ◌<◌, List, [], ◌++◌, length, take, Option, None, Some, IsNone, IsSome, IfSome, IsFalse}
 use Rattle.std.specs.List.{FoldsTo}
 use Rattle.std.specs.Io.KnownBytes.{Consumes, Appends, IsAtEnd}
 use Rattle.streams.specs.Counts.{CountRose}
 use Rattle.http_framing.specs.Input.{Splits, IsUnfinished}
-use Rattle.serving.specs.Turn.{Turn, all_turns, items_of, responses_of, GoesOn, ClosesAtLast}
+use Rattle.serving.specs.Turn.{Turn, all_turns, items_of, responses_of, AreWhole, GoesOn, ClosesAtLast}
 use Rattle.serving.specs.declared.outcome.Ended.{Ended}
 use Rattle.serving.specs.declared.outcome.Cause.{Cause}
 use Rattle.serving.specs.declared.outcome.Cause.TheVariants as cause
@@ -57,6 +57,8 @@ pub record Served {T : Type 0} (answers : T → Turn → T → Type 0) (before a
   pub reads : Consumes before.left after.left read
   pub splits : Splits read (items_of (all_turns turns cut)) rest
   pub runs : FoldsTo answers old (all_turns turns cut) new
+  pub whole : AreWhole turns
+  pub not_whole : IfSome cut (λ turn. IsFalse turn.whole)
   pub writes : Appends before.taken after.taken (responses_of turns ++ part)
   pub is_part : IsPartOf cut part
   pub answered : ended.answered ≡ length turns

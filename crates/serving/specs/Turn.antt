@@ -3,11 +3,13 @@ use Rattle.std.specs.Prelude.{◌≡◌, ℕ, Bool, IsTrue, IsFalse, List, [], �
 use Rattle.std.specs.List.{flat_map}
 use Rattle.http_framing.specs.Input.{Item, closes_connection}
 
--- an item that stood on the connection, the response to it, and whether the connection closes after that
+-- an item that stood on the connection, the response to it, whether the connection closes after that, and whether the
+-- whole response was written
 pub record Turn : Type 0 where
   pub item : Item
   pub text : List ℕ
   pub closes : Bool
+  pub whole : Bool
 
 -- the items that stood on the connection, in order
 abbrev pub items_of : List Turn → List Item
@@ -21,6 +23,10 @@ responses_of turns = flat_map (λ turn. turn.text) turns
 abbrev pub all_turns : List Turn → Option Turn → List Turn
 all_turns turns None = turns
 all_turns turns (Some cut) = turns ++ cut ∷ []
+
+-- all were answered by a whole response
+abbrev pub AreWhole : List Turn → Type 0
+AreWhole turns = All (λ turn. IsTrue turn.whole) turns
 
 -- the connection goes on after each
 abbrev pub GoesOn : List Turn → Type 0

@@ -1,5 +1,5 @@
 //! What answers requests.
-ghost use Rattle.std.specs.Prelude.{◌≡◌, ◌++◌, IfOk};
+ghost use Rattle.std.specs.Prelude.{◌≡◌, ◌++◌, IfOk, is_ok};
 ghost use Rattle.streams.specs.Counts.{CountsFailure};
 ghost use Rattle.streams.specs.Writes.{Writes};
 ghost use Rattle.http_framing.specs.Input.{Requested, Refused};
@@ -33,6 +33,7 @@ pub trait Service<C> {
         ensures turn { (turn : Turn)
             × TakesTurn (answers context.now) self.old self.new (Requested request.now) turn
             × Writes (W.taken writer.old) (W.taken writer.new) result turn.text
+            × (turn.whole ≡ is_ok result)
             × IfOk result (λ closes. closes ≡ turn.closes) }
         ensures failures { CountsFailure (W.failed_writes writer.old)
             (W.failed_writes writer.new) result };
@@ -50,7 +51,8 @@ pub trait Service<C> {
     ) -> Result<(), Failed>
         ensures turn { (turn : Turn)
             × TakesTurn (answers context.now) self.old self.new (Refused fault) turn
-            × Writes (W.taken writer.old) (W.taken writer.new) result turn.text }
+            × Writes (W.taken writer.old) (W.taken writer.new) result turn.text
+            × (turn.whole ≡ is_ok result) }
         ensures failures { CountsFailure (W.failed_writes writer.old)
             (W.failed_writes writer.new) result };
 }

@@ -6,6 +6,6 @@ use Rattle.http_handlers.proofs.feed.go_on.Given as goal
 abbrev pub invariant-loop-turn : goal.invariant-loop-turn
 invariant-loop-turn g l =
     (text : List ℕ)
-    × Going (g.S.Viewer.known l.fn.session) (g.S.Viewer.known l.session) l.fn.start l.progress text
+    × Going g.S.Viewer.goes g.S.Viewer.known l.setting l.fn.session l.session l.fn.start l.progress text
     × Appends (g.W.Sink.taken l.fn.writer) (g.W.Sink.taken l.writer) text
     × (g.W.Sink.failed_writes l.writer ≡ g.W.Sink.failed_writes l.fn.writer)

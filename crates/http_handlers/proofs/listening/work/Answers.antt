@@ -1,14 +1,23 @@
-use Rattle.std.proofs.Common.{◌+◌, ap, sym, subst}
-use Rattle.http_handlers.specs.Known.{Known}
-use Rattle.http_handlers.proofs.Workers.{Served, one_more, none_more}
+use Rattle.std.proofs.Common.{◌+◌, [], None, Some, refl, sym, subst, arith}
+use Rattle.http_handlers.proofs.Workers.{Accepted, one_more}
 use Rattle.http_handlers.proofs.listening.work.Goals as goal
 use Rattle.http_handlers.proofs.listening.work.Goals.{in-Ok, in-Err}
 
+pub loop-init : goal.loop-init
+loop-init g c = ([], refl, refl)
+
 pub loop-preserved : goal.loop-preserved
 loop-preserved g c =
+    let goes = g.S.Viewer.goes in
     let known = g.S.Viewer.known in
-    let served_to : Known → Type 0 = λ k. Served (c.loop.counter + 1) (known c.args.session.now) k in
     elim c.match-accept.branch [
-      | in-Ok w ↦ subst served_to (sym (ap known w.session-is)) (one_more c.loop.counter _ (known c.loop.session) _ w.serve_socket.result c.loop.invariant w.serve_socket.ensures)
-      | in-Err w ↦ subst served_to (sym (ap known w.session-is)) (none_more c.loop.counter _ (known c.loop.session) c.loop.invariant)
+      | in-Ok w ↦ subst (Accepted goes known c.args.setting.now (c.loop.counter + 1) c.args.session.now) (sym w.session-is)
+          (one_more goes known c.args.setting.now c.loop.counter _ c.loop.session _ (Some w.serve_socket.result) c.loop.invariant w.serve_socket.ensures)
+      | in-Err w ↦ subst (Accepted goes known c.args.setting.now (c.loop.counter + 1) c.args.session.now) (sym w.session-is)
+          (one_more goes known c.args.setting.now c.loop.counter _ c.loop.session _ None c.loop.invariant refl)
     ]
+
+pub returns : goal.returns
+returns g c =
+    let served = c.loop.invariant in
+    record { accepted = served.0; runs = served.1; all = omega (arith, served.2, c.loop-test.false, c.loop.auto, c.most_of-end.ensures) }

@@ -1,6 +1,6 @@
-use Rattle.http_handlers.proofs.Workers.{Served}
+use Rattle.http_handlers.proofs.Workers.{Accepted}
 use Rattle.http_handlers.proofs.listening.work.Given as goal
 
--- at most one connection was served for each turn
+-- so many connections were served, or could not be accepted, as there were turns
 abbrev pub invariant-loop : goal.invariant-loop
-invariant-loop g l = Served l.counter (g.S.Viewer.known l.fn.session) (g.S.Viewer.known l.session)
+invariant-loop g l = Accepted g.S.Viewer.goes g.S.Viewer.known l.setting l.counter l.fn.session l.session

@@ -1,22 +1,28 @@
-use Rattle.std.proofs.Common.{ℕ, Err, ap, sym, subst}
+use Rattle.std.proofs.Common.{Ok, Err, ap, arith}
 use Rattle.model.specs.Command.{Compact}
-use Rattle.http_handlers.specs.Calls.{WritesCall}
-use Rattle.http_handlers.specs.Sessions.{known_of}
-use Rattle.http_handlers.proofs.Sessions.{after_compaction, writes_of}
+use Rattle.http_handlers.specs.Deeds.{Wrote}
+use Rattle.http_handlers.proofs.Sessions.{compaction_refused, kept_of, learns_of, same_fault}
 use Rattle.http_handlers.proofs.session.compact.Goals as goal
 
-pub returns-in-Ok-clause-written : goal.returns-in-Ok-clause-written
-returns-in-Ok-clause-written g c =
-    let base = g.J.Naming.base in
-    let room = g.J.Opening.max_places in
-    let old = c.args.session.now in
-    let new = c.compact.new.self in
-    subst (λ (p : ℕ). WritesCall (known_of base room old) Compact p (known_of base room new)) (sym (ap (λ r. r.place) c.receipt.view_is))
-    (writes_of base room old new Compact _ c.place-place.ensures.own c.in-Ok.ensures.receipt)
+pub returns-in-Ok-clause-goes : goal.returns-in-Ok-clause-goes
+returns-in-Ok-clause-goes g c =
+    let told = c.in-Ok.ensures in
+    (_, ap (λ r. r.place) c.receipt.view_is, told.receipt, kept_of c.args.session.now.lost told.for_ever, omega (arith, told.pushes))
 
-pub returns-in-Err-clause-none : goal.returns-in-Err-clause-none
-returns-in-Err-clause-none g c =
+pub returns-in-Ok-clause-learns : goal.returns-in-Ok-clause-learns
+returns-in-Ok-clause-learns g c = learns_of g.J.Naming.base g.J.Opening.config g.J.Queued.sessions g.J.Queued.capacity c.compact.new.self c.args.session.now c.place-place.ensures.legal c.place-place.ensures.own (Wrote Compact (Ok c.receipt.inside.place)) (returns-in-Ok-clause-goes g c)
+
+pub returns-in-Err-clause-goes : goal.returns-in-Err-clause-goes
+returns-in-Err-clause-goes g c =
     let told = c.in-Err.ensures in
-    after_compaction g.J.Naming.base g.J.Opening.max_places c.args.session.now c.compact.new.self c.place-place.ensures.legal c.place-place.ensures.own c.in-Err.fault
-    (λ is. told.memory (ap Err is)) (λ is. told.behind (ap Err is)) (λ is. told.overrun (ap Err is)) (λ is. told.entry_refused (ap Err is))
-    (λ is. told.full (ap Err is)) (λ is. told.lost (ap Err is)) (λ is. told.not_busy (ap Err is))
+    let why = c.in-Err.fault in
+    let refused = compaction_refused g.J.Naming.base g.J.Opening.config g.J.Queued.sessions g.J.Queued.capacity c.args.session.now c.compact.new.self why (λ is. told.memory (ap Err is)) (λ is. told.behind (ap Err is)) (λ is. told.tried (ap Err is)) (λ is. told.overrun (ap Err is)) (λ is. told.entry_refused (ap Err is))
+    (λ is. told.full (ap Err is)) (λ is. told.when_full (ap Err is)) (λ is. told.lost (ap Err is)) (λ is. told.not_busy (ap Err is)) in (
+      why,
+      c.call_fault.ensures,
+      (refused, told.pushes),
+      (λ lost. (same_fault (told.for_ever lost), told.for_ever_same lost)),
+    )
+
+pub returns-in-Err-clause-learns : goal.returns-in-Err-clause-learns
+returns-in-Err-clause-learns g c = learns_of g.J.Naming.base g.J.Opening.config g.J.Queued.sessions g.J.Queued.capacity c.compact.new.self c.args.session.now c.place-place.ensures.legal c.place-place.ensures.own (Wrote Compact (Err c.call_fault.result)) (returns-in-Err-clause-goes g c)

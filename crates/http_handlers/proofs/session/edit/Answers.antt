@@ -1,22 +1,30 @@
-use Rattle.std.proofs.Common.{ℕ, Err, ap, sym, subst}
-use Rattle.http_handlers.specs.Calls.{WritesCall}
-use Rattle.http_handlers.specs.Sessions.{known_of}
-use Rattle.http_handlers.proofs.Sessions.{after_edit, writes_of}
+use Rattle.std.proofs.Common.{Ok, Err, Bool, ap, sym, subst}
+use Rattle.http_handlers.specs.Sessions.{RefusesWrite}
+use Rattle.http_handlers.specs.Deeds.{Wrote}
+use Rattle.http_handlers.proofs.Sessions.{edit_refused, kept_of, learns_of, same_fault}
 use Rattle.http_handlers.proofs.session.edit.Goals as goal
 
-pub returns-in-Ok-clause-written : goal.returns-in-Ok-clause-written
-returns-in-Ok-clause-written g c =
-    let base = g.J.Naming.base in
-    let room = g.J.Opening.max_places in
+pub returns-in-Ok-clause-goes : goal.returns-in-Ok-clause-goes
+returns-in-Ok-clause-goes g c =
+    let told = c.in-Ok.ensures in
+    (_, ap (λ r. r.place) c.receipt.view_is, told.receipt, kept_of c.args.session.now.lost told.for_ever, told.pushes)
+
+pub returns-in-Ok-clause-learns : goal.returns-in-Ok-clause-learns
+returns-in-Ok-clause-learns g c = learns_of g.J.Naming.base g.J.Opening.config g.J.Queued.sessions g.J.Queued.capacity c.write.new.self c.args.session.now c.place-place.ensures.legal c.place-place.ensures.own (Wrote c.args.command (Ok c.receipt.inside.place)) (returns-in-Ok-clause-goes g c)
+
+pub returns-in-Err-clause-goes : goal.returns-in-Err-clause-goes
+returns-in-Err-clause-goes g c =
+    let told = c.in-Err.ensures in
+    let why = c.in-Err.fault in
     let old = c.args.session.now in
     let new = c.write.new.self in
-    let command = c.args.command in
-    subst (λ (p : ℕ). WritesCall (known_of base room old) command p (known_of base room new)) (sym (ap (λ r. r.place) c.receipt.view_is))
-    (writes_of base room old new command _ c.place-place.ensures.own c.in-Ok.ensures.receipt)
+    let refused = edit_refused g.J.Naming.base g.J.Opening.config g.J.Queued.sessions g.J.Queued.capacity old new why (λ is. told.memory (ap Err is)) (λ is. told.busy (ap Err is)) (λ is. told.when_busy (ap Err is)) (λ is. told.full (ap Err is)) (λ is. told.when_full (ap Err is))
+    (λ is. told.lost (ap Err is)) (λ is. told.entered (ap Err is)) (λ is. told.not_behind (ap Err is)) (λ is. told.not_overrun (ap Err is)) in (
+      why,
+      c.call_fault.ensures,
+      subst (λ (compacts : Bool). RefusesWrite g.J.Naming.base g.J.Opening.config g.J.Queued.sessions g.J.Queued.capacity compacts old why new) (sym c.requires.edit) (refused, told.pushes),
+      (λ lost. (same_fault (told.for_ever lost), told.for_ever_same lost)),
+    )
 
-pub returns-in-Err-clause-none : goal.returns-in-Err-clause-none
-returns-in-Err-clause-none g c =
-    let told = c.in-Err.ensures in
-    after_edit g.J.Naming.base g.J.Opening.max_places c.args.session.now c.write.new.self c.place-place.ensures.legal c.place-place.ensures.own c.in-Err.fault
-    (λ is. told.memory (ap Err is)) (λ is. told.busy (ap Err is)) (λ is. told.full (ap Err is)) (λ is. told.lost (ap Err is))
-    (λ is. told.entered (ap Err is)) (λ is. told.not_behind (ap Err is)) (λ is. told.not_overrun (ap Err is))
+pub returns-in-Err-clause-learns : goal.returns-in-Err-clause-learns
+returns-in-Err-clause-learns g c = learns_of g.J.Naming.base g.J.Opening.config g.J.Queued.sessions g.J.Queued.capacity c.write.new.self c.args.session.now c.place-place.ensures.legal c.place-place.ensures.own (Wrote c.args.command (Err c.call_fault.result)) (returns-in-Err-clause-goes g c)

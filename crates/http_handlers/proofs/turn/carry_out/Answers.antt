@@ -13,6 +13,6 @@ pub returns-in-Welcome : goal.returns-in-Welcome
 returns-in-Welcome g c =
     λ request asks closes_is.
     let place = c.place.result in
-    answers_decided _ place c.place.ensures.place _ request c.args.closes closes_is (Ok asked.Welcome) _
+    answers_decided g.S.Viewer.goes g.S.Viewer.known _ _ place c.place.ensures.place _ request c.args.closes closes_is (Ok asked.Welcome) _
     (sym (asks ∙ ap Ok c.in-Welcome.is)) refl
     (c.welcome-response.ensures.text ∙ ap (λ (k : Connection). welcome_text place k) c.connection_after.ensures, refl)

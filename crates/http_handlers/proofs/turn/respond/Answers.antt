@@ -16,13 +16,13 @@ carry_out-requires g c =
     subst (λ (decided : Decided Asked). IfOk decided HasForm) (sym (sym c.in-Ok-asked.is ∙ c.in-Ok.ensures.decides)) (decided-fits c.args.request.now)
 
 pub returns-in_default : goal.returns-in_default
-returns-in_default g c = answers_lost _ _ c.place-place.ensures.place _ c.args.request.now c.extent_of-extent.result c.extent_of-extent.ensures c.no_memory.ensures
+returns-in_default g c = answers_lost g.S.Viewer.goes g.S.Viewer.known _ _ _ c.place-place.ensures.place _ c.args.request.now c.extent_of-extent.result c.extent_of-extent.ensures c.no_memory.ensures
 
 pub returns-in-Err : goal.returns-in-Err
 returns-in-Err g c =
     let place = c.place-place.result in
     let closes = c.closes-closes.result in
-    answers_decided _ place c.place-place.ensures.place _ c.args.request.now closes (sym c.closes-closes.ensures) (Err c.in-Err.refusal) _
+    answers_decided g.S.Viewer.goes g.S.Viewer.known _ _ place c.place-place.ensures.place _ c.args.request.now closes (sym c.closes-closes.ensures) (Err c.in-Err.refusal) _
     (sym c.in-Err.is ∙ c.in-Ok.ensures.decides) refl (
       c.refused-response.ensures.text
           ∙ ap (λ (k : Connection). refusal_text place k c.extent_of-extent.result c.in-Err.refusal) c.connection_after.ensures

@@ -1,6 +1,6 @@
-use Rattle.http_handlers.specs.Calls.{Looks}
+use Rattle.http_handlers.proofs.Waits.{Passed}
 use Rattle.http_handlers.proofs.waiting.wait_for_some.Given as goal
 
--- it has looked and no more
+-- with each turn so far none of the documents came
 abbrev pub invariant-loop-turn : goal.invariant-loop-turn
-invariant-loop-turn g l = Looks (g.S.Viewer.known l.fn.session) (g.S.Viewer.known l.session)
+invariant-loop-turn g l = Passed g.S.Viewer.goes g.S.Viewer.known l.cursor l.ids l._turn l.fn.session l.session

@@ -13,7 +13,7 @@ returns-in_default g c =
     let rest = drop c.in-Request.spans.body.end c.turns.window.bytes in
     let begins = begins-request c.turns.window.bytes rest c.bytes.ensures c.bytes-in-Request.ensures c.in-Request.ensures c.request-request.ensures refl in
     let turn = c.in_default.ensures.turn in
-    rw c.after.ensures (served-cut rest c.turns.invariant.1 turn.1 begins refl refl turn.2.1 c.in_default.ensures.failures.1)
+    rw c.after.ensures (served-cut rest c.turns.invariant.1 turn.1 begins turn.3 refl refl turn.2.1 c.in_default.ensures.failures.1)
 
 pub returns-then-closes : goal.returns-then-closes
 returns-then-closes g c =
@@ -21,14 +21,14 @@ returns-then-closes g c =
     let begins = begins-request c.turns.window.bytes rest c.bytes.ensures c.bytes-in-Request.ensures c.in-Request.ensures c.request-request.ensures (c.take.ensures ∙ ap (λ (n : ℕ). drop n c.turns.window.bytes) c.taken.ensures) in
     let turn = c.in-Ok.ensures.turn in
     rw c.after-then-closes.ensures
-    (served-closed rest c.turns.invariant.1 turn.1 begins (sym turn.3 ∙ c.if-closes.true) refl refl turn.2.0 c.in-Ok.ensures.failures.0)
+    (served-closed rest c.turns.invariant.1 turn.1 begins (sym turn.4 ∙ c.if-closes.true) turn.3 refl refl turn.2.0 c.in-Ok.ensures.failures.0)
 
 pub turns-preserved-else-closes : goal.turns-preserved-else-closes
 turns-preserved-else-closes g c =
     let begins = begins-request c.turns.window.bytes c.take.new.self.bytes c.bytes.ensures c.bytes-in-Request.ensures c.in-Request.ensures c.request-request.ensures (c.take.ensures ∙ ap (λ (n : ℕ). drop n c.turns.window.bytes) c.taken.ensures) in
     let turn = c.in-Ok.ensures.turn in (
       c.turns.invariant.0 ++ turn.0 ∷ [],
-      going-on c.turns.invariant.1 turn.1 begins (sym turn.3 ∙ c.if-closes.false) refl refl turn.2.0 c.in-Ok.ensures.failures.0,
+      going-on c.turns.invariant.1 turn.1 begins (sym turn.4 ∙ c.if-closes.false) turn.3 refl refl turn.2.0 c.in-Ok.ensures.failures.0,
       omega (arith, length-after _ _ _ begins, c.turns.invariant.2),
     )
 
@@ -36,13 +36,13 @@ pub returns-in_default-refuse : goal.returns-in_default-refuse
 returns-in_default-refuse g c =
     let begins = begins-refused c.turns.window.bytes c.in-Refused.fault c.bytes.ensures c.in-Refused.ensures in
     let turn = c.in_default-refuse.ensures.turn in
-    rw c.after-in_default-refuse.ensures (served-cut [] c.turns.invariant.1 turn.1 begins refl refl turn.2.1 c.in_default-refuse.ensures.failures.1)
+    rw c.after-in_default-refuse.ensures (served-cut [] c.turns.invariant.1 turn.1 begins turn.3 refl refl turn.2.1 c.in_default-refuse.ensures.failures.1)
 
 pub returns-in-Refused : goal.returns-in-Refused
 returns-in-Refused g c =
     let begins = begins-refused c.turns.window.bytes c.in-Refused.fault c.bytes.ensures c.in-Refused.ensures in
     let turn = c.in-Ok-refuse.ensures.turn in
-    rw c.after-in-Refused.ensures (served-closed [] c.turns.invariant.1 turn.1 begins (turn.1.closes refl) refl refl turn.2.0 c.in-Ok-refuse.ensures.failures.0)
+    rw c.after-in-Refused.ensures (served-closed [] c.turns.invariant.1 turn.1 begins (turn.1.closes refl) turn.3 refl refl turn.2.0 c.in-Ok-refuse.ensures.failures.0)
 
 pub returns-in_default-fill : goal.returns-in_default-fill
 returns-in_default-fill g c =

@@ -1,12 +1,23 @@
-use Rattle.std.proofs.Common.{Err, ap}
-use Rattle.http_handlers.proofs.Sessions.{after_wait, looks_of}
+use Rattle.std.proofs.Common.{Ok, Err, ap}
+use Rattle.http_handlers.specs.Deeds.{Waited}
+use Rattle.http_handlers.proofs.Sessions.{kept_of, learns_of, same_fault, wait_refused}
 use Rattle.http_handlers.proofs.session.SessionCoreCalls.wait_past.Goals as goal
 
-pub returns-in-Ok-clause-looks : goal.returns-in-Ok-clause-looks
-returns-in-Ok-clause-looks g c = looks_of g.J.Naming.base g.J.Opening.max_places c.args.self.now c.wait_past.new.self c.place-place.ensures.own c.in-Ok.ensures.looks
+pub returns-in-Ok-clause-goes : goal.returns-in-Ok-clause-goes
+returns-in-Ok-clause-goes g c =
+    let told = c.in-Ok.ensures in
+    (told.looks, kept_of c.args.self.now.lost (λ lost. told.lost.1 lost), told.past, (λ is. told.looked (ap Ok is)))
 
-pub returns-in-Err-clause-looks : goal.returns-in-Err-clause-looks
-returns-in-Err-clause-looks g c =
-    let told = c.in-Err.ensures in
-    after_wait g.J.Naming.base g.J.Opening.max_places c.args.self.now c.wait_past.new.self c.place-place.ensures.legal c.place-place.ensures.own c.in-Err.fault told.refused
-    (λ is. told.lost_same (told.lost.0 (ap Err is))) (λ is. told.refused_looks (ap Err is))
+pub returns-in-Ok-clause-learns : goal.returns-in-Ok-clause-learns
+returns-in-Ok-clause-learns g c = learns_of g.J.Naming.base g.J.Opening.config g.J.Queued.sessions g.J.Queued.capacity c.wait_past.new.self c.args.self.now c.place-place.ensures.legal c.place-place.ensures.own (Waited c.args.seq c.args.turns (Ok c.in-Ok.past)) (returns-in-Ok-clause-goes g c)
+
+pub returns-in-Err-clause-goes : goal.returns-in-Err-clause-goes
+returns-in-Err-clause-goes g c =
+    let told = c.in-Err.ensures in (
+      c.in-Err.fault,
+      c.call_fault.ensures,
+      wait_refused g.J.Naming.base g.J.Opening.config g.J.Queued.sessions g.J.Queued.capacity _ _ c.in-Err.fault told.refused (λ lost. same_fault (told.lost.1 lost)) (λ is. told.lost.0 (ap Err is)) (λ is. told.lost_same (told.lost.0 (ap Err is))) (λ is. told.refused_looks (ap Err is)),
+    )
+
+pub returns-in-Err-clause-learns : goal.returns-in-Err-clause-learns
+returns-in-Err-clause-learns g c = learns_of g.J.Naming.base g.J.Opening.config g.J.Queued.sessions g.J.Queued.capacity c.wait_past.new.self c.args.self.now c.place-place.ensures.legal c.place-place.ensures.own (Waited c.args.seq c.args.turns (Err c.call_fault.result)) (returns-in-Err-clause-goes g c)
