@@ -61,12 +61,13 @@ serves_closed base config turns connections len items lent new closed opened is 
 
 -- the same where a name tells the numbers
 pub serves_named : (base : Option Database) (config told : Config) (sessions queue turns connections len : ℕ) (items lent new : List KnownOfThreads) (closed : Ending)
-    → told ≡ config → told.sessions ≡ sessions → told.queue ≡ queue → (right : Config) → told ≡ right
+    → told ≡ config → told.sessions ≡ sessions → told.queue ≡ queue → (right : Config) → told ≡ right → (often : ℕ) → often ≡ turns
     → items ≡ map fresh (range_with_len 0 told.sessions) → lent ≡ items → length lent ≡ len → length new ≡ length lent
-    → ServesEach base config sessions queue turns connections lent new → Ends base (take len (new ++ drop (length new) items)) closed → ServesSessions base right turns connections
-serves_named base config told sessions queue turns connections len items lent new closed config_is sessions_is queue_is right right_is opened is long kept serves ends =
+    → ServesEach base config sessions queue often connections lent new → Ends base (take len (new ++ drop (length new) items)) closed → ServesSessions base right turns connections
+serves_named base config told sessions queue turns connections len items lent new closed config_is sessions_is queue_is right right_is often often_is opened is long kept serves ends =
     serves_closed base right turns connections len items lent new closed (opened ∙ ap (λ (c : Config). map fresh (range_with_len 0 c.sessions)) right_is) is long kept
-    (named (λ c n q. ServesEach base c n q turns connections lent new) config told sessions queue config_is sessions_is queue_is right right_is serves) ends
+    (subst (λ (n : ℕ). ServesEach base right right.sessions right.queue n connections lent new) often_is
+    (named (λ c n q. ServesEach base c n q often connections lent new) config told sessions queue config_is sessions_is queue_is right right_is serves)) ends
 
 -- the first of the sessions of a database with one
 first_fresh : (items : List KnownOfThreads) (count : ℕ) (d : KnownOfThreads) → items ≡ map fresh (range_with_len 0 count) → count ≡ 1 → d ≡ slice_index_or items 0 d → d ≡ fresh 0
@@ -97,11 +98,12 @@ none_left items popped count len opened one long rest =
 
 -- the only session served a connection, and was closed
 pub serves_database : (base : Option Database) (config told : Config) (sessions queue : ℕ) (before after : Streams) (old new : KnownOfThreads) (closing : List KnownOfThreads) (ended : Ended) (closed : Ending)
-    → told ≡ config → told.sessions ≡ sessions → told.queue ≡ queue → (right : Config) → told ≡ right → old ≡ fresh 0
-    → IsConnection (Goes base config sessions queue) (known_of_session base config sessions queue) once_turns before after old new ended → closing ≡ new ∷ [] → Ends base closing closed
+    → told ≡ config → told.sessions ≡ sessions → told.queue ≡ queue → (right : Config) → told ≡ right → old ≡ fresh 0 → (turns : ℕ) → turns ≡ once_turns
+    → IsConnection (Goes base config sessions queue) (known_of_session base config sessions queue) turns before after old new ended → closing ≡ new ∷ [] → Ends base closing closed
     → ServesDatabase base right before after ended closed
-serves_database base config told sessions queue before after old new closing ended closed config_is sessions_is queue_is right right_is first connection one ends =
-    let here = named (λ c n q. IsConnection (Goes base c n q) (known_of_session base c n q) once_turns before after old new ended) config told sessions queue config_is sessions_is queue_is right right_is connection in
+serves_database base config told sessions queue before after old new closing ended closed config_is sessions_is queue_is right right_is first turns turns_is connection one ends =
+    let here = named (λ c n q. IsConnection (Goes base c n q) (known_of_session base c n q) once_turns before after old new ended) config told sessions queue config_is sessions_is queue_is right right_is
+    (subst (λ (n : ℕ). IsConnection (Goes base config sessions queue) (known_of_session base config sessions queue) n before after old new ended) turns_is connection) in
     record {
       final = new;
       connection = subst (λ (k : KnownOfThreads). IsConnection (GoesBy base right) (known_of base right) once_turns before after k new ended) first here;

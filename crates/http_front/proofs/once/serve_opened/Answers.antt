@@ -11,5 +11,4 @@ returns-clause-served g c =
     let first = popped_fresh c.in-Ok.sessions.items _ c.in-Ok.sessions.len c.in-Some.session c.in-Ok.ensures.sessions one c.in-Ok.sessions.ok.0 (λ d within. c.in-Some.ensures.value d within) in
     let left = none_left c.in-Ok.sessions.items _ _ c.in-Ok.sessions.len c.in-Ok.ensures.sessions one c.in-Ok.sessions.ok.0 c.in-Some.ensures.rest in
     let back = c.push_reserved.ensures.items ∙ ap (λ (xs : List Known). xs ++ c.serve-ended.new.session ∷ []) left in
-    let turns = c.in-Ok-setting.ensures in
-    serves_database g.J.Naming.base g.J.Opening.config c.args.opened.config _ _ _ _ _ _ _ _ _ named.config_is named.sessions_is named.capacity_is _ c.requires.config first c.serve-ended.ensures.connection back c.close.ensures.end
+    serves_database g.J.Naming.base g.J.Opening.config c.args.opened.config _ _ _ _ _ _ _ _ _ named.config_is named.sessions_is named.capacity_is _ c.requires.config first _ c.in-Ok-new.ensures.turns c.serve-ended.ensures.connection back c.close.ensures.end
