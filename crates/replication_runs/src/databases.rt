@@ -35,11 +35,16 @@ pub(crate) fn tell_case<R: Wait + Clock + Print + AllocGlobal + Drop>(
     tell_from::<Brand, &R, R>(rt, rt, case, source)
 }
 
-fn new_database(alloc: Global) -> Result<Opened, AllocError> {
+pub(crate) fn new_database(alloc: Global) -> Result<Opened, AllocError> {
+    Opened::new(alloc, config())
+}
+
+/// The configuration of all databases.
+pub(crate) fn config() -> Config {
     let Some(config) = Config::new(LIMITS) else {
         unreachable!()
     };
-    Opened::new(alloc, config)
+    config
 }
 
 /// Goes through a case whose source is this database, which keeps a runtime of its own.
@@ -110,7 +115,7 @@ fn write_documents<X, S: Calls<X>>(
 }
 
 /// The one session of a database.
-fn session_of<J: Opening, T: Wait + Drop>(
+pub(crate) fn session_of<J: Opening, T: Wait + Drop>(
     rt: T,
     opened: Opened,
 ) -> Result<Session<Core<T, J>, J, NoGate>, AllocError>

@@ -17,10 +17,10 @@ const THREE: [&str; 3] = ["a", "b", "c"];
 const CHECKPOINT: &str = "r";
 
 /// The revision that both leaves are written over, and the only one of each of three documents.
-const ROOT: &str = "1-aaaaaaaaaaaaaaaaaaaaaaaaaaaaaaaa";
+pub(crate) const ROOT: &str = "1-aaaaaaaaaaaaaaaaaaaaaaaaaaaaaaaa";
 
 /// The leaf that wins.
-const WINNER: &str = "2-cccccccccccccccccccccccccccccccc";
+pub(crate) const WINNER: &str = "2-cccccccccccccccccccccccccccccccc";
 
 /// The other leaf.
 pub(crate) const LOSER: &str = "2-bbbbbbbbbbbbbbbbbbbbbbbbbbbbbbbb";

@@ -30,6 +30,7 @@ pub(crate) struct Flawed<P> {
     flaw: Flaw,
     failures: u64,
     bulks: u64,
+    sent: u64,
     since: Option<u64>,
 }
 
@@ -41,14 +42,20 @@ impl<P> Flawed<P> {
             flaw,
             failures: 0,
             bulks: 0,
+            sent: 0,
             since: None,
         }
     }
 
     /// The end with no flaw, of which nothing was asked.
     pub(crate) fn mended(self) -> Flawed<P> {
+        Flawed::new(self.into_peer(), Flaw::None)
+    }
+
+    /// The end itself.
+    pub(crate) fn into_peer(self) -> P {
         let Flawed { peer, .. } = self;
-        Flawed::new(peer, Flaw::None)
+        peer
     }
 
     pub(crate) fn peer(&self) -> &P {
@@ -58,6 +65,11 @@ impl<P> Flawed<P> {
     /// How many bulks it was sent.
     pub(crate) fn bulks(&self) -> u64 {
         self.bulks
+    }
+
+    /// How many documents it was sent.
+    pub(crate) fn sent(&self) -> u64 {
+        self.sent
     }
 
     /// After which number it was first asked for changes.
@@ -192,6 +204,7 @@ impl<P: Peer> Peer for Flawed<P> {
 
     fn bulk(&mut self, alloc: Global, documents: &[Merge]) -> Result<(), PeerFault> {
         self.bulks = self.bulks.saturating_add(1);
+        self.sent = self.sent.saturating_add(documents.len() as u64);
         match self.take(alloc, documents) {
             Ok(()) => Ok(()),
             Err(fault) => Err(self.noted(fault)),

@@ -4,6 +4,8 @@
 //! three documents of which one is to be brought; a target is empty, and a worker brings the one to the
 //! other. Then comes a second run, between ends that do as they should. Of each run is printed how it
 //! ended, and what both databases then have.
+//! After these come two cases in which an end is closed after the first run, and opened again as its
+//! successor. More is written at the source, and a new worker goes on from the checkpoints.
 //! `replication_runs replicate` makes one replication, and one more by a new worker where memory was
 //! refused. The status is 1 where memory was refused outside of a replication, and 2 for other words.
 #![tactic(auto)]
@@ -12,12 +14,15 @@ mod case;
 mod databases;
 mod documents;
 mod end;
+mod epochs;
 mod flaw;
 mod print;
 mod run;
+mod stage;
 
 use crate::case::{CASES, Case};
 use crate::databases::tell_case;
+use crate::epochs::tell_epochs;
 use std::process::ExitCode;
 use std::sync::Wait;
 use std::time::Clock;
@@ -29,7 +34,7 @@ fn tell_all<R: Wait + Clock + Print + AllocGlobal + Drop>(rt: &R) -> io::Result<
     for case in CASES {
         tell_case(rt, case)?;
     }
-    Ok(())
+    tell_epochs(rt)
 }
 
 fn main(rt: HostRuntime) -> io::Result<ExitCode> {

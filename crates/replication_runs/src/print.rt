@@ -4,7 +4,7 @@ use crate::documents::{Documents, Ids};
 use crate::run::Told;
 use replicator::{PeerFault, Progress};
 use revision_id::RevId;
-use revision_tree::RevTree;
+use revision_tree::{Node, RevTree};
 use snapshots::Version;
 use std::io;
 
@@ -58,6 +58,35 @@ pub(crate) fn print_leaves(
         Some(record) => print_tree(rt, name, record.tree()),
         None => println!(rt; "{name} has no document"),
     }
+}
+
+/// Prints how many leaves an end was sent.
+pub(crate) fn print_sent(rt: &impl Print, sent: u64) -> io::Result<()> {
+    println!(rt; "{sent} leaves sent")
+}
+
+/// Prints the leaves of all documents.
+pub(crate) fn print_all_leaves(rt: &impl Print, name: &str, version: &Version) -> io::Result<()> {
+    for (id, record) in version.database().documents().iter() {
+        print_leaves_of(rt, name, id.as_str(), record.get().tree())?;
+    }
+    Ok(())
+}
+
+fn print_leaves_of(rt: &impl Print, name: &str, id: &str, tree: &RevTree) -> io::Result<()> {
+    for node in tree.nodes() {
+        if tree.is_leaf(node.rev) {
+            print_leaf_of(rt, name, id, node)?;
+        }
+    }
+    Ok(())
+}
+
+fn print_leaf_of(rt: &impl Print, name: &str, id: &str, leaf: &Node) -> io::Result<()> {
+    if leaf.deleted {
+        return println!(rt; "{name} has {id} {}, deleted", leaf.rev);
+    }
+    println!(rt; "{name} has {id} {}", leaf.rev)
 }
 
 /// Prints the ids of all documents of the target, where one of several was to come.

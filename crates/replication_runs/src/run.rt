@@ -94,7 +94,11 @@ fn second_worker(
 }
 
 /// A worker for all documents, or for the one that is to be brought alone.
-fn new_worker(alloc: Global, documents: Documents, ids: &Ids) -> Result<Worker, AllocError> {
+pub(crate) fn new_worker(
+    alloc: Global,
+    documents: Documents,
+    ids: &Ids,
+) -> Result<Worker, AllocError> {
     let checkpoint = ids.checkpoint.share()?;
     match documents {
         Documents::Conflict => Ok(worker_for_all(checkpoint)),
@@ -135,7 +139,8 @@ fn tell_run<S: End, T: End>(
     Ok(told)
 }
 
-fn run<S: Peer, T: Peer>(
+/// Runs the worker until it ends.
+pub(crate) fn run<S: Peer, T: Peer>(
     alloc: Global,
     worker: &mut Worker,
     source: &mut Flawed<S>,
