@@ -15,9 +15,14 @@ impl Count {
         }
     }
 
-    /// Once more. How often it had happened before.
-    pub(crate) fn add(&self) -> u64 {
-        self.times.fetch_add(1, Ordering::SeqCst)
+    /// Once more.
+    pub(crate) fn add(&self) {
+        let _times = self.next();
+    }
+
+    /// Once more, and how often it has happened then.
+    pub(crate) fn next(&self) -> u64 {
+        self.times.fetch_add(1, Ordering::SeqCst).saturating_add(1)
     }
 
     pub(crate) fn get(&self) -> u64 {

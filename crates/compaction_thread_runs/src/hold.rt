@@ -53,7 +53,7 @@ impl Marks {
 
     /// Holds session 0 until it is released, unless it was held as often as it is to be.
     fn hold(&self, clock: &impl Clock, most: u64) {
-        let times = self.held.add().saturating_add(1);
+        let times = self.held.next();
         if times <= most {
             self.wait(clock, &self.released, times);
         }
