@@ -1,3 +1,4 @@
 mod Values
 mod Parts
 mod Segments
+mod Cuts

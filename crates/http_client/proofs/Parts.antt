@@ -16,7 +16,7 @@ use Rattle.http_framing.specs.Front.{IsFrontOfWindow}
 use Rattle.http_framing.proofs.Heads.{head_window-short}
 use Rattle.http_client.specs.Response.{Response, BeginsWithHead, BeginsWithResponse, EndsInHead, HasNoLength, IsUnfinished, headers_of, told_length}
 use Rattle.http_client.specs.Front.{IsResponseAt, NeedsMore}
-use Rattle.http_client.specs.Incoming.{Reads}
+use Rattle.http_client.specs.Incoming.{Reads, ReadsIfUnfinished}
 use Rattle.http_client.specs.declared.incoming.ResponseFault.{ResponseFault}
 use Rattle.http_client.specs.declared.incoming.ResponseFault.TheVariants as fault
 use Rattle.http_client.proofs.Values.{told-small}
@@ -167,6 +167,12 @@ head-part bytes short none may =
 -- what needs more is unfinished as it is
 pub unfinished_now : (bytes : List ℕ) (more : ℕ) → NeedsMore bytes more → IsUnfinished bytes
 unfinished_now bytes more needs = subst IsUnfinished (append-nil bytes) (needs.unfinished [] needs.some)
+
+-- what is unfinished now was so before, when nothing or no more was asked for
+pub unfinished_before : {R : Type 0} (old now : List ℕ) (reader reader' : R) → ReadsIfUnfinished old now reader reader'
+    → IsUnfinished now → IsUnfinished old
+unfinished_before old now reader reader' (inl unfinished) here = unfinished
+unfinished_before old now reader reader' (inr (same, asked)) here = subst IsUnfinished same here
 
 pub reads-fault : (bytes : List ℕ) (left : Option (List ℕ)) (f : ResponseFault) → (f ≡ fault.ReadFailed) ⊎ (f ≡ fault.Memory)
     → IsUnfinished bytes → Reads bytes left (Err f)

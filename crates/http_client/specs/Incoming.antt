@@ -1,5 +1,5 @@
 -- How a response is read.
-use Rattle.std.specs.Prelude.{◌≡◌, ℕ, List, Option, Result, Ok, Err}
+use Rattle.std.specs.Prelude.{◌≡◌, ◌⊎◌, ℕ, List, Option, Result, Ok, Err}
 use Rattle.std.specs.Io.KnownBytes.{IsAtEnd}
 use Rattle.streams.specs.Counts.{CountRose}
 use Rattle.http_client.specs.Response.{IsUnfinished, IsUnreadable}
@@ -23,3 +23,7 @@ CountsReads old new (Err fault.Ended) = new ≡ old
 CountsReads old new (Err fault.Memory) = new ≡ old
 CountsReads old new (Err fault.Unreadable) = new ≡ old
 CountsReads old new (Ok value) = new ≡ old
+
+-- where the bytes that have come are not unfinished, the reader is not asked for more
+abbrev pub ReadsIfUnfinished : {R : Type 0} → List ℕ → List ℕ → R → R → Type 0
+ReadsIfUnfinished old new reader reader' = IsUnfinished old ⊎ ((new ≡ old) × (reader' ≡ reader))

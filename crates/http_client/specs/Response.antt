@@ -2,7 +2,7 @@
 use Rattle.std.specs.Prelude.{◌≡◌, ℕ, ◌≤◌, ◌<◌, ◌⊎◌, List, [], ◌∷◌, ◌++◌, codes, length, map, Option, Some, None, if◌then◌else◌}
 use Rattle.std.specs.List.{list_any}
 use Rattle.httparse.specs.Grammar.{ResponseHead, print_response, ReadsResponse, HasNoResponse, NeverHasResponse, MayBecomeResponse, status_code}
-use Rattle.httparse.specs.Spans.{ResponseExceeds, name_and_value}
+use Rattle.httparse.specs.Spans.{ResponseExceeds, ResponseOverflows, name_and_value}
 use Rattle.decimals.specs.Number.{number}
 use Rattle.http_framing.specs.Headers.{Header, is_named, values_named}
 use Rattle.http_framing.specs.Request.{head_limit, header_limit}
@@ -84,9 +84,14 @@ IsUnfinished bytes = EndsInHead bytes ⊎ EndsInBody bytes
 abbrev pub HasNoHead : List ℕ → Type 0
 HasNoHead bytes = NeverHasResponse (head_window bytes)
 
+-- a head begins the bytes that has more headers than are taken, whether it ends or not, and so has each that it may become
+pub record HasManyHeaders (bytes : List ℕ) : Type 0 where
+  pub exceeds : ResponseExceeds header_limit (head_window bytes)
+  pub overflows : ResponseOverflows header_limit (head_window bytes)
+
 -- a head has more headers than are taken, or does not end in the bytes in which it has to
 abbrev pub HasLargeHead : List ℕ → Type 0
-HasLargeHead bytes = ResponseExceeds header_limit (head_window bytes) ⊎ (FillWindow bytes × HasNoResponse (head_window bytes))
+HasLargeHead bytes = HasManyHeaders bytes ⊎ (FillWindow bytes × HasNoResponse (head_window bytes))
 
 -- the bytes begin with a head that does not tell the length of its body
 -- RFC 9112, 6.3 "Message Body Length"

@@ -4,7 +4,7 @@ ghost use Rattle.std.specs.Prelude.{◌⊎◌, Ok, IfOk, IfErr, OnOk, OnErr};
 ghost use Rattle.std.specs.Io.KnownBytes.{Consumes, Keeps, IsAtEnd};
 ghost use Rattle.streams.specs.Counts.{CountsFailure};
 ghost use Rattle.http_client.specs.Front.{IsResponseAt};
-ghost use Rattle.http_client.specs.Incoming.{CountsReads, Reads};
+ghost use Rattle.http_client.specs.Incoming.{CountsReads, Reads, ReadsIfUnfinished};
 
 use crate::front::{Front, ResponseSpans, read_front};
 use http_framing::HEAD_LIMIT;
@@ -94,6 +94,7 @@ impl Incoming {
     ) -> Result<ResponseSpans, ResponseFault>
         ensures read { (piece : List ℕ) × (self.new ≡ self.old ++ piece)
             × Consumes (R.left reader.old) (R.left reader.new) piece }
+        ensures needed { ReadsIfUnfinished self.old self.new reader.old reader.new }
         ensures response { Reads self.new (R.left reader.new) result }
         ensures failures { CountsReads (R.failed_reads reader.old)
             (R.failed_reads reader.new) result }
