@@ -172,7 +172,7 @@ turn-goes : (job : Job) (stage : Stage) (log : List Exchange) (e : Exchange) (le
 turn-goes job stage log e learned tells turn =
     elim turn.told [
       | inl is ↦ subst (λ (l : Learned). Tells job (stage_after l) (log ++ e ∷ [])) (sym is) (due-goes job stage log e.side e.call tells turn.due).1
-      | inr is ↦ subst (λ (l : Learned). Tells job (stage_after l) (log ++ e ∷ [])) (sym is) tt
+      | inr lacks ↦ subst (λ (l : Learned). Tells job (stage_after l) (log ++ e ∷ [])) (sym lacks.1) tt
     ]
 
 turn-ends : (job : Job) (stage : Stage) (log : List Exchange) (e : Exchange) (learned : Learned) → Tells job stage log → IsTurn job stage e.side e.call learned
@@ -180,7 +180,7 @@ turn-ends : (job : Job) (stage : Stage) (log : List Exchange) (e : Exchange) (le
 turn-ends job stage log e learned tells turn told =
     elim turn.told [
       | inl is ↦ due-ends job stage log e.side e.call tells turn.due (subst (λ (l : Learned). told_of l ≡ Ok progress.Done) is told)
-      | inr is ↦ absurd (memory-ends (subst (λ (l : Learned). told_of l ≡ Ok progress.Done) is told))
+      | inr lacks ↦ absurd (memory-ends (subst (λ (l : Learned). told_of l ≡ Ok progress.Done) lacks.1 told))
     ]
 
 some-same : {X : Type 0} {x y : X} → Some x ≡ Some y → x ≡ y
@@ -189,7 +189,7 @@ some-same {X} {x} {y} is = ap (λ (o : Option X). elim o [ Some z ↦ z | None �
 module _ {S T : Type 0} (source_goes : S → Call → S → Type 0) (target_goes : T → Call → T → Type 0) where
   exchange-goes : (job : Job) (stage : Stage) (s s' : S) (t t' : T) (log : List Exchange) (e : Option Exchange) (learned : Learned) → Tells job stage log
       → Exchanges source_goes target_goes job stage s t s' t' e learned → Tells job (stage_after learned) (log ++ option_to_list e)
-  exchange-goes job stage s s' t t' log None learned tells made = subst (λ (l : Learned). Tells job (stage_after l) (log ++ [])) (sym made.2) tt
+  exchange-goes job stage s s' t t' log None learned tells made = subst (λ (l : Learned). Tells job (stage_after l) (log ++ [])) (sym made.2.1) tt
   exchange-goes job stage s s' t t' log (Some e) learned tells made = turn-goes job stage log e learned tells made.1
 
   exchange-sound : (job : Job) (stage : Stage) (s s' : S) (t t' : T) (log : List Exchange) (o : Option Exchange) (learned : Learned) → Tells job stage log
@@ -201,7 +201,7 @@ module _ {S T : Type 0} (source_goes : S → Call → S → Type 0) (target_goes
   exchange-ends : (job : Job) (stage : Stage) (s s' : S) (t t' : T) (log : List Exchange) (o : Option Exchange) (learned : Learned) → Tells job stage log
       → Exchanges source_goes target_goes job stage s t s' t' o learned → (result : Result Progress PeerFault) → result ≡ told_of learned → result ≡ Ok progress.Done
       → EndsWithoutChanges job log (record { exchange = o; result = result })
-  exchange-ends job stage s s' t t' log None learned tells made result told done = absurd (memory-ends (subst (λ (l : Learned). told_of l ≡ Ok progress.Done) made.2 (sym told ∙ done)))
+  exchange-ends job stage s s' t t' log None learned tells made result told done = absurd (memory-ends (subst (λ (l : Learned). told_of l ≡ Ok progress.Done) made.2.1 (sym told ∙ done)))
   exchange-ends job stage s s' t t' log (Some e) learned tells made result told done =
       let ended = turn-ends job stage log e learned tells made.1 (sym told ∙ done) in
       record { since = ended.since; page = ended.page; start = ended.start; none = ended.none; asks = ap Some ended.is }

@@ -1,32 +1,57 @@
 -- The steps of a worker between two ends.
-use Rattle.std.specs.Prelude.{◌≡◌, ◌⊎◌, ℕ, ◌<◌, List, ◌++◌, length, All, Option, None, Some, option_to_list, Result, Ok, Err, ⊤}
+use Rattle.std.specs.Prelude.{◌≡◌, ◌⊎◌, ℕ, ◌<◌, true, List, ◌++◌, length, All, Option, None, Some, option_to_list, Result, Ok, Err, ⊤}
 use Rattle.std.specs.List.{FoldsTo, fold}
 use Rattle.streams.specs.Counts.{CountRose}
+use Rattle.replicator.specs.declared.due.Due.TheVariants as due
 use Rattle.replicator.specs.declared.fault.PeerFault.{PeerFault}
 use Rattle.replicator.specs.declared.fault.PeerFault.TheVariants as fault
 use Rattle.replicator.specs.declared.job.Job.{Job}
 use Rattle.replicator.specs.declared.progress.Progress.{Progress}
 use Rattle.replicator.specs.declared.progress.Progress.TheVariants as progress
-use Rattle.replicator.specs.Call.{Call, OnlyWritesRefused}
+use Rattle.replicator.specs.Call.{Call, Diff, OpenRevs, OnlyWritesRefused}
 use Rattle.replicator.specs.Due.{Side, Source, Target, IsDueAt}
 use Rattle.replicator.specs.Learned.{Learned, learnt}
-use Rattle.replicator.specs.Stage.{Known, Stage, Unread}
+use Rattle.replicator.specs.Passing.{IsDuePart}
+use Rattle.replicator.specs.Readable.{is_readable_difference, is_readable_opened}
+use Rattle.replicator.specs.Stage.{Known, Stage, Unread, SourceRead, Ready, Paged, Passing}
 
 -- a call of one end, with its answer
 pub record Exchange : Type 0 where
   pub side : Side
   pub call : Call
 
--- the call is due, and its answer is learnt, unless memory is wanting
+-- ---- where a worker takes memory of its own
+
+-- before the call: for what is asked of a page, for the next revisions, and to measure a bulk
+abbrev pub TakesMemoryBefore : Stage → Type 0
+TakesMemoryBefore Unread = ⊥
+TakesMemoryBefore (SourceRead source) = ⊥
+TakesMemoryBefore (Ready ends) = ⊥
+TakesMemoryBefore (Paged ends page) = ⊤
+TakesMemoryBefore (Passing p) = IsDuePart due.Open p ⊎ IsDuePart due.Send p
+
+-- after it: for a difference or for revisions that can be read
+abbrev pub TakesMemoryAfter : Stage → Call → Type 0
+TakesMemoryAfter (Paged ends page) (Diff asked (Ok differences)) = is_readable_difference asked differences ≡ true
+TakesMemoryAfter (Passing p) (OpenRevs id revs (Ok opened)) = is_readable_opened id revs opened ≡ true
+TakesMemoryAfter stage call = ⊥
+
+-- ---- a step
+
+-- the call is due, and its answer is learnt, unless memory is refused to the worker after it
 pub record IsTurn (job : Job) (stage : Stage) (side : Side) (call : Call) (learned : Learned) : Type 0 where
   pub due : IsDueAt job stage side call
   pub refused : OnlyWritesRefused call
-  pub told : (learned ≡ learnt stage call) ⊎ (learned ≡ Err fault.Memory)
+  pub told : (learned ≡ learnt stage call) ⊎ (TakesMemoryAfter stage call × (learned ≡ Err fault.Memory))
 
--- an end was called, unless memory was wanting before
+-- no end was called, since memory was refused to the worker before
+abbrev pub LacksMemory : Stage → Learned → Type 0
+LacksMemory stage learned = TakesMemoryBefore stage × (learned ≡ Err fault.Memory)
+
+-- an end was called, unless memory was refused before
 abbrev pub Called : {S : Type 0} → (S → Call → S → Type 0) → S → S → Job → Stage → Side → Learned → Type 0
 Called goes old new job stage side learned =
-    ((call : Call) × goes old call new × IsTurn job stage side call learned) ⊎ ((new ≡ old) × (learned ≡ Err fault.Memory))
+    ((call : Call) × goes old call new × IsTurn job stage side call learned) ⊎ ((new ≡ old) × LacksMemory stage learned)
 
 -- what a step called, which is nothing only where memory was refused, and what it told
 pub record Step : Type 0 where
@@ -38,9 +63,9 @@ module _ {S T : Type 0} (source_goes : S → Call → S → Type 0) (target_goes
   abbrev pub Moves : Exchange → S → T → S → T → Type 0
   Moves e s t s' t' = elim e.side [ Source ↦ source_goes s e.call s' × (t' ≡ t) | Target ↦ target_goes t e.call t' × (s' ≡ s) ]
 
-  -- one of the ends was called, unless memory was wanting before
+  -- one of the ends was called, unless memory was refused before
   abbrev pub Exchanges : Job → Stage → S → T → S → T → Option Exchange → Learned → Type 0
-  Exchanges job stage s t s' t' None learned = (s' ≡ s) × (t' ≡ t) × (learned ≡ Err fault.Memory)
+  Exchanges job stage s t s' t' None learned = (s' ≡ s) × (t' ≡ t) × LacksMemory stage learned
   Exchanges job stage s t s' t' (Some e) learned = Moves e s t s' t' × IsTurn job stage e.side e.call learned
 
 -- what a step tells of what was learnt
