@@ -1,6 +1,7 @@
 -- The answer of a call, after a fault and after a response.
-use Rattle.std.proofs.Common.{◌≡◌, ℕ, ◌∙◌, ap, sym, subst, refl, List, Ok, Err}
-use Rattle.http_client.specs.Response.{Response}
+use Rattle.std.proofs.Common.{◌≡◌, ◌⊎◌, ℕ, ◌∙◌, ap, sym, subst, refl, inl, inr, List, Option, Ok, Err}
+use Rattle.http_client.specs.Incoming.{ReadsIfUnfinished}
+use Rattle.http_client.specs.Response.{IsUnfinished, Response}
 use Rattle.http_client.specs.Front.{response_at}
 use Rattle.http_client.specs.declared.front.ResponseSpans.{ResponseSpans}
 use Rattle.replicator.specs.declared.fault.PeerFault.{PeerFault}
@@ -10,6 +11,12 @@ use Rattle.http_peer.specs.Connection.{Connection, Exchange, Unmade, GivenUp, Cu
 use Rattle.http_peer.specs.Goes.{IsAnswerTo}
 use Rattle.http_peer.specs.Told.{Answers, Told}
 
+-- what a reader was not asked for leaves what is left of its input
+pub not_needed : {R : Type 0} (left : R → Option (List ℕ)) (old new : List ℕ) (reader reader' : R) → ReadsIfUnfinished old new reader reader'
+    → IsUnfinished old ⊎ ((new ≡ old) × (left reader' ≡ left reader))
+not_needed left old new reader reader' (inl unfinished) = inl unfinished
+not_needed left old new reader reader' (inr (same, asked)) = inr (same, ap left asked)
+
 -- a request is exchanged, and the answer is told by that
 abbrev pub IsAnsweredCall : {A : Type 0} → List ℕ → (Response → Told A) → Connection → Told A → Connection → Type 0
 IsAnsweredCall request told old answer new = (exchange : Exchange) × Exchanges request old exchange new × IsAnswerTo exchange told answer
@@ -17,7 +24,7 @@ IsAnsweredCall request told old answer new = (exchange : Exchange) × Exchanges 
 fault_answer : {A : Type 0} (told : Response → Told A) (exchange : Exchange) (why : PeerFault) (answer : Told A)
     → answer ≡ Err why → IsFaultOf exchange why → IsAnswerTo exchange told answer
 fault_answer told Unmade why answer is of = absurd of
-fault_answer {A} told GivenUp why answer is of = is ∙ ap (λ f. Err f) of
+fault_answer {A} told (GivenUp given) why answer is of = is ∙ ap (λ f. Err f) of
 fault_answer {A} told Cut why answer is of = is ∙ ap (λ f. Err f) of
 fault_answer {A} told (Unanswered come because) why answer is of = is ∙ ap (λ f. Err f) of
 fault_answer told (Answered response behind) why answer is of = absurd of
@@ -42,10 +49,17 @@ answered told asked request old mid new spans body answer same come is there rea
     let exchange : Exchange = Answered (response_at mid.come spans) behind in
     let made : Exchanges asked old exchange (after mid spans) = record {
       come = mid.come;
-      is_written = record { was_open = come.is_written.was_open; written = come.is_written.written; failed_writes = come.is_written.failed_writes; read = come.is_written.read };
+      is_written = record {
+        was_open = come.is_written.was_open;
+        written = come.is_written.written;
+        failed_writes = come.is_written.failed_writes;
+        read = come.is_written.read;
+        needed = come.is_written.needed;
+      };
       begins = come.is_response.begins;
       failed_reads = come.failed_reads;
-      goes_on = refl;
+      behind_stays = refl;
+      goes_on = come.goes_on;
     } in (
       exchange,
       subst (λ (text : List ℕ). Exchanges text old exchange new) same (subst (λ (c : Connection). Exchanges asked old exchange c) (sym is) made),

@@ -22,7 +22,7 @@ request_of (LocalPut id named last_seq answer) = local_put_request SEGMENT id na
 -- the answer after an exchange: what the response tells, or why there is none
 abbrev pub IsAnswerTo : {A : Type 0} → Exchange → (Response → Told A) → Told A → Type 0
 IsAnswerTo Unmade told answer = answer ≡ Err fault.Memory
-IsAnswerTo GivenUp told answer = answer ≡ Err fault.Failed
+IsAnswerTo (GivenUp why) told answer = answer ≡ Err why
 IsAnswerTo Cut told answer = answer ≡ Err fault.Failed
 IsAnswerTo (Unanswered come why) told answer = answer ≡ Err (fault_of why)
 IsAnswerTo (Answered response behind) told answer = Answers answer (told response)

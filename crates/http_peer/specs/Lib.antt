@@ -1,4 +1,5 @@
 pub mod Connection
+pub mod Input
 pub mod Asked
 pub mod Told
 pub mod Goes

@@ -7,7 +7,9 @@
 
 mod laws;
 mod peer;
+mod state;
 mod told;
 
-pub use laws::bulk_is_as_measured;
+pub use laws::{answers_are_of_the_input, bulk_is_as_measured};
 pub use peer::HttpPeer;
+pub use state::State;

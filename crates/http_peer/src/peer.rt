@@ -1,14 +1,16 @@
 //! A database that is reached over a connection.
-ghost use Rattle.std.specs.Prelude.{◌≡◌, ℕ, ◌≤◌, length, true, [], IfErr, IfOk};
+ghost use Rattle.std.specs.Prelude.{◌≡◌, ℕ, ◌≤◌, length, [], IfErr, IfOk};
 ghost use Rattle.http_client.specs.Front.{IsResponseAt, response_at};
 ghost use Rattle.http_client.specs.declared.incoming.ResponseFault.TheVariants as response_fault;
 ghost use Rattle.replicator.specs.Call.{CountsFailed};
 ghost use Rattle.replicator.specs.declared.fault.PeerFault.TheVariants as peer_fault;
 ghost use Rattle.streams.specs.Counts.{CountRose};
 ghost use Rattle.http_peer.specs.Asked.{Fails, HasCome, after, fault_of};
-ghost use Rattle.http_peer.specs.Connection.{Connection};
+ghost use Rattle.http_peer.specs.Connection.{Connection, state_after};
 ghost use Rattle.http_peer.specs.Goes.{Goes};
+ghost use Rattle.http_peer.specs.declared.state.State.TheVariants as state;
 
+use crate::state::State;
 use crate::told::{
     bulk_told, checkpoint_told, counter_told, differences_told, opened_told, page_told,
 };
@@ -27,16 +29,18 @@ use std::marker::Model;
 use streams::{Sink, Source, write_all};
 
 /// A database that is reached over a connection: its requests go to a sink, and its responses come
-/// from a source.
+/// from a source. They answer the requests in their order, so bytes that come behind a response belong
+/// to the next one.
 ///
-/// The connection is given up where a request was not written whole, or no response was read after
-/// it, or bytes came that nothing asked for. From then on each call that has the memory for its request
-/// is [`PeerFault::Failed`], and nothing is written and nothing read.
+/// The connection is given up where a request was not written whole, or its response was not read. From
+/// then on nothing is written and nothing read, and each call that has the memory for its request is
+/// [`PeerFault::Failed`] after a write or a read that failed or an input that ended inside a response,
+/// and else [`PeerFault::Unreadable`].
 pub struct HttpPeer<R: Source, W: Sink> {
     reader: R,
     writer: W,
     incoming: Incoming,
-    is_open: bool,
+    state: State,
     failures: u64,
 }
 
@@ -46,14 +50,13 @@ impl<R: Source + Drop, W: Sink + Drop> Drop for HttpPeer<R, W> {
             reader: _,
             writer: _,
             incoming: _,
-            is_open: _,
+            state: _,
             failures: _,
         } = self;
     }
 }
 
 impl<R: Source, W: Sink> Model for HttpPeer<R, W> {
-    ghost use Rattle.std.specs.Prelude.{◌≡◌, [], IsTrue};
     ghost use Rattle.http_peer.specs.Connection.{Connection};
 
     ghost Value = { Connection };
@@ -64,11 +67,9 @@ impl<R: Source, W: Sink> Model for HttpPeer<R, W> {
       taken = W.taken p.writer;
       failed_writes = W.failed_writes p.writer;
       come = p.incoming;
-      is_open = p.is_open;
+      state = p.state;
       failed_calls = p.failures;
     } };
-
-    ghost invariant = { λ p. IsTrue p.is_open → p.incoming ≡ [] };
 }
 
 impl<R: Source, W: Sink> HttpPeer<R, W> {
@@ -80,7 +81,7 @@ impl<R: Source, W: Sink> HttpPeer<R, W> {
           taken = W.taken writer;
           failed_writes = W.failed_writes writer;
           come = [];
-          is_open = true;
+          state = state.Open;
           failed_calls = 0;
         } }
     {
@@ -88,32 +89,63 @@ impl<R: Source, W: Sink> HttpPeer<R, W> {
             reader,
             writer,
             incoming: Incoming::new(alloc),
-            is_open: true,
+            state: State::Open,
             failures: 0,
         }
     }
 
-    /// Writes a request, and reads until a whole response stands there. Until it is taken, the
-    /// connection counts as given up.
+    /// The source and the sink. What has come and was not taken is lost.
+    pub fn into_parts(self) -> (R, W)
+        ensures left { R.left result.0 ≡ self.left }
+        ensures failed_reads { R.failed_reads result.0 ≡ self.failed_reads }
+        ensures taken { W.taken result.1 ≡ self.taken }
+        ensures failed_writes { W.failed_writes result.1 ≡ self.failed_writes }
+    {
+        let HttpPeer {
+            reader,
+            writer,
+            incoming: _,
+            state: _,
+            failures: _,
+        } = self;
+        (reader, writer)
+    }
+
+    /// Writes a request, and reads until a whole response has come, unless the connection is given up.
     fn ask(&mut self, request: &str) -> Result<ResponseSpans, PeerFault>
         ensures come { IfOk result (HasCome request.now self.old self.new) }
         ensures fault { IfErr result (Fails request.now self.old self.new) }
         ensures failures { CountsFailed self.old.failed_calls self.new.failed_calls result }
     {
-        if !self.is_open {
-            return Err(fail(&mut self.failures));
+        match self.state {
+            State::Open => self.exchange(request),
+            State::Failed => Err(fail(&mut self.failures)),
+            State::Unreadable => Err(PeerFault::Unreadable),
         }
-        self.is_open = false;
+    }
+
+    /// Writes a request, and reads until a whole response has come. The connection is given up where
+    /// none has.
+    fn exchange(&mut self, request: &str) -> Result<ResponseSpans, PeerFault>
+        requires { self.old.state ≡ state.Open }
+        ensures come { IfOk result (HasCome request.now self.old self.new) }
+        ensures fault { IfErr result (Fails request.now self.old self.new) }
+        ensures failures { CountsFailed self.old.failed_calls self.new.failed_calls result }
+    {
         let Ok(()) = write_all(&mut self.writer, request.as_bytes()) else {
+            self.state = State::Failed;
             return Err(fail(&mut self.failures));
         };
         match self.incoming.read_response(&mut self.reader) {
             Ok(spans) => Ok(spans),
-            Err(fault) => Err(fault_of(&mut self.failures, fault)),
+            Err(fault) => {
+                self.state = state_after(fault);
+                Err(fault_of(&mut self.failures, fault))
+            }
         }
     }
 
-    /// The body of the response that stands there.
+    /// The body of the response that has come.
     fn body(&self, response: ResponseSpans) -> &[u8]
         requires { IsResponseAt self.now.come response }
         ensures { result.now ≡ (response_at self.now.come response).body }
@@ -121,13 +153,12 @@ impl<R: Source, W: Sink> HttpPeer<R, W> {
         response.body(self.incoming.bytes())
     }
 
-    /// Lets the response go. Where bytes stand behind it, the connection is given up.
+    /// Takes the response away. The bytes behind it stay.
     fn take(&mut self, response: ResponseSpans)
         requires { IsResponseAt self.old.come response }
         ensures { self.new ≡ after self.old response }
     {
         self.incoming.take(response.taken());
-        self.is_open = self.incoming.bytes().is_empty();
     }
 }
 
@@ -149,6 +180,16 @@ fn fault_of(failures: &mut u64, fault: ResponseFault) -> PeerFault
         ResponseFault::Ended | ResponseFault::ReadFailed => fail(failures),
         ResponseFault::Unreadable => PeerFault::Unreadable,
         ResponseFault::Memory => PeerFault::Memory,
+    }
+}
+
+/// How a connection goes on after a response that was not read.
+fn state_after(fault: ResponseFault) -> State
+    ensures { result ≡ state_after fault }
+{
+    match fault {
+        ResponseFault::Ended | ResponseFault::ReadFailed => State::Failed,
+        ResponseFault::Unreadable | ResponseFault::Memory => State::Unreadable,
     }
 }
 

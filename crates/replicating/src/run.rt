@@ -1,7 +1,8 @@
 //! A replication from its beginning to its end.
-ghost use Rattle.std.specs.Prelude.{◌≡◌, [], None, Some, true};
+ghost use Rattle.std.specs.Prelude.{◌≡◌, [], None, Some};
 ghost use Rattle.http_peer.specs.Connection.{Connection};
 ghost use Rattle.http_peer.specs.Goes.{Goes};
+ghost use Rattle.http_peer.specs.declared.state.State.TheVariants as state;
 ghost use Rattle.replicating.specs.Report.{Replicates, fresh};
 
 use crate::counted::Counted;
@@ -87,7 +88,7 @@ pub fn run_replication<
           taken = B.taken source.1;
           failed_writes = B.failed_writes source.1;
           come = [];
-          is_open = true;
+          state = state.Open;
           failed_calls = 0;
         })
         (record {
@@ -96,7 +97,7 @@ pub fn run_replication<
           taken = D.taken target.1;
           failed_writes = D.failed_writes target.1;
           come = [];
-          is_open = true;
+          state = state.Open;
           failed_calls = 0;
         })
         result }

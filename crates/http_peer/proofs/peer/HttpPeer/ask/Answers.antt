@@ -1,10 +1,26 @@
-use Rattle.std.proofs.Common.{rules}
-use Rattle.http_peer.specs.Connection.{Unanswered}
+use Rattle.std.proofs.Common.{ap, sym, subst, refl, ◌∙◌}
+use Rattle.replicator.specs.declared.fault.PeerFault.TheVariants as fault
+use Rattle.http_peer.specs.Asked.{Fails}
+use Rattle.http_peer.specs.Connection.{Connection, GivenUp, IsGivenUp}
+use Rattle.http_peer.specs.declared.state.State.{State}
 use Rattle.http_peer.proofs.peer.HttpPeer.ask.Goals as goal
 
-pub returns-in-Err-clause-fault : goal.returns-in-Err-clause-fault
-returns-in-Err-clause-fault g c = (
-  Unanswered c.read_response.new.self c.in-Err.fault,
-  record { is_written = search rules; reads = search rules; failed_reads = search rules; given_up = search rules },
-  c.fault_of.ensures.fault,
-)
+pub returns-in-Failed-clause-fault : goal.returns-in-Failed-clause-fault
+returns-in-Failed-clause-fault g c =
+    let inside = c.self.inside in
+    let new : Connection = record {
+      left = g.R.Source.left inside.reader;
+      failed_reads = g.R.Source.failed_reads inside.reader;
+      taken = g.W.Sink.taken inside.writer;
+      failed_writes = g.W.Sink.failed_writes inside.writer;
+      come = inside.incoming;
+      state = inside.state;
+      failed_calls = c.fail.new.failures;
+    } in
+    subst (λ (k : Connection). Fails c.args.request.now k new c.fail.result) c.self.view_is
+    (GivenUp fault.Failed, (subst (λ (s : State). IsGivenUp s fault.Failed) (sym c.in-Failed.is) refl, refl), c.fail.ensures.failed)
+
+pub returns-in-Unreadable-clause-fault : goal.returns-in-Unreadable-clause-fault
+returns-in-Unreadable-clause-fault g c =
+    let is = ap (λ (k : Connection). k.state) (sym c.self.view_is) ∙ c.in-Unreadable.is in
+    (GivenUp fault.Unreadable, (subst (λ (s : State). IsGivenUp s fault.Unreadable) (sym is) refl, refl), refl)
