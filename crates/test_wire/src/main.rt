@@ -3,6 +3,7 @@
 //! run ends, with status 1.
 #![tactic(auto)]
 
+mod calls;
 mod histories;
 mod limits;
 mod peers;
@@ -32,6 +33,10 @@ fn told(alloc: Global, words: &[&str]) -> Result<String, Fail> {
         ["digest", text] => limits::digest_told(alloc, text),
         ["serve", reading, writing, input] => services::served(alloc, reading, writing, input),
         ["read", reading, input] => peers::responses_read(alloc, reading, input),
+        ["cuts", input] => peers::responses_however_cut(alloc, input),
+        ["calls", reading, writing, input, calls @ ..] => {
+            calls::calls_told(alloc, reading, writing, input, calls)
+        }
         _ => Err("no such row".into()),
     }
 }

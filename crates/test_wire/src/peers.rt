@@ -15,11 +15,32 @@ const MOST: u32 = 8;
 pub(crate) fn responses_read(alloc: Global, reading: &str, input: &str) -> Result<String, Fail> {
     let input = json(alloc, input)?;
     let reading = steps(alloc, reading)?;
-    let text = input.as_str().ok_or("a text")?;
-    read_text(alloc, reading.as_slice(), text)
+    let bytes = input.as_str().ok_or("a text")?;
+    let (mut text, failures, left) = read_text(alloc, reading.as_slice(), bytes)?;
+    write!(text, " {failures} {left}")?;
+    Ok(text)
 }
 
-fn read_text(alloc: Global, reading: &[Step], input: &str) -> Result<String, Fail> {
+/// Reads responses from a text that is written as JSON, whole and in two pieces at each cut, and tells at how
+/// many cuts it reads the same, and what.
+pub(crate) fn responses_however_cut(alloc: Global, input: &str) -> Result<String, Fail> {
+    let input = json(alloc, input)?;
+    let text = input.as_str().ok_or("a text")?;
+    let (whole, _, _) = read_text(alloc, &[], text)?;
+    let mut same = 0;
+    for cut in 1..text.len() {
+        let steps = [Step::AtMost(cut), Step::AtMost(text.len())];
+        let (told, _, _) = read_text(alloc, &steps, text)?;
+        if told == whole {
+            same += 1;
+        }
+    }
+    Ok(format!(in alloc; "{same} {whole}")?)
+}
+
+/// The status and the body of each response and why there are no more, how many reads failed, and how many
+/// bytes are left of those that have come.
+fn read_text(alloc: Global, reading: &[Step], input: &str) -> Result<(String, u64, usize), Fail> {
     let mut reader = Stream::new(ScriptedReader {
         rest: input.as_bytes(),
         script: reading,
@@ -31,8 +52,7 @@ fn read_text(alloc: Global, reading: &[Step], input: &str) -> Result<String, Fai
             break;
         }
     }
-    write!(text, " {} {}", reader.failures(), incoming.bytes().len())?;
-    Ok(text)
+    Ok((text, reader.failures(), incoming.bytes().len()))
 }
 
 /// Reads a response and tells of it, or of the fault; answers whether there was one.
