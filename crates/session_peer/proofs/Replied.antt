@@ -1,11 +1,19 @@
 -- Commands that were written, with what was replied.
-use Rattle.std.proofs.Common.{◌≡◌, ℕ, sym, subst}
+use Rattle.std.proofs.Common.{◌≡◌, ℕ, Ok, sym, subst}
 use Rattle.model.specs.Command.{Command, Entry, Reply}
-use Rattle.http_handlers.specs.Calls.{WritesCall}
+use Rattle.http_handlers.specs.Deeds.{Deed, Wrote}
+use Rattle.http_handlers.specs.Doing.{Makes}
 use Rattle.http_handlers.specs.Known.{Known, HasEntryAt}
 use Rattle.session_peer.specs.Goes.{Writes}
 
-pub writes : (old new : Known) (asked command : Command) (place : ℕ) (reply : Reply) → asked ≡ command → WritesCall old asked place new
-    → ((entry : Entry) → HasEntryAt new place entry → reply ≡ entry.reply) → Writes old command reply new
-writes old new asked command place reply is w told =
-    subst (λ (c : Command). Writes old c reply new) is (record { place = place; writes = w; replied = sym (told w.entry w.told) })
+module _ {S : Type 0} (goes : S → Deed → S → Type 0) (known : S → Known) where
+  -- the session has the entry
+  pub has_entry : (old new : S) (command : Command) (place : ℕ) → Makes goes known old (Wrote command (Ok place)) new
+      → (entry : Entry) × HasEntryAt (known new) place entry
+  has_entry old new command place made = (made.learns.0.entry, made.learns.0.told)
+
+  pub writes : (old new : S) (asked command : Command) (place : ℕ) (reply : Reply) → asked ≡ command → Makes goes known old (Wrote asked (Ok place)) new
+      → ((entry : Entry) → HasEntryAt (known new) place entry → reply ≡ entry.reply) → Writes goes known old command reply new
+  writes old new asked command place reply is made told =
+      subst (λ (c : Command). Writes goes known old c reply new) is
+      (record { place = place; wrote = made; replied = sym (told made.learns.0.entry made.learns.0.told) })

@@ -1,8 +1,7 @@
 -- What is known of an end.
 use Rattle.std.specs.Prelude.{ℕ}
-use Rattle.http_handlers.specs.Known.{Known}
 
--- what its session knows, and how many of its calls have failed
-pub record End : Type 0 where
-  pub known : Known
+-- its session, and how many of its calls have failed
+pub record End (S : Type 0) : Type 0 where
+  pub session : S
   pub failures : ℕ

@@ -1,10 +1,11 @@
 //! A session as one end of a replication.
-ghost use Rattle.std.specs.Prelude.{◌≡◌, ⊤, Err, IfOk, IfErr};
+ghost use Rattle.std.specs.Prelude.{◌≡◌, ⊤, Ok, Err, IfOk, IfErr, OnOk};
 ghost use Rattle.model.specs.Command as model;
-ghost use Rattle.http_handlers.specs.Calls.{Looks, WritesCall};
+ghost use Rattle.http_handlers.specs.Deeds as deed;
+ghost use Rattle.http_handlers.specs.Doing.{Makes};
 ghost use Rattle.http_handlers.specs.Known.{HasEntryAt};
 ghost use Rattle.replicator.specs.Call.{CountsFailed};
-ghost use Rattle.session_peer.specs.Goes.{Fails, Goes, IsFailure, fault_of};
+ghost use Rattle.session_peer.specs.Goes.{Goes, LookFails, WriteFails, fault_of};
 
 use crate::checkpoints::checkpoint_of;
 use crate::shown::revisions;
@@ -21,7 +22,7 @@ use std::alloc::Global;
 use std::marker::Model;
 
 /// A session as one end of a replication. Its calls that wait do so by the context `X`. Contracts see
-/// what the session knows, and how many calls have failed.
+/// the session, and how many calls have failed.
 pub struct SessionPeer<'c, X, S: Viewer> {
     session: S,
     context: &'c X,
@@ -39,21 +40,17 @@ impl<X, S: Viewer + Drop> Drop for SessionPeer<'_, X, S> {
 }
 
 impl<'c, X, S: Viewer> Model for SessionPeer<'c, X, S> {
-    ghost use Rattle.std.specs.Coded.{codes};
-    ghost use Rattle.model.specs.JsonCode.{coded_members};
     ghost use Rattle.session_peer.specs.End.{End};
 
-    ghost Value = { End };
+    ghost Value = { End S };
 
-    ghost coded = { Prim.hlevel (codes, coded_members) };
-
-    ghost view = { λ p. record { known = S.known p.session; failures = p.failures } };
+    ghost view = { λ p. record { session = p.session; failures = p.failures } };
 }
 
 impl<'c, X, S: Viewer> SessionPeer<'c, X, S> {
     /// An end of which no call has failed.
     pub fn new(session: S, context: &'c X) -> SessionPeer<'c, X, S>
-        ensures end { result ≡ record { known = S.known session; failures = 0 } }
+        ensures end { result ≡ record { session = session; failures = 0 } }
     {
         SessionPeer {
             session,
@@ -64,16 +61,18 @@ impl<'c, X, S: Viewer> SessionPeer<'c, X, S> {
 
     /// The session.
     pub fn session(&self) -> &S
-        ensures known { S.known result.now ≡ self.now.known }
+        ensures session { result.now ≡ self.now.session }
     {
         &self.session
     }
 
     /// Sees what is there now.
     fn look(&mut self) -> Result<(), PeerFault>
-        ensures looks { Looks self.old.known self.new.known }
+        ensures looked { OnOk result
+            (Makes S.goes S.known self.old.session (deed.Refreshed (Ok tt)) self.new.session) }
+        ensures fault { IfErr result (λ f.
+            LookFails S.goes S.known self.old.session f self.new.session) }
         ensures failures { CountsFailed self.old.failures self.new.failures result }
-        ensures fault { IfErr result IsFailure }
     {
         match self.session.refresh() {
             Ok(()) => Ok(()),
@@ -83,10 +82,9 @@ impl<'c, X, S: Viewer> SessionPeer<'c, X, S> {
 
     /// Counts a failure, unless memory was refused.
     fn fail(&mut self, fault: CallFault) -> PeerFault
-        ensures known { self.new.known ≡ self.old.known }
+        ensures session { self.new.session ≡ self.old.session }
         ensures failures { CountsFailed {A = ⊤} self.old.failures self.new.failures (Err result) }
         ensures fault { result ≡ fault_of fault }
-        ensures failure { IsFailure result }
     {
         match fault {
             CallFault::Memory => PeerFault::Memory,
@@ -99,8 +97,9 @@ impl<'c, X, S: Viewer> SessionPeer<'c, X, S> {
 
     /// The reply that the history has at a place.
     fn reply_at(&self, place: u64) -> &Reply
-        requires { (entry : model.Entry) × HasEntryAt self.now.known place entry }
-        ensures { (entry : model.Entry) → HasEntryAt self.now.known place entry → result.now ≡ entry.reply }
+        requires { (entry : model.Entry) × HasEntryAt (S.known self.now.session) place entry }
+        ensures { (entry : model.Entry) → HasEntryAt (S.known self.now.session) place entry
+            → result.now ≡ entry.reply }
     {
         let _place = self.session.place();
         let Some(entry) = self.session.version().entry(place) else {
@@ -113,19 +112,21 @@ impl<'c, X, S: Viewer> SessionPeer<'c, X, S> {
 impl<'c, X, S: Calls<X>> SessionPeer<'c, X, S> {
     /// Writes a command, and answers the place of its entry.
     fn write(&mut self, command: Command) -> Result<u64, PeerFault>
-        ensures written { IfOk result (λ place. WritesCall self.old.known command place self.new.known) }
+        ensures written { IfOk result (λ place. Makes S.goes S.known self.old.session
+            (deed.Wrote command (Ok place)) self.new.session) }
+        ensures fault { IfErr result (λ f.
+            WriteFails S.goes S.known self.old.session command f self.new.session) }
         ensures failures { CountsFailed self.old.failures self.new.failures result }
-        ensures none { IfErr result (λ f. Fails self.old.known f self.new.known) }
     {
         match self.session.write(self.context, command) {
             Ok(place) => Ok(place),
-            Err(fault) => Err(self.fail(fault)),
+            Err(refused) => Err(self.fail(refused)),
         }
     }
 }
 
 impl<'c, X, S: Calls<X>> Peer for SessionPeer<'c, X, S> {
-    ghost goes = { λ old call new. Goes old.known call new.known };
+    ghost goes = { λ old call new. Goes S.goes S.known old.session call new.session };
 
     ghost failed_calls = { λ p. p.failures };
 

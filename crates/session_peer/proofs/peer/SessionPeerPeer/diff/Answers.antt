@@ -1,11 +1,8 @@
-use Rattle.std.proofs.Common.{ap, ◌∙◌}
-use Rattle.http_handlers.specs.Known.{history_of}
-use Rattle.session_peer.specs.End.{End}
-use Rattle.session_peer.proofs.Queried.{reads-differences}
+use Rattle.session_peer.proofs.Queried.{reads-differences, seen_by}
 use Rattle.session_peer.proofs.peer.SessionPeerPeer.diff.Goals as goal
 
 pub returns-clause-goes : goal.returns-clause-goes
 returns-clause-goes g c =
-    reads-differences c.args.self.now.known c.look.new.self.known c.look.ensures.looks c.version.result.now
-    (c.version.ensures ∙ ap (λ (e : End). history_of e.known) c.self.view_is)
+    reads-differences g.S.Viewer.goes g.S.Viewer.known c.args.self.now.session c.look.new.self.session c.in_ok-look.ensures.looked c.version.result.now
+    (seen_by g.S.Viewer.known _ _ _ c.version.ensures c.self.view_is)
     c.args.asked.now c.in_ok-revs_diff.field-0 c.in_ok-revs_diff.ensures.differences
