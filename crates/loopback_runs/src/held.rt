@@ -30,7 +30,8 @@ pub(crate) fn serve_held<R: AllocGlobal + Threads + Wait + Clock + Sync, S: Call
     told
 }
 
-/// Writes by the first connection, and reads by the second one while the write is held.
+/// Writes by the first connection, and reads by the second one while the write is held. Then that one waits for a change, and
+/// none comes.
 fn read_beside_write(
     clock: &impl Clock,
     alloc: Global,
@@ -45,6 +46,7 @@ fn read_beside_write(
     reader.ask(&mut told, "GET", "/db", "")?;
     marks.released.count();
     writer.tell_response(&mut told, "PUT", "/db/a")?;
+    reader.ask(&mut told, "GET", "/db/_changes?feed=longpoll&since=1", "")?;
     let late = format!(in alloc; "{} late\n", marks.late.times())?;
     told.push_str(late.as_str())?;
     Ok(told)

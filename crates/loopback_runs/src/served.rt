@@ -1,5 +1,5 @@
 //! A database whose sessions work on threads.
-ghost use Rattle.std.specs.Prelude.{◌≡◌};
+ghost use Rattle.history_lock.specs.Names.{IsNamed};
 
 use crate::ended::with_lost;
 use crate::ends::Ends;
@@ -102,12 +102,7 @@ fn worked<
     gate: G,
     opened: Opened,
 ) -> Option<io::Result<String>>
-    requires book { opened.book ≡ J.book }
-    requires base { opened.base ≡ J.base }
-    requires table { opened.queue.table ≡ J.table }
-    requires capacity { opened.queue.capacity ≡ J.capacity }
-    requires sessions { opened.queue.sessions ≡ J.sessions }
-    requires max_places { opened.max_places ≡ J.max_places }
+    requires named { IsNamed J.book J.base J.table J.capacity J.sessions J.config opened }
 {
     let Ok((master, mut sessions)) = open::<T, J, G>(core_rt, opened, gate) else {
         return None;

@@ -1,5 +1,5 @@
 //! The two databases of a case.
-ghost use Rattle.std.specs.Prelude.{◌≡◌};
+ghost use Rattle.history_lock.specs.Names.{IsNamed};
 
 use crate::case::Case;
 use crate::documents::{Documents, Ids};
@@ -54,12 +54,7 @@ fn tell_from<J: Opening, T: Wait + Drop, R: Wait + Clock + Print + AllocGlobal +
     case: Case,
     source: Opened,
 ) -> io::Result<()>
-    requires book { source.book ≡ J.book }
-    requires base { source.base ≡ J.base }
-    requires table { source.queue.table ≡ J.table }
-    requires capacity { source.queue.capacity ≡ J.capacity }
-    requires sessions { source.queue.sessions ≡ J.sessions }
-    requires max_places { source.max_places ≡ J.max_places }
+    requires named { IsNamed J.book J.base J.table J.capacity J.sessions J.config source }
 {
     let session = session_of::<J, T>(source_rt, source)?;
     let target = new_database(rt.alloc())?;
@@ -73,12 +68,7 @@ fn tell_between<
     R: Wait + Clock + Print + AllocGlobal + Drop,
     S: Calls<R> + Drop,
 >(rt: &R, target_rt: T, case: Case, source: S, target: Opened) -> io::Result<()>
-    requires book { target.book ≡ J.book }
-    requires base { target.base ≡ J.base }
-    requires table { target.queue.table ≡ J.table }
-    requires capacity { target.queue.capacity ≡ J.capacity }
-    requires sessions { target.queue.sessions ≡ J.sessions }
-    requires max_places { target.max_places ≡ J.max_places }
+    requires named { IsNamed J.book J.base J.table J.capacity J.sessions J.config target }
 {
     let session = session_of::<J, T>(target_rt, target)?;
     tell_sessions(rt, rt.alloc(), case, source, session)
@@ -119,12 +109,7 @@ pub(crate) fn session_of<J: Opening, T: Wait + Drop>(
     rt: T,
     opened: Opened,
 ) -> Result<Session<Core<T, J>, J, NoGate>, AllocError>
-    requires book { opened.book ≡ J.book }
-    requires base { opened.base ≡ J.base }
-    requires table { opened.queue.table ≡ J.table }
-    requires capacity { opened.queue.capacity ≡ J.capacity }
-    requires sessions { opened.queue.sessions ≡ J.sessions }
-    requires max_places { opened.max_places ≡ J.max_places }
+    requires named { IsNamed J.book J.base J.table J.capacity J.sessions J.config opened }
 {
     let Ok((_master, mut sessions)) = open::<T, J, NoGate>(rt, opened, NoGate) else {
         return Err(AllocError);

@@ -1,5 +1,5 @@
 //! Replications over the end of a history: one end is closed, and goes on as its successor.
-ghost use Rattle.std.specs.Prelude.{◌≡◌};
+ghost use Rattle.history_lock.specs.Names.{IsNamed};
 
 use crate::databases::{config, new_database, session_of};
 use crate::end::End;
@@ -41,12 +41,7 @@ fn tell_beside<J: Opening, T: Wait + Drop, R: Wait + Clock + Print + AllocGlobal
     side: Side,
     opened: Opened,
 ) -> io::Result<()>
-    requires book { opened.book ≡ J.book }
-    requires base { opened.base ≡ J.base }
-    requires table { opened.queue.table ≡ J.table }
-    requires capacity { opened.queue.capacity ≡ J.capacity }
-    requires sessions { opened.queue.sessions ≡ J.sessions }
-    requires max_places { opened.max_places ≡ J.max_places }
+    requires named { IsNamed J.book J.base J.table J.capacity J.sessions J.config opened }
 {
     let session = session_of::<J, T>(database_rt, opened)?;
     tell_staying(rt, side, session)
@@ -70,12 +65,7 @@ fn tell_first<
     R: Wait + Clock + Print + AllocGlobal + Drop,
     P: End + Drop,
 >(rt: &R, database_rt: T, side: Side, opened: Opened, stays: P) -> io::Result<()>
-    requires book { opened.book ≡ J.book }
-    requires base { opened.base ≡ J.base }
-    requires table { opened.queue.table ≡ J.table }
-    requires capacity { opened.queue.capacity ≡ J.capacity }
-    requires sessions { opened.queue.sessions ≡ J.sessions }
-    requires max_places { opened.max_places ≡ J.max_places }
+    requires named { IsNamed J.book J.base J.table J.capacity J.sessions J.config opened }
 {
     let (closed, stays) = epoch::<J, T, R, P>(rt, database_rt, side, Stage::First, opened, stays)?;
     let next = Opened::after(rt.alloc(), config(), &closed)
@@ -91,12 +81,7 @@ fn tell_next<
     R: Wait + Clock + Print + AllocGlobal + Drop,
     P: End + Drop,
 >(rt: &R, database_rt: T, side: Side, opened: Opened, stays: P) -> io::Result<()>
-    requires book { opened.book ≡ J.book }
-    requires base { opened.base ≡ J.base }
-    requires table { opened.queue.table ≡ J.table }
-    requires capacity { opened.queue.capacity ≡ J.capacity }
-    requires sessions { opened.queue.sessions ≡ J.sessions }
-    requires max_places { opened.max_places ≡ J.max_places }
+    requires named { IsNamed J.book J.base J.table J.capacity J.sessions J.config opened }
 {
     let _ended = epoch::<J, T, R, P>(rt, database_rt, side, Stage::Next, opened, stays)?;
     Ok(())
@@ -112,12 +97,7 @@ fn epoch<J: Opening, T: Wait + Drop, R: Wait + Clock + Print + AllocGlobal + Dro
     opened: Opened,
     stays: P,
 ) -> io::Result<(Closed<J>, P)>
-    requires book { opened.book ≡ J.book }
-    requires base { opened.base ≡ J.base }
-    requires table { opened.queue.table ≡ J.table }
-    requires capacity { opened.queue.capacity ≡ J.capacity }
-    requires sessions { opened.queue.sessions ≡ J.sessions }
-    requires max_places { opened.max_places ≡ J.max_places }
+    requires named { IsNamed J.book J.base J.table J.capacity J.sessions J.config opened }
 {
     let Ok((master, mut sessions)) = open::<T, J, NoGate>(database_rt, opened, NoGate) else {
         return Err(AllocError.into());

@@ -5,7 +5,7 @@ abbrev pub ghosts-worked-J-Naming : goal.ghosts-worked-J-Naming
 ghosts-worked-J-Naming g a = record { book = a.opened.book; base = a.opened.base }
 
 abbrev pub ghosts-worked-J-Queued : goal.ghosts-worked-J-Queued
-ghosts-worked-J-Queued g a = record { table = a.opened.queue.table; capacity = a.opened.queue.capacity; sessions = a.opened.queue.sessions }
+ghosts-worked-J-Queued g a = record { table = a.opened.table; capacity = a.opened.config.queue; sessions = a.opened.config.sessions }
 
 abbrev pub ghosts-worked-J-Opening : goal.ghosts-worked-J-Opening
-ghosts-worked-J-Opening g a = record { max_places = a.opened.max_places }
+ghosts-worked-J-Opening g a = record { config = a.opened.config }

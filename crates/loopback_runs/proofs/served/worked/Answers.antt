@@ -10,4 +10,4 @@ work_of-told-requires-send-S g c κs within = search (session-send (param 0 g.ro
 pub close-closed-requires : goal.close-closed-requires
 close-closed-requires g c =
     let lent = c.as_mut_slice in
-    record { all = no_more c.in-Ok.sessions.items lent.result.now _ c.in-Ok.sessions.len _ _ c.in-Ok.ensures.sessions c.requires.sessions lent.ensures.value lent.ensures.len }
+    record { all = no_more c.in-Ok.sessions.items lent.result.now _ c.in-Ok.sessions.len _ _ c.in-Ok.ensures.sessions c.requires.named.sessions_is lent.ensures.value lent.ensures.len }

@@ -5,7 +5,7 @@ abbrev pub ghosts-tell_between-J-Naming : goal.ghosts-tell_between-J-Naming
 ghosts-tell_between-J-Naming g a = record { book = a.target.book; base = a.target.base }
 
 abbrev pub ghosts-tell_between-J-Queued : goal.ghosts-tell_between-J-Queued
-ghosts-tell_between-J-Queued g a = record { table = a.target.queue.table; capacity = a.target.queue.capacity; sessions = a.target.queue.sessions }
+ghosts-tell_between-J-Queued g a = record { table = a.target.table; capacity = a.target.config.queue; sessions = a.target.config.sessions }
 
 abbrev pub ghosts-tell_between-J-Opening : goal.ghosts-tell_between-J-Opening
-ghosts-tell_between-J-Opening g a = record { max_places = a.target.max_places }
+ghosts-tell_between-J-Opening g a = record { config = a.target.config }
