@@ -27,12 +27,12 @@ pub(crate) fn responses_however_cut(alloc: Global, input: &str) -> Result<String
     let input = json(alloc, input)?;
     let text = input.as_str().ok_or("a text")?;
     let (whole, _, _) = read_text(alloc, &[], text)?;
-    let mut same = 0;
+    let mut same: u64 = 0;
     for cut in 1..text.len() {
         let steps = [Step::AtMost(cut), Step::AtMost(text.len())];
         let (told, _, _) = read_text(alloc, &steps, text)?;
         if told == whole {
-            same += 1;
+            same = same.saturating_add(1);
         }
     }
     Ok(format!(in alloc; "{same} {whole}")?)
