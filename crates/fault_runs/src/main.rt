@@ -1,7 +1,7 @@
-//! What connections are told of calls that have no answer.
+//! What connections are answered where calls have no answer.
 //!
 //! The program takes no words. For each reason it serves a session whose calls are refused for that reason wherever it may be
-//! theirs, and for want of memory where an edit or a compaction can't be refused for it: a read, a wait for changes, an edit and a
+//! theirs, and is out of memory where an edit or a compaction can't be refused for it: a read, a wait for changes, an edit and a
 //! compaction, each over a connection of its own. It prints each response, how many requests were answered, and why the connection
 //! ended.
 #![tactic(auto)]
@@ -29,7 +29,7 @@ const REQUESTS: [&str; 4] = [
     "POST /db/_compact HTTP/1.1\r\n\r\n",
 ];
 
-/// What the connections are told where calls are refused for this reason.
+/// What connections are answered where calls are refused for this reason.
 fn told(alloc: Global, why: Unavailable) -> Result<String, Fail> {
     let mut text = format!(in alloc; "{why:?}:\n")?;
     for request in REQUESTS {

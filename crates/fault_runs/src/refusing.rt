@@ -104,7 +104,7 @@ impl<X> Calls<X> for Refusing {
     }
 }
 
-/// Why an edit or a compaction of a session that is not lost is refused: for the reason, if it can be, or for want of memory.
+/// Why an edit or a compaction of a session that is not lost is refused: for the reason, if it can be, or since memory is refused.
 fn fault_of(why: Unavailable, compacts: bool) -> CallFault
     ensures lost { says_lost result ≡ false }
     ensures refuses { (k : Known) → (command : model.Command) → IsCrowded k → is_compact command ≡ compacts

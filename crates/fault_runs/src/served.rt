@@ -11,7 +11,7 @@ use streams::scripted::{ScriptedReader, ScriptedWriter};
 /// How often a wait for changes looks.
 const TURNS: u64 = 1;
 
-/// Serves a request, and tells the response and how the connection ended.
+/// Serves a request, and writes down the response and how the connection ended.
 pub(crate) fn tell(
     text: &mut String,
     alloc: Global,
