@@ -27,11 +27,22 @@ pub(crate) fn part<X: Wait + Clock, S: Caller<X>>(
     if index != OTHER {
         return do_all(rt, alloc, notes, index, session, script.held_acts);
     }
-    for (turn, acts) in script.acts.iter().enumerate() {
-        notes
-            .marks
-            .wait_for_held(rt, (turn as u64).saturating_add(1));
-        do_all(rt, alloc, notes, index, session, *acts);
+    do_while_held(rt, alloc, notes, session, script.acts);
+}
+
+/// Does what belongs to each time that the other session is held.
+fn do_while_held<X: Wait + Clock, S: Caller<X>>(
+    rt: &X,
+    alloc: Global,
+    notes: &Notes,
+    session: &mut S,
+    all_acts: &[&[Act]],
+) {
+    let mut times: u64 = 0;
+    for acts in all_acts {
+        times = times.saturating_add(1);
+        notes.marks.wait_for_held(rt, times);
+        do_all(rt, alloc, notes, OTHER, session, *acts);
         notes.marks.release();
     }
 }
