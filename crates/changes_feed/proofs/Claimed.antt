@@ -79,7 +79,7 @@ is_first q (y ∷ ys) (suc i) x lt is = at (q y) (is_first q ys i x (omega (arit
     at true h = eqb-zero-suc i ∙ and_none (q x)
     at false h = eqb-suc-suc (first_place q ys) i ∙ h
 
--- ---- lists in which the known ones stand once
+-- ---- lists that name each known one once
 
 module _ (p : Rev → Bool) where
   abbrev Seen : List Rev → Rev → Bool

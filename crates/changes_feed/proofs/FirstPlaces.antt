@@ -110,7 +110,7 @@ module _ (revs : List Rev) (nodes : List Node) (h : IsListOf nodes (tree_of node
             let there = ap (λ (q : Rev). q.generation) (at.rev n) in
             omega (arith, up, order, here, there)
 
--- ---- what stands beside the nodes
+-- ---- what is beside the nodes
 
 module _ (g : Rev → ℕ) (nodes : List Node) where
   pub beside_more : (i m : ℕ) (d : Node) (old new : List ℕ) → i < length nodes → old ≡ map (λ k. g k.rev) (take i nodes) → m ≡ g (get_or nodes i d).rev → new ≡ old ++ m ∷ []

@@ -1,4 +1,4 @@
--- Lists in which a revision stands once, made with a set of those that came before.
+-- Lists that name each revision once, made with a set of those that came before.
 use Rattle.std.specs.Prelude.{◌≡◌, Bool, true, false, cond, ◌&&◌, ◌||◌, List, [], ◌∷◌, ◌++◌, if◌then◌else◌, filter, refl}
 use Rattle.std.specs.List.{list_any}
 use Rattle.std.specs.BTreeSet.{BTreeSet, contains, Updates}
@@ -27,7 +27,7 @@ pub IsSeen-push : (s n : BTreeSet Rev) (xs : List Rev) (x : Rev) → Updates rev
 IsSeen-push s n xs x u h = record { has = λ r. u.0 r ∙ ap (cond (same_rev x r) true) (h.has r) ∙ sym (any-push (λ y. same_rev y r) xs x) }
 
 module _ (same : Rev → Rev → Bool) where
-  -- a further member, where it is told whether it repeats another
+  -- a further member, where it is known whether it repeats another
   pub each_once-told : (xs : List Rev) (x : Rev) (b : Bool) → b ≡ list_any (λ y. same y x) xs → each_once same (xs ++ x ∷ []) ≡ once_more same b (each_once same xs) x
   each_once-told xs x b e = each_once-push same xs x ∙ ap (λ c. once_more same c (each_once same xs) x) (sym e)
 
@@ -38,7 +38,7 @@ module _ (p : Rev → Bool) (xs : List Rev) (x : Rev) where
   pub filter-same : p x ≡ false → filter p (xs ++ x ∷ []) ≡ filter p xs
   filter-same e = filter-append p xs (x ∷ []) ∙ ap (λ b. filter p xs ++ cond b (x ∷ []) []) e ∙ append-nil (filter p xs)
 
--- those that pass a test count, and the others may stand there again
+-- those that pass a test count, and the others may be there again
 module _ (p : Rev → Bool) where
   abbrev pub once_where : List Rev → List Rev
   once_where = each_once (λ a b. p a && same_rev a b)

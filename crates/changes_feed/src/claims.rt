@@ -54,7 +54,7 @@ fn firsts(alloc: Global, nodes: &[Node], revs: &[RevId]) -> Result<Vec<usize>, A
     Ok(firsts)
 }
 
-/// The same of one node, where those before it have theirs: its parent stands before it.
+/// The same of one node, where those before it have theirs: its parent comes before it.
 fn first_at(nodes: &[Node], firsts: &[usize], revs: &[RevId], place: usize) -> usize
     requires listed { IsListOf nodes.now (tree_of nodes.now) }
     requires place { place < length nodes.now }

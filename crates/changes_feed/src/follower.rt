@@ -76,7 +76,7 @@ impl Follower {
         &self.ids
     }
 
-    /// How many rows stand above the cursor.
+    /// How many rows are above the cursor.
     pub fn pending(&self, version: &Version) -> u64
         ensures pending { result
             ≡ length (rows_since (wanted_by self.now.ids) (now version.now) self.now.cursor self.now.style) }

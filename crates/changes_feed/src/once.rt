@@ -1,4 +1,4 @@
-//! Lists in which a revision stands once.
+//! Lists that name each revision once.
 ghost use Rattle.std.specs.Prelude.{◌≡◌, ◌∷◌, ◌++◌, [], true, OnOk, IfOk, if◌then◌else◌};
 ghost use Rattle.std.specs.BTreeSet.{contains, IsFromIterResult, Updates};
 ghost use Rattle.model.specs.Lists.{each_once};

@@ -1,4 +1,4 @@
--- The kinds of commands in the words of the model.
+-- The kinds of commands in the model's terms.
 use Rattle.std.specs.Prelude.{option_map}
 use Rattle.std.specs.Arc.{arc_value}
 use Rattle.model.specs.Command as model

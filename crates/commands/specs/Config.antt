@@ -1,4 +1,4 @@
--- A configuration's numbers in the words of the model.
+-- A configuration's numbers in the model's terms.
 use Rattle.model.specs.World.{Config}
 use Rattle.commands.specs.declared.config.Limits.{Limits}
 

@@ -1,4 +1,4 @@
--- The kinds of replies in the words of the model.
+-- The kinds of replies in the model's terms.
 use Rattle.model.specs.Command as model
 use Rattle.commands.specs.declared.reply.ReplyKind.{ReplyKind}
 use Rattle.commands.specs.declared.reply.ReplyKind.TheVariants.{Wrote, WroteLocal, Purged, Done}

@@ -46,7 +46,7 @@ impl AskedRevisions {
     }
 }
 
-/// Revisions of each document, in the byte order of the ids, each of which stands there once.
+/// Revisions of each document, in the byte order of the ids, each of which is there once.
 pub struct NamedRevisions {
     documents: Vec<AskedRevisions>,
     ghost rising: { T (is_sorted names.cmp documents.items) },

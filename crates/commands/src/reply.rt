@@ -84,7 +84,7 @@ impl Copied for Reply {
     }
 }
 
-/// Whether the two are of one kind and tell the same.
+/// Whether the two are of one kind and say the same.
 fn is_same_kind(one: &ReplyKind, other: &ReplyKind) -> bool
     ensures same { IsTrue result ↔ (reply_of one.now ≡ reply_of other.now) }
 {

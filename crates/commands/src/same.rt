@@ -1,4 +1,4 @@
-//! Whether two things that are asked or answered are one, told without memory.
+//! Whether two things that are asked or answered are the same, found without allocation.
 ghost use Rattle.std.specs.Prelude.{◌≡◌, ◌↔◌, IsTrue, option_copied};
 
 use crate::edit::Edit;
@@ -9,7 +9,7 @@ use json_profile::Body;
 use model::Refusal;
 use revision_id::RevId;
 
-/// What can be told from another of its kind.
+/// What can be compared with another of its kind.
 pub(crate) trait Same: Drop {
     /// Whether the two are equal.
     fn is_same(&self, other: &Self) -> bool

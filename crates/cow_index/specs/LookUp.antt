@@ -1,4 +1,4 @@
--- What a look-up finds from where it stands.
+-- What a look-up finds from where it is.
 use Rattle.std.specs.Prelude.{◌≡◌, T, ⊤, List, Option, option_copied}
 use Rattle.std.specs.FinMap.Entries.{find, is_sorted}
 use Rattle.std.specs.declared.cmp.Ordering.{Ordering}
@@ -10,7 +10,7 @@ module _ {K V : Type 0} (cmp : K → K → Ordering) where
   found key (Below tree) = find cmp key tree.now.0
   found key (Done value) = option_copied value
 
-  -- the keys rise where it stands
+  -- the keys rise where it is
   abbrev pub IsOrdered : Way K V → Type 0
   IsOrdered (Below tree) = T (is_sorted cmp tree.now.0)
   IsOrdered (Done value) = ⊤

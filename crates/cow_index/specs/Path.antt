@@ -22,7 +22,7 @@ module _ {K V : Type 0} where
   FitsAt i None = ⊥
   FitsAt i (Some n) = i + height_of n.now ≤ MAX_HEIGHT
 
-  -- the same of each of the nodes, which stand from place i on
+  -- the same of each of the nodes, which are from place i on
   abbrev pub FitFrom : ℕ → List (Option (Bor (Node K V))) → Type 0
   FitFrom i [] = Unit {0}
   FitFrom i (p ∷ ps) = FitsAt i p × FitFrom (suc i) ps

@@ -9,7 +9,7 @@ use index_key::IndexKey;
 use std::cmp::Ordering;
 use std::marker::Model;
 
-/// Where a look-up stands.
+/// Where a look-up is.
 #[derive(Drop)]
 pub(crate) enum Way<'a, K, V> {
     /// What it looks for is in this tree, if it is anywhere.
@@ -39,7 +39,7 @@ impl<'a, K: IndexKey, V> Model for LookUp<'a, K, V> {
 }
 
 impl<'a, K: IndexKey, V: Drop> LookUp<'a, K, V> {
-    /// A look-up that stands at the root.
+    /// A look-up that is at the root.
     pub(crate) fn new(key: &'a K, root: &'a Root<K, V>) -> Self
         requires { T (is_sorted K.cmp root.now.0) }
         ensures { result ≡ (key.now, find K.cmp key.now root.now.0) }

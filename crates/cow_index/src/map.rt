@@ -106,7 +106,7 @@ impl<K: IndexKey, V: Drop> CowMap<K, V> {
         self.root.get(key)
     }
 
-    /// A look-up of the key that stands at the root: at its end after [`height`](CowMap::height) steps.
+    /// A look-up of the key that is at the root: at its end after [`height`](CowMap::height) steps.
     pub fn look_up<'a>(&'a self, key: &'a K) -> LookUp<'a, K, V>
         ensures { result ≡ (key.now, find K.cmp key.now self.now.entries) }
     {

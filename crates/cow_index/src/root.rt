@@ -23,7 +23,7 @@ use std::sync::Arc;
 /// A right side of so many entries is joined to the left one.
 const FULL_SIDE: u64 = 16;
 
-/// What stands at the root of a map.
+/// What is at the root of a map.
 #[derive(Drop)]
 pub(crate) enum Top<K, V> {
     Level(Tree<K, V>),

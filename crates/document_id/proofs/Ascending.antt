@@ -16,13 +16,13 @@ is_less : (o : Ordering) → o ≡ Less → T (is_lt o)
 is_less o e = subst (λ r. T (is_lt r)) (sym e) tt
 
 module _ {X : Type 0} where
-  -- what stands above b stands above a
+  -- what is above b is above a
   below_less : (a b : Id) (es : List (Id × X)) → names.cmp a b ≡ Less → T (below_all names.cmp b es) → T (below_all names.cmp a es)
   below_less a b [] p h = tt
   below_less a b (e ∷ es) p h =
       both _ _ (is_less _ (names.total.trans a b e.0 p (less _ (first _ _ h)))) (below_less a b es p (second _ _ h))
 
-  -- the first of two stands below the second, and the rest rises
+  -- the first of two is below the second, and the rest rises
   pub rises-first : (a b : Id × X) (es : List (Id × X)) → T (is_sorted names.cmp (a ∷ b ∷ es)) → names.cmp a.0 b.0 ≡ Less
   rises-first a b es h = less _ (first _ _ (first _ _ h))
 

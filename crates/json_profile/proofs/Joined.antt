@@ -79,7 +79,7 @@ all_front-front_of (member k d ms) = at (is_front k) refl (all_front-front_of ms
     at true is h = and_from (is_front k) (all_front (front_of ms)) is h
     at false is h = refl
 
--- ---- where a special name stands
+-- ---- where a special name is
 
 pub front-below : (n k : List ℕ) → is_special n ≡ true → is_front k ≡ true → slice_cmp nat_cmp k n ≡ Less
 front-below [] k special front = absurd (true≢false (sym special))
@@ -127,7 +127,7 @@ pub put-joined : (n : List ℕ) (v : Data) (front special back : Members) → is
     → put n v (join front (join special back)) ≡ join front (join (put n v special) back)
 put-joined n v front special back is below above = put-front n v front (join special back) is below ∙ ap (join front) (put-back n v special back is above)
 
--- ---- all that stand after a name that is not in front are not in front
+-- ---- all that come after a name that is not in front are not in front
 
 greater_less : Greater ≡ Less → ⊥
 greater_less h = cc
@@ -257,7 +257,7 @@ plain-text ms = ap (λ os. compact_text (object os)) (sym (parts ms)) ∙ text-p
 
 -- ---- the text is cut at the split
 
--- a character of one byte stands first
+-- a character of one byte is first
 abbrev Begins : List ℕ → Type 0
 Begins [] = ⊥
 Begins (c ∷ rest) = c < 128
@@ -349,7 +349,7 @@ has_member-length later no_members = refl
 has_member-length true (member k d ms) = ap not (eqb-suc-zero _)
 has_member-length false (member k d ms) = ap not (eqb-suc-zero _)
 
--- the comma that is missing where none stands in front
+-- the comma that is missing where none is in front
 later-text : (later : Bool) (ms : Members) → bare_text true ms ≡ comma_if (not later && has_member ms) ++ bare_text later ms
 later-text true no_members = refl
 later-text false no_members = refl

@@ -19,7 +19,7 @@ abbrev pub bare_text : Bool → Members → List ℕ
 bare_text later no_members = []
 bare_text later (member k d ms) = comma_if later ++ (quoted k ++ 58 ∷ (compact_text d ++ bare_text true ms))
 
--- the name stands before every name that begins with `_`
+-- the name comes before every name that begins with `_`
 abbrev pub is_front : List ℕ → Bool
 is_front [] = true
 is_front (c ∷ rest) = nat_lt c 95
@@ -36,17 +36,17 @@ abbrev pub all_front : Members → Bool
 all_front no_members = true
 all_front (member k d ms) = is_front k && all_front ms
 
--- every name stands after those that begin with `_`
+-- every name comes after those that begin with `_`
 abbrev pub all_back : Members → Bool
 all_back no_members = true
 all_back (member k d ms) = (not (is_front k) && not (is_special k)) && all_back ms
 
--- the members whose names stand before `_`, by a test of each
+-- the members whose names come before `_`, by a test of each
 abbrev pub fronts : Members → Members
 fronts no_members = no_members
 fronts (member k d ms) = if is_front k then member k d (fronts ms) else fronts ms
 
--- the special members between those that stand before them and the others
+-- the special members between those that come before them and the others
 abbrev pub between : Members → Members → Members
 between body special = join (front_of body) (join special (back_of body))
 

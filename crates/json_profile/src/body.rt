@@ -100,7 +100,7 @@ impl Body {
         self.text.as_str() == other.text.as_str()
     }
 
-    /// The part of the text with the members whose names stand before `_`, with no bracket.
+    /// The part of the text with the members whose names come before `_`, with no bracket.
     pub fn front(&self) -> &str
         ensures { result.now ≡ bare_text false (front_of self.now) }
     {
@@ -112,7 +112,7 @@ impl Body {
     }
 
     /// The part of the text with the other members, with no bracket. It begins with a comma where
-    /// some stand in front.
+    /// some are in front.
     pub fn back(&self) -> &str
         ensures { result.now ≡ bare_text (has_member (front_of self.now)) (back_of self.now) }
     {
@@ -147,7 +147,7 @@ fn place_of_specials(alloc: Global, value: Value) -> Result<usize, AllocError>
     }
 }
 
-/// Where the text of the members ends whose names stand before `_`.
+/// Where the text of the members ends whose names come before `_`.
 fn end_of_front(alloc: Global, members: Map<String, Value>) -> Result<usize, AllocError>
     requires { ArePlain (members_view members.entries) }
     ensures { IfOk result (λ at. at ≡ split_of (members_view members.entries)) }

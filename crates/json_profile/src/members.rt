@@ -66,7 +66,7 @@ pub(crate) fn is_front(name: &str) -> bool
     }
 }
 
-/// Drops the members whose names stand after `_`, and moves none of the others.
+/// Drops the members whose names come after `_`, and moves none of the others.
 pub(crate) fn keep_front(members: &mut Map<String, Value>)
     ensures { members_view members.new.entries ≡ fronts (members_view members.old.entries) }
 {

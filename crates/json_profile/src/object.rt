@@ -37,7 +37,7 @@ impl Model for Object {
     ghost invariant = { λ o. IsProfiled (object (members_view o.members.entries)) };
 }
 
-/// A name and what stands under it.
+/// A name and what is under it.
 #[derive(Drop)]
 pub struct Member {
     pub name: String,

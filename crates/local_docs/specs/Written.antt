@@ -1,4 +1,4 @@
--- The faults of writes in the words of the model.
+-- The faults of writes in the model's terms.
 use Rattle.std.specs.Prelude.{ℕ, Result, Ok, Err}
 use Rattle.model.specs.declared.refusal.Refusal.{Refusal}
 use Rattle.model.specs.declared.refusal.Refusal.TheVariants as refusal

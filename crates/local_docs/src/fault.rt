@@ -6,7 +6,7 @@ use thiserror::Error;
 /// Why a local document was not written.
 #[derive(Debug, Clone, Copy, PartialEq, Eq, Drop, Error)]
 pub enum LocalFault {
-    /// The write doesn't name the revision that stands.
+    /// The write doesn't name the current revision.
     #[error("not the revision that stands")]
     Conflict,
     /// There is no such document to delete.

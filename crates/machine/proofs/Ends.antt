@@ -1,4 +1,4 @@
--- What catching up and the end of a compaction do, by what the code tells of them.
+-- What catching up and the end of a compaction do, by what the code says of them.
 use Rattle.std.specs.Prelude.{◌≡◌, ℕ, ◌==◌, ◌<◌, ◌&&◌, Bool, true, false, nat_lt, length, Option, Some, None, option_map, unwrap_or, refl}
 use Rattle.std.proofs.Common.{sym, ap, ◌∙◌}
 use Rattle.std.proofs.lemmas.Bool.{false_from_ne_true, lt-ltb, ltb-true}

@@ -9,7 +9,7 @@ use Rattle.model.specs.World as model
 use Rattle.machine.specs.declared.completed.Completed.{Completed}
 use Rattle.machine.specs.Events.{completed_of, wrote_at, wrote_from}
 
--- the item that stands at a place is the first of those behind
+-- the item that is at a place is the first of those behind
 drop_at_item : {X : Type 0} (xs : List X) (n : ℕ) (x : X) → slice_get xs n ≡ Some x → drop n xs ≡ x ∷ drop (n + 1) xs
 drop_at_item [] n x at = absurd (none-some x at)
 drop_at_item (y ∷ ys) zero x at = ap (λ z. z ∷ ys) (same_Some y x at)

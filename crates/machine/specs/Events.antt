@@ -1,4 +1,4 @@
--- Events and completed calls in the words of the model.
+-- Events and completed calls in the model's terms.
 use Rattle.std.specs.Prelude.{ℕ, ◌+◌, List, [], ◌∷◌}
 use Rattle.model.specs.Command.{Entry}
 use Rattle.model.specs.World as model

@@ -11,7 +11,7 @@ use Rattle.machine.specs.Events.{completed_of}
 abbrev pub world_of : Option Database → Config → List Event → World
 world_of over c es = run (base_of over) c (start_world c) es
 
--- The history and the completed calls are those of that world. The history is legal over the base, tells each completed
+-- The history and the completed calls are those of that world. The history is legal over the base, records each completed
 -- call and holds no other entry, and the places of a session's calls never fall.
 pub record IsRun (over : Option Database) (c : Config) (es : List Event) (r : Record) : Type 0 where
   pub base : r.version.base ≡ over

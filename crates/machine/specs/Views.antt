@@ -1,4 +1,4 @@
--- The views of the sessions in the words of the model.
+-- The views of the sessions in the model's terms.
 use Rattle.std.specs.Prelude.{ℕ, ◌+◌, Bool, true, List, [], ◌∷◌, length, slice_set, slice_get, option_map, unwrap_or, map}
 use Rattle.model.specs.Map.{Map, empty, put}
 use Rattle.model.specs.Command.{numbers, Job}

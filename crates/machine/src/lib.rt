@@ -1,5 +1,5 @@
 //! A machine of one thread on which every interleaving of sessions, updater and compactor runs: one
-//! event after another, each as the definitions tell it.
+//! event after another, each as the definitions say.
 #![tactic(auto)]
 
 mod asking;

@@ -147,7 +147,7 @@ module _ (newest : Rev) (older : List Rev) (body : Body) (deleted : Bool) (t : T
         ap flag_in (get-grafted q) ∙ kept_by flag_in (filled q) (λ v. ap (λ w. w.deleted) (left v)) (get (linked path t) q) ∙ is_deleted-linked t path q,
       )
 
-  -- what stands at the newest when the path is linked
+  -- what is at the newest when the path is linked
   abbrev last : Revision
   last = link t newest older
 

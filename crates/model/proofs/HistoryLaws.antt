@@ -32,7 +32,7 @@ pub batch_entries-append : (d : Database) (js ks : List Job) → batch_entries d
 batch_entries-append d [] ks = refl
 batch_entries-append d (j ∷ js) ks = ap (λ es. entry_of d j.seat j.command ∷ es) (batch_entries-append (act d j.seat j.command) js ks)
 
--- the replies are the database's, so a legal history is told by its jobs
+-- the replies are the database's, so a legal history is determined by its jobs
 pub IsLegal-entries : (base : Database) (es : List Entry) → IsLegal base es → es ≡ batch_entries base (map job_of es)
 IsLegal-entries base [] h = refl
 IsLegal-entries base (e ∷ es) h =

@@ -59,7 +59,7 @@ same_leaves s t is =
 
 -- ---- the winner
 
--- a flag and a revision that stand before others
+-- a flag and a revision that come before others
 before_parts : (a b : Bool) (o : Ordering) → ordering_then (bool_cmp a b) o ≡ Less → (a ≡ true → b ≡ true) × (b ≡ a → o ≡ Less)
 before_parts false false o h = (λ e. e, λ _. h)
 before_parts false true o h = (λ _. refl, λ e. absurd (true≢false e))

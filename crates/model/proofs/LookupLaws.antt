@@ -8,7 +8,7 @@ use Rattle.model.proofs.ListLaws.{by_cases}
 use Rattle.model.proofs.MapLaws.{get-refine_all}
 
 module _ {O : Order} {X : Type 0} (m : Map O X) (k : O.key) where
-  -- keys that are not equal are told apart
+  -- keys that are not equal are distinguished
   pub apart : (q : O.key) → q ≢ k → same_key O q k ≡ false
   apart q other = false_from_ne_true _ (λ e. other (same_key-equal O q k e))
 
@@ -33,7 +33,7 @@ module _ {O : Order} {X : Type 0} (m : Map O X) (k : O.key) where
   pub get-without_other : (q : O.key) → same_key O q k ≡ false → get (without m k) q ≡ get m q
   get-without_other q other = get-without q ∙ ap (λ b. cond b None (get m q)) other
 
-  -- what stands there after a put was put, or stood there
+  -- what is there after a put was put, or was there
   pub put-cases : (x : X) (q : O.key) (y : X) → get (put m k x) q ≡ Some y → ((q ≡ k) × (x ≡ y)) ⊎ (get m q ≡ Some y)
   put-cases x q y e = by_cases (same_key O q k)
       (λ t. inl (same_key-equal O q k t, same_Some x y (sym (get-put_same x q t) ∙ e)))
@@ -44,7 +44,7 @@ module _ {O : Order} {X : Type 0} (m : Map O X) (k : O.key) where
       (λ t. absurd (none-some y (sym (get-without_same q t) ∙ e)))
       (λ f. sym (get-without_other q f) ∙ e)
 
--- what stands there after each value has changed was made of what stood there
+-- what is there after each value has changed was made of what was there
 pub refined-some : {O : Order} {X Y : Type 0} (f : O.key → X → Y) (m : Map O X) (q : O.key) (y : Y) → get {O = O} (refine (λ k x. Some (f k x)) m) q ≡ Some y → (x : X) × (get m q ≡ Some x) × (f q x ≡ y)
 refined-some {X} {Y} f m q y e = at (get m q) (sym (get-refine_all f m q) ∙ e)
   where

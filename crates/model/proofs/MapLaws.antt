@@ -81,7 +81,7 @@ Contains-keys-from_list O es k =
     let c = Contains-keys O (from_list es) k in
     (λ h. Contains-from_any (same_key-equal O) k _ (sym listed ∙ c.0 h), λ h. c.1 (listed ∙ list_any-from_Contains (eq_by_cmp_equiv O.total) k _ h))
 
--- ---- a list in rising order is told by its members
+-- ---- a list in rising order is determined by its members
 
 module _ (O : Order) where
   abbrev bare : List O.key → List (O.key × Unit {0})

@@ -84,7 +84,7 @@ pub AllPairs-removed_leaves : (named : List Rev) (t : Tree) → AllPairs (λ a b
 AllPairs-removed_leaves named t i j d less lt e =
     true≢false (sym ((same_rev-equal _ _).1 e) ∙ AllPairs-each_once same_rev (filter (is_leaf t) named) i j d less lt)
 
--- a leaf stands among the named leaves exactly where it is named
+-- a leaf is among the named leaves exactly where it is named
 seen_named : (named : List Rev) (t : Tree) (r : Rev) → is_leaf t r ≡ true → list_any (λ q. same_rev q r) (filter (is_leaf t) named) ≡ among named r
 seen_named named t r l = both_ways _ _
     (λ h. to (passing_of (λ q. same_rev q r) (filter (is_leaf t) named) h))

@@ -57,7 +57,7 @@ joined_none : (found : Members) → joined found no_members ≡ found
 joined_none no_members = refl
 joined_none (member k d found) = ap (member k d) (joined_none found)
 
--- the first stands before one in the middle
+-- the first comes before one in the middle
 before_middle : (l : List ℕ) (found : Members) (k : List ℕ) (d : Data) (ms : Members) → is_before l (joined found (member k d ms)) ≡ true → members_ordered (joined found (member k d ms)) ≡ true
     → is_lt (slice_cmp nat_cmp l k) ≡ true
 before_middle l no_members k d ms low h = low

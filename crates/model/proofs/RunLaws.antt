@@ -1,4 +1,4 @@
--- What holds of a world after every list of events: its history is legal, tells each completed call and holds no other entry.
+-- What holds of a world after every list of events: its history is legal, records each completed call and holds no other entry.
 use Rattle.std.specs.Prelude.{◌≡◌, ℕ, ◌+◌, ◌≤◌, true, false, List, [], ◌∷◌, ◌++◌, length, take, drop, filter_map, Some, refl}
 use Rattle.std.proofs.Common.{sym, ap, subst, ◌∙◌, arith, append_assoc, length-append}
 use Rattle.std.proofs.lemmas.Option.{none-some, same_Some}
@@ -19,7 +19,7 @@ use Rattle.model.proofs.JobLaws.{AreReady, has_job-append, views-apart, AreReady
 use Rattle.model.proofs.EventLaws.{asked, taken, looked, answered, started, last_job, swapped, Change, none, asks, takes, puts, gives_up, looks, reads, starts, goes_on, aborts, swaps, change-step}
 
 module _ (base : Database) where
-  -- a legal history and the completed calls that it tells
+  -- a legal history and the completed calls that it records
   pub record IsTold (h : List Entry) (cs : List Completed) : Type 0 where
     pub legal : IsLegal base h
     pub told : AllTold base h cs

@@ -1,4 +1,4 @@
--- What a history tells: a longer one tells it too, and commands stand at places from 1 to its length.
+-- What a history records: a longer one records it too, and commands are at places from 1 to its length.
 use Rattle.std.specs.Prelude.{◌≡◌, ℕ, zero, suc, ◌+◌, ◌-◌, ◌<◌, ◌≤◌, List, [], ◌∷◌, ◌++◌, length, slice_get, Some, refl}
 use Rattle.std.proofs.Common.{sym, ap, subst, ◌∙◌, arith, length-append}
 use Rattle.std.proofs.lemmas.Option.{none-some, slice_get_within}
@@ -28,12 +28,12 @@ module _ (base : Database) where
   AllTold-append h more [] t = tt
   AllTold-append h more (c ∷ cs) t = (Tells-append h more c t.0, AllTold-append h more cs t.1)
 
-  -- one more call is told
+  -- one more call is recorded
   pub AllTold-push : (h : List Entry) (cs : List Completed) (c : Completed) → AllTold base h cs → Tells base h c → AllTold base h (cs ++ c ∷ [])
   AllTold-push h [] c t one = (one, tt)
   AllTold-push h (d ∷ cs) c t one = (t.0, AllTold-push h cs c t.1 one)
 
-  -- the last entry stands at the last place
+  -- the last entry is at the last place
   pub Tells-last : (h : List Entry) (e : Entry) → Tells base (h ++ e ∷ []) (WroteAt e.seat e.command (length h + 1) e.reply)
   Tells-last h e = (omega arith, ap (slice_get (h ++ e ∷ [])) (one_less (length h)) ∙ slice_get-push h e)
     where

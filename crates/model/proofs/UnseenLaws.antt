@@ -1,4 +1,4 @@
--- A compaction strips each tree and changes nothing else, so no query can tell it that asks of leaves, of known revisions or of numbers.
+-- A compaction strips each tree and changes nothing else, so no query about leaves, known revisions or numbers shows it.
 use Rattle.std.specs.Prelude.{◌≡◌, ℕ, Bool, true, false, not, ◌&&◌, cond, List, [], ◌∷◌, length, map, filter, filter_map, nat_lt, ◌-◌, ◌==◌, take, if◌then◌else◌, Option, Some, None, option_map, unwrap_or, refl}
 use Rattle.std.specs.List.{cons_option}
 use Rattle.std.specs.FinMap.Entries.{find}

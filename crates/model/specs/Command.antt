@@ -101,7 +101,7 @@ last_counter = 4294967295
 abbrev pub largest_limit : ℕ
 largest_limit = 4294967295
 
--- the last purge number that a reply tells, the largest whole number of `i64`
+-- the last purge number that a reply reports, the largest whole number of `i64`
 abbrev pub last_purge : ℕ
 last_purge = 9223372036854775807
 

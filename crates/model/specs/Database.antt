@@ -58,7 +58,7 @@ with_tree d id t = record d { docs = put d.docs id (record { tree = t; seq = d.u
 abbrev pub without_document : Database → Id → Database
 without_document d id = record d { docs = without d.docs id }
 
--- a tree other than the one that stands takes the next update number
+-- a tree other than the current one takes the next update number
 -- CouchDB: GET /{db}, "update_seq"
 unfoldable pub store : Database → Id → Tree → Database
 store d id t = if unwrap_or (option_map (same_tree t) (tree_at d id)) false then d else with_tree d id t

@@ -1,7 +1,7 @@
 -- A finite map as the list of its entries in the order of their keys. Equal where all look-ups are equal.
 --     Order      a type of keys with a total order, in which only equal keys tie.   same_key O a b      whether two keys are equal
 --     empty, get, put, without, from_list, entries      refine f m has f k x at each key k where m has x, and nothing where f gives none
---     IsRising O ks      each key stands before all later ones, so each stands there once
+--     IsRising O ks      each key comes before all later ones, so each is there once
 --     get-.., same_map      what `get` answers after each, and that two maps that answer alike are equal
 use Rattle.std.specs.Prelude.{◌≡◌, Bool, true, false, cond, T, List, [], ◌∷◌, map, AllPairs, Option, Some, None, option_and_then, if◌then◌else◌, refl}
 use Rattle.std.specs.declared.cmp.Ordering.{Ordering}
@@ -50,7 +50,7 @@ module _ {O : Order} {X : Type 0} where
   abbrev pub put : Map O X → O.key → X → Map O X
   put m k x = record { list = es.put O.cmp k x m.list; sorted = is_sorted-put O.cmp O.total k x m.list m.sorted }
 
-  -- of a key that stands twice, the first
+  -- of a key that is there twice, the first
   abbrev pub from_list : List (O.key × X) → Map O X
   from_list [] = empty
   from_list (e ∷ es) = put (from_list es) e.0 e.1

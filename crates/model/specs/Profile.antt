@@ -54,7 +54,7 @@ abbrev mutual
   members_have_utf8 no_members = true
   members_have_utf8 (member k d ms) = is_utf8 k && has_utf8 d && members_have_utf8 ms
 
--- the name stands before the first of the members
+-- the name comes before the first of the members
 abbrev pub is_before : List ℕ → Members → Bool
 is_before k no_members = true
 is_before k (member l d ms) = is_lt (slice_cmp nat_cmp k l)

@@ -1,4 +1,4 @@
--- What a history tells of completed calls.
+-- What a history records of completed calls.
 use Rattle.std.specs.Prelude.{◌≡◌, ◌<◌, ◌≤◌, ◌-◌, ℕ, List, [], ◌∷◌, length, take, slice_get, filter_map, Option, Some, None, if◌then◌else◌, ⊤}
 use Rattle.model.specs.Map.{same_key}
 use Rattle.model.specs.Command.{numbers, Entry}

@@ -101,7 +101,7 @@ leaves t = map (λ e. e.0) (entries (from_list {O = ranks} (map as_leaf (filter 
 abbrev pub winner : Tree → Option Leaf
 winner t = first_of (leaves t)
 
--- the greatest leaf, told with no list: deleted only where each leaf is, and with no greater revision at a leaf of its flag
+-- the greatest leaf, without a list: deleted only where each leaf is, and with no greater revision at a leaf of its flag
 -- CouchDB: "Replication and conflict model", "Working with conflicting documents"
 pub record IsGreatestLeaf (t : Tree) (w : Leaf) : Type 0 where
   pub leaf : IsLeafOf t w

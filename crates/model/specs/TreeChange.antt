@@ -38,7 +38,7 @@ cut named t = held_by t (filter (λ l. not (among named l.rev)) (leaves t))
 abbrev pub removed_leaves : List Rev → Tree → List Rev
 removed_leaves named t = each_once same_rev (filter (is_leaf t) named)
 
--- ---- stems and cuts told by parent steps
+-- ---- stems and cuts by parent steps
 
 -- r is zero or more steps above some leaf that isn't named
 pub record IsHeld (named : List Rev) (t : Tree) (r : Rev) : Type 0 where
@@ -99,7 +99,7 @@ grafted path body deleted t = refine (λ r v. Some (if is_at (first_of path) r t
 unfoldable pub graft : List Rev → Body → Bool → Tree → Option Tree
 graft path body deleted t = if agrees t path then Some (grafted path body deleted t) else None
 
--- ---- a graft told as a union of sets
+-- ---- a graft as a union of sets
 
 -- c and p are neighbours on the path
 abbrev pub is_pair : List Rev → Rev → Rev → Bool

@@ -83,7 +83,7 @@ pub fn writes_graft_and_then_stem()
         × Contradicts (unwrap_or (tree_at d m.id) empty) (m.newest ∷ m.older)) }
 {}
 
-/// A refused edit or merge changes nothing, and so does one whose tree stands already. Another one gives its document
+/// A refused edit or merge changes nothing, and so does one whose tree is there already. Another one gives its document
 /// that tree at the next update number, and no other document changes.
 pub fn writes_take_the_next_number_or_change_nothing()
     ensures edit_refused { (d : Database) (e : Edit) (f : Refusal) → edit_in d e ≡ Err f → after_edit d e ≡ d }
@@ -104,7 +104,7 @@ pub fn writes_take_the_next_number_or_change_nothing()
 
 /// A purge that removes no leaf changes nothing. A document that loses leaves is logged with them at the next purge
 /// number; it takes the next update number where a leaf is left, and otherwise it goes. No other document changes, so
-/// what stood before the purge tells all that it removes: that, and the last purge number, is the answer.
+/// what was there before the purge determines all that it removes: that, and the last purge number, is the answer.
 pub fn purges_are_logged()
     ensures nothing { (d : Database) (id : Id) (named : List Rev) →
         removed_of d id named ≡ [] → after_purge d (id, named) ≡ d }
@@ -204,7 +204,7 @@ pub fn numbers_stay_distinct_and_never_fall()
     ensures purge { (d : Database) (es : List Entry) → d.purges.purge_seq ≤ (replay d es).purges.purge_seq }
 {}
 
-/// The records stand in the order of their update numbers, each once, and so they do in the index by these numbers.
+/// The records are in the order of their update numbers, each once, and so they are in the index by these numbers.
 pub fn records_are_listed_by_number()
     ensures members { (d : Database) (n : ℕ) (id : Id) (r : Record) → IsNumbered d →
         Contains (by_seq d) (n, (id, r)) ↔ ((get d.docs id ≡ Some r) × (r.seq ≡ n)) }

@@ -33,7 +33,7 @@ pub fn legal_histories_go_on()
         IsLegal base es → es ≡ batch_entries base (map job_of es) }
 {}
 
-/// In a legal history each session's calls are numbered one by one, on from those of the base, and no call stands
+/// In a legal history each session's calls are numbered one by one, on from those of the base, and no call is
 /// twice.
 pub fn calls_are_numbered()
     ensures numbers { (base : Database) (es : List Entry) (s : ℕ) → IsLegal base es →
@@ -51,7 +51,7 @@ pub fn histories_begin_from_bases()
         d.purges.purge_seq ≤ largest_base → IsBase (successor d) }
 {}
 
-/// A history that extends another tells all that it told. The commands that it tells have places from 1 to its
+/// A history that extends another records all that the other does. The commands that it records have places from 1 to its
 /// length.
 pub fn longer_histories_tell_more()
     ensures each { (later earlier : Chronicle) (c : Completed) → Extends later earlier →
@@ -88,7 +88,7 @@ pub fn agreement_follows()
         is_overrun (now earlier).purges mark ≡ true → is_overrun (now later).purges mark ≡ true }
 {}
 
-/// After every list of events the history is legal, tells each completed call and holds no other entry, and the
+/// After every list of events the history is legal, records each completed call and holds no other entry, and the
 /// places of a session's calls never fall.
 pub fn every_run_is_legal()
     ensures legal { (base : Database) (c : Config) (es : List Event) →

@@ -1,6 +1,6 @@
 //! The definitions of the document store, and laws over them.
 //!
-//! The definitions stand in `specs/`. A law is the contract of a public function with an empty body.
+//! The definitions are in `specs/`. A law is the contract of a public function with an empty body.
 //! What a definition and code share, an enum with no values in it, is declared here once.
 #![tactic(auto)]
 

@@ -20,7 +20,7 @@ pub fn a_leaf_is_parent_of_none()
         → (is_leaf t r ≡ true) ↔ ((knows t r ≡ true) × ((c : Rev) → parent_of t c ≢ Some r)) }
 {}
 
-/// The tests of bodies and of trees tell whether they are equal.
+/// The tests of bodies and of trees say whether they are equal.
 pub fn tests_decide_equality()
     ensures body { (a b : Body) → (same_body a b ≡ true) ↔ (a ≡ b) }
     ensures tree { (s t : Tree) → (same_tree s t ≡ true) ↔ (s ≡ t) }
@@ -56,7 +56,7 @@ pub fn graft_is_a_union()
         → (graft path body deleted t ≡ None) ↔ Contradicts t path }
 {}
 
-/// What a stem or a cut keeps is told from child to parent: a leaf, or a step above what is kept.
+/// What a stem or a cut keeps is found from child to parent: a leaf, or a step above what is kept.
 pub fn kept_revisions_lie_above_kept_ones()
     ensures near { (limit : ℕ) (t : Tree) (r : Rev)
         → IsNear (limit + 1) t r ↔ ((is_leaf t r ≡ true) ⊎ ((c : Rev) × (parent_of t c ≡ Some r) × IsNear limit t c)) }

@@ -141,7 +141,7 @@ impl PurgeLog {
         self.infos.range_from(&(mark.min(self.purge_seq) + 1))
     }
 
-    /// How many of the purges that are kept stand above the mark, counted on one way down.
+    /// How many of the purges that are kept are above the mark, counted on one way down.
     pub fn count_above(&self, mark: u64) -> u64
         requires { self.now.purge_seq < u64.MAX }
         ensures { result ≡ length (purges_since self.now mark) }

@@ -1,4 +1,4 @@
--- The kinds of queries in the words of the model.
+-- The kinds of queries in the model's terms.
 use Rattle.std.specs.Prelude.{None, option_map}
 use Rattle.model.specs.Query as model
 use Rattle.queries.specs.declared.query.QueryKind.{QueryKind}

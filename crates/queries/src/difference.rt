@@ -1,4 +1,4 @@
-//! What a replica lacks, as `_revs_diff` tells it.
+//! What a replica lacks, as `_revs_diff` reports it.
 ghost use Rattle.std.specs.Prelude.{◌≡◌, T};
 ghost use Rattle.std.specs.FinMap.Entries.{is_sorted};
 ghost use Rattle.model.specs.Command.{names};

@@ -75,7 +75,7 @@ module _ (ns : List Node) (sorted : IsSorted ns) where
   }
 
   module _ (inner : (n : Node) → Contains ns n → n.inner ≡ has_child t n.rev) where
-    -- each node of a tree stands as it must
+    -- each node of a tree is as it must be
     pub rooted_in_tree : IsTree t → (n : Node) → Contains ns n → IsRooted t n
     rooted_in_tree is n c = record {
       parent = each_some n.parent (λ p. (knows t p ≡ true) × (n.rev.generation ≡ p.generation + 1)) (λ p e. is.forest.parents n.rev p (its_parent n c ∙ e));
@@ -109,7 +109,7 @@ module _ (ns : List Node) (sorted : IsSorted ns) where
 pub list_of_marked : (marked nodes : List Node) → IsNodes marked → entries_of marked ≡ entries_of nodes → IsListOf nodes (tree_of marked)
 list_of_marked marked nodes h same = let l = IsListOf-nodes marked h in record { entries = l.entries ∙ same; tree = l.tree; range = l.range }
 
--- nodes that all stand as they must make a tree exactly where there are any
+-- nodes that are all as they must be make a tree exactly where there are any
 pub some_rooted : (ns : List Node) (sorted : IsSorted ns) → ((n : Node) → Contains ns n → n.inner ≡ has_child (tree_of ns) n.rev) → All IsNode ns → All (IsRooted (tree_of ns)) ns → (some : Bool) → ((some ≡ true) ↔ (0 < length ns)) → (some ≡ true) ↔ IsTree (tree_of ns)
 some_rooted [] sorted inner ranges rooted some tells = (
   λ e. absurd (omega (arith, tells.0 e)),

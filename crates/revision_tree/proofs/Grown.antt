@@ -95,7 +95,7 @@ ground_of ns h = record {
 
 -- ---- members
 
--- what stands above the newest
+-- what is above the newest
 abbrev Above : Rev → List Rev → Type 0
 Above r [] = Unit {0}
 Above r (s ∷ rs) = (s.generation < r.generation) × IsPath (s ∷ rs)

@@ -1,4 +1,4 @@
--- Lists of which each element stands in order before all later ones.
+-- Lists of which each element is in order before all later ones.
 use Rattle.std.specs.Prelude.{◌≡◌, List, [], ◌∷◌, ◌++◌, map, get_or, reverse, All, AllPairs, Contains}
 use Rattle.std.proofs.Common.{sym, subst, ⊎_elim, arith}
 use Rattle.std.proofs.lemmas.List.{reverse-append}

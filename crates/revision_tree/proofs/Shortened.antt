@@ -207,7 +207,7 @@ all_above g ns n rest h e lt =
     (All-weaker (Before n) (λ m. g + 1 < m.rev.generation) (λ m b. omega (arith, lt, no_older n.rev m.rev b)) rest (AllPairs-head Before n rest (rising (n ∷ rest) up.sorted))) in
     subst (λ ms. filter_map (row_above g) (rows_of ms) ≡ rows_of ms) (sym e) (whole_above g (n ∷ rest) over up.near)
 
--- nodes of a tree that stand together
+-- nodes of a tree that are together
 pub rising_part : (ns before part after : List Node) → IsNodes ns → ns ≡ before ++ (part ++ after) → IsRising part
 rising_part ns before part after h e = record {
   sorted = sorted_front (entries_of part) (entries_of after) (sorted_rest (entries_of before) (entries_of part ++ entries_of after) (subst (λ es. T (is_sorted rev_cmp es)) parts h.sorted));

@@ -34,7 +34,7 @@ pub record AreGround (nodes : List Node) : Type 0 where
   pub forest : IsForest (tree_of nodes)
   pub linked : AreLinked [] (tree_of nodes) nodes
 
--- what stands above the newest of a path
+-- what is above the newest of a path
 abbrev pub IsRest : List Rev → Type 0
 IsRest [] = Unit {0}
 IsRest (r ∷ rs) = IsPath (r ∷ rs)

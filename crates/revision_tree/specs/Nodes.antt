@@ -56,7 +56,7 @@ without_mark n = record n { inner = false }
 abbrev pub with_mark : Option Rev → Node → Node
 with_mark parent n = record n { inner = is_at parent n.rev || n.inner }
 
--- the revision stands at place i
+-- the revision is at place i
 pub record IsPlaceOf (nodes : List Node) (r : Rev) (i : ℕ) : Type 0 where
   pub within : i < length nodes
   pub rev : (n : Node) → (slice_index_or nodes i n).rev ≡ r

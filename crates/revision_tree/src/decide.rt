@@ -12,7 +12,7 @@ use crate::node::Node;
 use crate::search::place_among;
 use revision_id::RevId;
 
-/// Marks the nodes that are parents of others, and tells whether the nodes are all that a tree has.
+/// Marks the nodes that are parents of others, and returns whether the nodes are all that a tree has.
 pub(crate) fn mark_tree(nodes: &mut [Node]) -> bool
     ensures entries { entries_of nodes.new ≡ entries_of nodes.old }
     ensures nodes { IsTrue result → IsNodes nodes.new }

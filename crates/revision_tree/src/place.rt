@@ -1,4 +1,4 @@
-//! Where a revision stands among the pieces that nodes are kept in.
+//! Where a revision is among the pieces that nodes are kept in.
 ghost use Rattle.std.specs.Prelude.{◌≡◌, ◌<◌, ◌≤◌, ◌-◌, IfSome, Contains, true, false, length, slice_index_or};
 ghost use Rattle.std.specs.FinMap.Entries.{find};
 ghost use Rattle.model.specs.Revision.{rev_cmp};

@@ -25,7 +25,7 @@ pub fn place_among(nodes: &[Node], rev: RevId) -> Option<usize>
     nodes.binary_search_by(|node| node.rev.cmp(&rev)).ok()
 }
 
-/// The place of a revision that stands as many places as generations above the oldest, as each does in a history with no
+/// The place of a revision that is as many places as generations above the oldest, as each is in a history with no
 /// conflicts, and as a common parent of conflicts does.
 fn place_by_generation(nodes: &[Node], rev: RevId) -> Option<usize>
     ensures { IfSome result (λ i. IsPlaceOf nodes.now rev i) }

@@ -71,7 +71,7 @@ impl RevTree {
         RevTree::from_marked(alloc, nodes)
     }
 
-    /// The tree of a list, where it is one that a tree has: the revisions ascend, the parent of each that has one stands
+    /// The tree of a list, where it is one that a tree has: the revisions ascend, the parent of each that has one is
     /// among them, one generation older, and those that are parents of none have bodies. Of another list nothing.
     pub fn from_list(alloc: Global, nodes: Vec<Node>) -> Result<Option<RevTree>, AllocError>
         ensures listed { (t : Tree) → IfOk result (λ made. (made ≡ Some t) ↔ IsListOf nodes.items t) }
@@ -96,7 +96,7 @@ impl RevTree {
     }
 
     /// The tree, or the empty one, with the members of a path that agrees with it, each next one the parent of the one
-    /// before, and with the body and the flag for the newest where it has no body. Shares what stands apart from these.
+    /// before, and with the body and the flag for the newest where it has no body. Shares what is apart from these.
     pub fn grafted(
         alloc: Global,
         tree: Option<&RevTree>,
@@ -134,7 +134,7 @@ impl RevTree {
         self.one_leaf || are_level(&self.rows, newest.generation())
     }
 
-    /// The revisions of a level tree that are fewer than `limit` steps above some leaf. Shares what stands apart from the oldest.
+    /// The revisions of a level tree that are fewer than `limit` steps above some leaf. Shares what is apart from the oldest.
     pub fn shortened(self, alloc: Global, limit: u32) -> Result<RevTree, AllocError>
         requires limit { 0 < limit }
         requires level { (l r : Rev) → is_known_leaf self l ≡ true → is_known self r ≡ true → r.generation ≤ l.generation }

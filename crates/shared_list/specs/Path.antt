@@ -28,7 +28,7 @@ module _ {T : Type 0} where
   FitsAt i None = ⊥
   FitsAt i (Some p) = (i + 2 * p.1 ≤ MAX_PLACES) × IsDue p.0.now p.1
 
-  -- the same of each of the trees, which stand from place i on
+  -- the same of each of the trees, which are from place i on
   abbrev pub FitFrom : ℕ → List (Option (Bor (List T) × ℕ)) → Type 0
   FitFrom i [] = Unit {0}
   FitFrom i (p ∷ ps) = FitsAt i p × FitFrom (suc i) ps

@@ -119,7 +119,7 @@ impl<T: Drop> Spine<T> {
         nodes.make_link(tree, levels, len, &second.rest)
     }
 
-    /// The value at a place, where the newest stands at 0.
+    /// The value at a place, where the newest is at 0.
     pub(crate) fn get(&self, place: u64) -> Option<&T>
         ensures { option_copied result ≡ slice_get self.now.0 place }
     {

@@ -72,7 +72,7 @@ impl<T: Drop> Tree<T> {
         }
     }
 
-    /// The value at a place, where the newest stands at 0.
+    /// The value at a place, where the newest is at 0.
     pub(crate) fn get(&self, len: u64, place: u64) -> Option<&T>
         requires { len ≡ length self.now }
         ensures { option_copied result ≡ slice_get self.now place }

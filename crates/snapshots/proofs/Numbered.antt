@@ -61,7 +61,7 @@ module _ (d : Database) (id : Id) (h : IsNumbered d) where
   left_sorted : T (is_sorted nat_cmp left)
   left_sorted = sorted-without_number (get d.docs id) _ (at_numbers d).sorted
 
-  -- a record of another document stands where it stood
+  -- a record of another document is where it was
   kept_left : (q : ℕ) (e : Id × Record) → same_key names e.0 id ≡ false → get d.docs e.0 ≡ Some e.1 → e.1.seq ≡ q → find nat_cmp q left ≡ Some e
   kept_left q e apart old seq =
       to_old q (entries (at_numbers d)) (get d.docs id) e refl
@@ -98,7 +98,7 @@ module _ (d : Database) (id : Id) (h : IsNumbered d) where
         distinct a b s t e (inl x) (inr y) = x.0 ∙ sym (free b t y (sym e ∙ sym (ap (λ (z : Record). z.seq) x.1)))
         distinct a b s t e (inr x) (inl y) = free a s x (e ∙ sym (ap (λ (z : Record). z.seq) y.1)) ∙ sym y.0
 
-    -- at another number stands what stood there, if it is of another document
+    -- at another number is what was there, if it is of another document
     module _ (q : ℕ) (other : q ≢ r.seq) where
       down : (e : Id × Record) → get (at_numbers with_record) q ≡ Some e → find nat_cmp q left ≡ Some e
       down e is =

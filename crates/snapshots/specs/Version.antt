@@ -12,7 +12,7 @@ entry_at es (suc n) = slice_get es n
 abbrev pub chronicle_of : Option Database → List Entry → Chronicle
 chronicle_of base entries = record { base = base; entries = entries }
 
--- a history keeps its limits, and tells what its database is
+-- a history keeps its limits, and determines what its database is
 pub record IsHistory (c : Chronicle) : Type 0 where
   pub base : IsBase (base_of c.base)
   pub legal : IsLegal (base_of c.base) c.entries

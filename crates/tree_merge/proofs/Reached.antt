@@ -87,7 +87,7 @@ module _ (limit : ℕ) (named : List Rev) (t : Tree) where
 
   -- ---- what is reached is marked
 
-  -- an entry is among these, or stands before all of them
+  -- an entry is among these, or comes before all of them
   abbrev Split : List Entry → Type 0
   Split es = (d : Entry) → Contains (entries t) d → Contains es d ⊎ All (Above d) es
 

@@ -87,7 +87,7 @@ three = put_new a ∷ put_new b ∷ put_new c ∷ []
 abbrev page_of : List Id → ℕ → Option ℕ → Answer
 page_of texts since limit = answer three (Changes since limit MainOnly (Some (ids_named texts)))
 
--- `zz` is no document's, and `a` stands twice
+-- `zz` is no document's, and `a` is there twice
 a_list_names_each_document_once_in_the_order_of_the_ids : ids_named (c ∷ a ∷ zz ∷ a ∷ [] ∷ []) ≡ a ∷ c ∷ zz ∷ []
 unfolding computed
 a_list_names_each_document_once_in_the_order_of_the_ids = refl

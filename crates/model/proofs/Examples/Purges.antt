@@ -40,7 +40,7 @@ two_documents = put_new y ∷ put_new x ∷ []
 abbrev purge_both : Command
 purge_both = Purge (from_list ((y, a1 ∷ []) ∷ (x, a1 ∷ []) ∷ []))
 
--- they stand in the order of their ids
+-- they are in the order of their ids
 what_loses_all_leaves_vanishes_and_takes_a_purge_number_alone : changed_by (after two_documents) purge_both ≡ record (after two_documents) {
   docs = empty;
   purges = record empty_log { purge_seq = 2; infos = record { seq = 1; id = x; leaves = a1 ∷ [] } ∷ record { seq = 2; id = y; leaves = a1 ∷ [] } ∷ [] };

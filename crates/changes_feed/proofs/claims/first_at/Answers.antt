@@ -1,4 +1,4 @@
--- The parent of a node stands before it.
+-- The parent of a node comes before it.
 use Rattle.std.specs.Prelude.{min, Contains}
 use Rattle.std.proofs.Common.{sym, ap, ◌∙◌, arith}
 use Rattle.std.proofs.lemmas.Bool.{true≢false}
