@@ -71,8 +71,8 @@ impl Opened {
         Ok(Opened::over(alloc, config, empty)?)
     }
 
-    /// The same over the base of a version of no entries.
-    fn over(alloc: Global, config: Config, empty: Version) -> Result<Opened, AllocError>
+    /// What a database over the base of a version of no entries has before its name.
+    pub fn over(alloc: Global, config: Config, empty: Version) -> Result<Opened, AllocError>
         requires empty { empty.entries ≡ [] }
         ensures base { IfOk result (λ o. o.base ≡ empty.base) }
         ensures config { IfOk result (λ o. o.config ≡ config) }

@@ -33,7 +33,7 @@ const DEFAULT_REVS_LIMIT: u32 = 1000;
 /// revisions, and how many commands each session has made.
 ///
 /// Versions lend it to be read. Only their commands change it: in a share of its own, or in its place where the
-/// version is given up.
+/// version is given up. Who replays entries and keeps no history of them takes a share and lets the commands act on it.
 pub struct Database {
     alloc: Global,
     documents: Records,
@@ -87,7 +87,7 @@ impl Database {
     }
 
     /// The same database. It takes no memory.
-    pub(crate) fn share(&self) -> Result<Database, AllocError>
+    pub fn share(&self) -> Result<Database, AllocError>
         ensures { IfOk result (λ d. d ≡ self.now) }
     {
         Ok(Database {
@@ -102,7 +102,7 @@ impl Database {
 
     /// Does the command, and counts it as a call of its session.
     #[tactic(auto, unfolding(model::specs::Database::act))]
-    pub(crate) fn act(&mut self, seat: Seat, command: &Command) -> Result<Reply, AllocError>
+    pub fn act(&mut self, seat: Seat, command: &Command) -> Result<Reply, AllocError>
         requires next { seat.call ≡ calls_of self.old seat.session + 1 }
         requires room { self.old.update_seq + max_edits < u64.MAX }
         requires log_room { self.old.purges.purge_seq + max_edits < u64.MAX }

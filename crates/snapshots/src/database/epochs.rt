@@ -8,7 +8,7 @@ use std::alloc::AllocError;
 
 impl Database {
     /// The same database, in which no session has called. It takes no memory.
-    pub(crate) fn uncalled(&self) -> Result<Database, AllocError>
+    pub fn uncalled(&self) -> Result<Database, AllocError>
         ensures { IfOk result (λ d. d ≡ successor self.now) }
     {
         Ok(Database {

@@ -52,7 +52,7 @@ impl Version {
     }
 
     /// The version of no entries over this database.
-    fn over(alloc: Global, database: Database) -> Result<Version, AllocError>
+    pub fn over(alloc: Global, database: Database) -> Result<Version, AllocError>
         requires { IsBase database }
         ensures { IfOk result (λ v. v ≡ record { base = Some database; entries = [] }) }
     {
