@@ -23,7 +23,7 @@ use std::alloc::{AllocError, Global};
 ///
 /// # Errors
 ///
-/// Memory may be refused; what stood in the text still stands there, and a part of the line may.
+/// If memory is refused, what was in the text is still there, with perhaps a part of the line behind it.
 pub fn put_base(text: &mut String, alloc: Global, base: &Database) -> Result<(), AllocError>
     ensures line { OnOk result (string_bytes text.new ≡ string_bytes text.old ++ base_text base.now) }
 {

@@ -14,7 +14,7 @@ pub(crate) trait ListItem: Drop {
     /// What it shows.
     ghost shown: { Self → Shown };
 
-    /// The value that it stands as.
+    /// The value that is written for it.
     ghost data_of: { Shown → Data };
 
     /// An item of a base keeps these limits.

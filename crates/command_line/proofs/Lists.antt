@@ -9,7 +9,7 @@ use Rattle.command_line.specs.DocIds.{each_id, id_in, id_of, ids_listed, is_comm
 
 -- ---- the parts of a list
 
--- where a byte passes, what stands before the first of them is the first part
+-- where a byte passes, what comes before the first of them is the first part
 split-some : (p : ℕ → Bool) (xs : List ℕ) → position_or_len p xs < length xs → slice_split p xs ≡ before_first p xs ∷ slice_split p (after_first p xs)
 split-some p [] h = absurd (omega arith)
 split-some p (x ∷ xs) h = at (split-some p xs) (p x) h

@@ -9,7 +9,7 @@ use Rattle.clap.specs.Words.{Text}
 abbrev pub is_comma : ℕ → Bool
 is_comma byte = byte == 44
 
--- a list has a comma, and the first one stands between these
+-- a list has a comma, and the first one is between these
 pub record IsSplit (list first rest : Text) : Type 0 where
   pub there : position_or_len is_comma list < length list
   pub first_is : first ≡ before_first is_comma list

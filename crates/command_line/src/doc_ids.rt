@@ -30,7 +30,7 @@ pub(crate) fn ids_listed(alloc: Global, list: &str) -> Result<Option<Vec<String>
     Ok(Some(ids))
 }
 
-/// What stands before the first comma, and what behind it; nothing where there is none.
+/// What comes before the first comma, and what behind it; nothing where there is none.
 fn split_list(list: &str) -> Option<(&str, &str)>
     ensures some { IfSome result (λ parts. IsSplit list.now parts.0.now parts.1.now) }
     ensures none { IfNone result (position_or_len is_comma list.now ≡ length list.now) }

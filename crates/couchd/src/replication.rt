@@ -2,7 +2,7 @@
 
 use command_line::Replicating;
 use document_id::{DocId, DocIds};
-use replicating::{Watch, run_replication};
+use replicator_run::{Watch, run_replication};
 use std::alloc::{AllocError, Global};
 use std::io;
 use std::io::IsTerminal;
@@ -10,7 +10,7 @@ use std::net::{SocketAddr, TcpStream};
 use std::process::ExitCode;
 use streams::{Stream, set_up};
 
-/// Tells of each batch by a line on standard error, where that is a terminal, and there in any case what
+/// Reports of each batch by a line on standard error, where that is a terminal, and there in any case what
 /// keeps the replication from going on.
 #[derive(Clone, Copy, Drop)]
 struct Lines<'r> {
@@ -42,7 +42,7 @@ impl Watch for Lines<'_> {
 }
 
 /// Replicates between the two ends that were given, and prints what came of it. What fails before the
-/// first request is told on standard error.
+/// first request is named on standard error.
 pub(crate) fn replicate(rt: &HostRuntime, replicating: &Replicating) -> io::Result<ExitCode> {
     let Ok(id) = DocId::new(rt.alloc(), replicating.id.as_str()) else {
         let _printed = eprintln!(rt; "couchd: no memory");

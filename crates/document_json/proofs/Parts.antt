@@ -57,7 +57,7 @@ left_2 ms = without (codes "_rev") (left_1 ms)
 pub rev_left : (ms : Members) → get_member (codes "_rev") (left_1 ms) ≡ get_member (codes "_rev") ms
 rev_left ms = get_member-without (codes "_rev") (codes "_id") ms refl
 
--- ---- what is left of what stands behind the id
+-- ---- what is left of what is behind the id
 
 abbrev pub after_1 : Members → Members
 after_1 ms = without (codes "_rev") ms
@@ -90,7 +90,7 @@ body_left ms = without_specials-without_all others_listed ms refl
 
 -- ---- behind the id
 
--- the id that was taken tells all parts with what is left
+-- the id that was taken gives all parts with what is left
 pub parts_after_id : (ms : Members) → parts_after (get_member (codes "_id") ms) (without (codes "_id") ms) ≡ parts_of ms
 parts_after_id ms = λ i. record {
   id = get_member (codes "_id") ms;
@@ -110,7 +110,7 @@ without_all-none (name ∷ names) ms h none =
 abbrev pub plain_parts : Option Data → Members → Parts
 plain_parts id body = record { id = id; rev = None; deleted = None; revisions = None; has_other = false; body = body }
 
--- nothing else is told where nothing special is left
+-- nothing else is said where nothing special is left
 pub parts_after-none : (id : Option Data) (ms : Members) → has_special ms ≡ false → parts_after id ms ≡ plain_parts id (without_specials ms)
 parts_after-none id ms none = λ i. record {
   id = id;

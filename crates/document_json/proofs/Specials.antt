@@ -56,7 +56,7 @@ named-between id rev deleted body plain =
     ap (with_flag (codes "_deleted") deleted) (two-between (codes "_id") (codes "_rev") (string id) (rev_data rev) body plain refl refl)
     ∙ with_flag-between (codes "_deleted") deleted body (put (codes "_rev") (rev_data rev) (put (codes "_id") (string id) no_members)) plain refl
 
--- what stands beside the body of a document
+-- what is beside the body of a document
 abbrev special_of : Document → Members
 special_of d = told_members d (named_members d.id d.rev d.deleted no_members)
 
@@ -111,7 +111,7 @@ has_member-special d = some d.deleted d.conflicts d.deleted_conflicts
     some false [] (q ∷ qs) = refl
     some false [] [] = refl
 
--- what stands beside the body of a local one
+-- what is beside the body of a local one
 abbrev pub local_special : List ℕ → ℕ → Members
 local_special id counter = member (codes "_id") (string (local_id id)) (member (codes "_rev") (string (counter_text counter)) no_members)
 

@@ -7,7 +7,7 @@ use Rattle.json.specs.Print.{escape, quoted}
 use Rattle.json.proofs.Printed.Strings.{escape_byte_plain}
 use Rattle.document_json.specs.Text.{is_unescaped}
 
--- a test that fails tells that its two sides differ
+-- a test that fails shows that its two sides differ
 differ : (x y : ℕ) → not (x == y) ≡ true → x ≡ y → ⊥
 differ x y h is = true≢false (sym h ∙ ap not (eq-eqb x y is))
 

@@ -102,7 +102,7 @@ merge_in document =
 abbrev pub known_named : Listed → Checked Named
 known_named document = and_then (check (not document.parts.has_other) reason.Member) (λ _. document_named document)
 
--- the revision that a value tells, with its path
+-- the revision that a value reports, with its path
 -- CouchDB: GET /{db}/{docid}, "open_revs", "revs"
 abbrev pub merge_told : Data → Checked Merge
 merge_told value =

@@ -8,12 +8,12 @@ pub record MembersView : Type 0 where
   pub text : List ℕ
   pub has_members : Bool
 
--- these members stand behind that text
+-- these members are behind that text
 -- RFC 8259, 4 "Objects"
 pub record IsMembersAfter (before : List ℕ) (written : MembersView) (members : Members) : Type 0 where
   pub text : written.text ≡ before ++ bare_text false members
   pub later : written.has_members ≡ has_member members
 
--- more members are written, behind those that stand
+-- more members are written, behind those that are
 abbrev pub Writes : MembersView → MembersView → Members → Type 0
 Writes old new more = (before : List ℕ) (members : Members) → IsMembersAfter before old members → IsMembersAfter before new (join members more)

@@ -12,7 +12,7 @@ use Rattle.document_json.specs.declared.fault.Reason.TheVariants as reason
 abbrev pub is_dash : ℕ → Bool
 is_dash byte = byte == 45
 
--- the number before the first dash, and the bytes whose digits stand after it
+-- the number before the first dash, and the bytes whose digits come after it
 abbrev pub spelled : List ℕ → Rev
 spelled text = record {
   generation = digits_value 10 (before_first is_dash text);

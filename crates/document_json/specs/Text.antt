@@ -36,7 +36,7 @@ in_profile value =
 unfoldable pub json_of : List ℕ → Checked Data
 json_of bytes = and_then (or_refused (value_of bytes) reason.Json) in_profile
 
--- JSON lets the byte stand in a string
+-- JSON lets the byte be in a string
 -- RFC 8259, 7 "Strings"
 abbrev pub is_unescaped : ℕ → Bool
 is_unescaped byte = (nat_le 32 byte && not (byte == 34)) && not (byte == 92)

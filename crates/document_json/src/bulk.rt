@@ -44,7 +44,7 @@ pub(crate) struct Named {
 /// A body that is no JSON of the profile is refused as that, one that is no object with a list `docs`
 /// of at most as many documents as a command takes by [`Reason::Shape`], and then by the first of
 /// these: [`Reason::Depth`] of some document's body, [`Reason::Shape`] of `new_edits` or of some
-/// document, [`Reason::Member`], [`Reason::Id`], [`Reason::Revision`]. Memory may be refused.
+/// document, [`Reason::Member`], [`Reason::Id`], [`Reason::Revision`].
 pub fn read_bulk(alloc: Global, body: &[u8]) -> Result<Command, Fault>
     ensures { Decides result (bulk_of body.now) }
 {
@@ -216,11 +216,11 @@ fn name_document(alloc: Global, document: Listed) -> Result<Named, Fault>
     Ok(Named { id, parts, path })
 }
 
-/// The revision from elsewhere that a value tells, with its path.
+/// The revision from elsewhere that a value reports, with its path.
 ///
 /// # Errors
 ///
-/// A value that tells none is refused by the first of these: [`Reason::Depth`] of its body,
+/// A value that reports none is refused by the first of these: [`Reason::Depth`] of its body,
 /// [`Reason::Shape`], [`Reason::Member`], [`Reason::Id`], [`Reason::Revision`]. Memory may be
 /// refused.
 pub fn read_told_merge(alloc: Global, value: Json) -> Result<Merge, Fault>

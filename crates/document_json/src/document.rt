@@ -242,7 +242,7 @@ fn read_document(alloc: Global, body: &[u8]) -> Result<Parts, Fault>
 /// A body that is no JSON of the profile is refused as that, one that nests too deep for a document by
 /// [`Reason::Depth`], one that is no document by [`Reason::Shape`], an unknown special member by
 /// [`Reason::Member`], another id by [`Reason::Id`], and a wrong or another revision by
-/// [`Reason::Revision`]. Memory may be refused.
+/// [`Reason::Revision`].
 pub fn read_edit(alloc: Global, id: DocId, rev: Option<RevId>, body: &[u8]) -> Result<Edit, Fault>
     ensures { Decides result (edit_of id rev body.now) }
 {

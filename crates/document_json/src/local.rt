@@ -112,7 +112,7 @@ fn counter_over(
 /// the profile is refused as that, one that nests too deep for a document by [`Reason::Depth`], one
 /// that is no document by [`Reason::Shape`], a special member beside `_id` and `_rev` by
 /// [`Reason::Member`], another id by [`Reason::Id`], and a wrong or another revision by
-/// [`Reason::Revision`]. Memory may be refused.
+/// [`Reason::Revision`].
 pub fn read_local_edit(
     alloc: Global,
     id: DocId,

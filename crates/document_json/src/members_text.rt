@@ -12,7 +12,7 @@ use serde_json::Value;
 use std::alloc::{AllocError, Global};
 use std::marker::Model;
 
-/// Members of an object that stand in the text as soon as they are pushed.
+/// Members of an object that are in the text as soon as they are pushed.
 #[derive(Drop)]
 pub struct MembersText {
     text: String,
@@ -29,7 +29,7 @@ impl Model for MembersText {
 }
 
 impl MembersText {
-    /// No member yet, behind what stands in the text.
+    /// No member yet, behind what is in the text.
     pub fn after(text: String) -> MembersText
         ensures { IsMembersAfter (string_bytes text) result no_members }
     {

@@ -17,7 +17,7 @@ use std::alloc::{AllocError, Global};
 /// # Errors
 ///
 /// A body that is no JSON is refused by [`Reason::Json`], one with a number that is no whole number of
-/// `i64` by [`Reason::Number`], and one that nests too deep by [`Reason::Depth`]. Memory may be refused.
+/// `i64` by [`Reason::Number`], and one that nests too deep by [`Reason::Depth`].
 pub fn read_json(alloc: Global, bytes: &[u8]) -> Result<Json, Fault>
     ensures { Decides result (json_of bytes.now) }
 {
@@ -32,7 +32,7 @@ pub fn value_text(alloc: Global, value: &Value) -> Result<String, AllocError>
     value.to_string(alloc)
 }
 
-/// Writes a comma, where something stands before.
+/// Writes a comma, where something comes before.
 pub fn put_comma(text: &mut String, later: bool) -> Result<(), AllocError>
     ensures { OnOk result (string_bytes text.new ≡ string_bytes text.old ++ comma_if later) }
 {
@@ -62,7 +62,7 @@ fn is_all_unescaped(string: &str) -> bool
     string.as_bytes().iter().all(|byte| is_unescaped(*byte))
 }
 
-/// Whether JSON lets a byte stand in a string.
+/// Whether JSON lets a byte be in a string.
 fn is_unescaped(byte: u8) -> bool
     ensures { result ≡ is_unescaped byte }
 {

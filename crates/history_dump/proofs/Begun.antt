@@ -14,7 +14,7 @@ use Rattle.base_json.proofs.BaseLists.{listed_base}
 use Rattle.base_json.proofs.BaseTexts.{base_line_text}
 use Rattle.history_dump.specs.Dump.{first_line, first_text, BeginsAt, IsFirst}
 
--- no line feed stands in it before its end
+-- no line feed is in it before its end
 pub first-one : (base : Option Database) → IsFirst base → is_one_line (first_text base) ≡ true
 first-one None first = refl
 first-one (Some base) first = base-one base (listed_base base first)

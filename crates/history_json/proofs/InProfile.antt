@@ -21,8 +21,8 @@ use Rattle.revision_id.proofs.Texts.{utf8_lower}
 use Rattle.document_json.specs.Text.{json_of}
 use Rattle.document_json.specs.Written.{rev_data, revs_data}
 use Rattle.document_json.proofs.JsonTexts.{json_of-value}
-use Rattle.answer_json.specs.Objects.{members_from}
-use Rattle.answer_json.specs.Purge.{named_leaves, removed_data, purged_data}
+use Rattle.api_json.specs.Objects.{members_from}
+use Rattle.api_json.specs.Purge.{named_leaves, removed_data, purged_data}
 use Rattle.history_json.specs.Commands.{rev_member, write_members, edit_data, merge_data, bulk_data, counter_member, put_local_data, command_data}
 use Rattle.history_json.specs.Line.{IsLine, seat_data, entry_data, line_text}
 use Rattle.history_json.specs.Lines.{is_one_line}

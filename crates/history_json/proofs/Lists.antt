@@ -6,8 +6,8 @@ use Rattle.serde_json.specs.View.{items_of}
 use Rattle.serde_json.specs.Written.{compact_text}
 use Rattle.document_json.specs.Lists.{values_of}
 use Rattle.document_json.proofs.Listings.{values_of-items_of}
-use Rattle.answer_json.specs.List.{items_so_far}
-use Rattle.answer_json.proofs.ListTexts.{items_so_far-closed}
+use Rattle.api_json.specs.List.{items_so_far}
+use Rattle.api_json.proofs.ListTexts.{items_so_far-closed}
 
 values_in : Option Items → List Data
 values_in None = []

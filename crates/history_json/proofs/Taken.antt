@@ -10,8 +10,8 @@ use Rattle.model.specs.Command.{Id, IsId, names, Edit, IsEdit, Command, Edits, M
 use Rattle.model.specs.Map.{Map, entries, same_list}
 use Rattle.model.specs.Revision.{Rev, IsRev}
 use Rattle.document_json.specs.Written.{rev_data}
-use Rattle.answer_json.specs.NamedRevisions.{pairs_in}
-use Rattle.answer_json.specs.Objects.{Named, members_from}
+use Rattle.api_json.specs.NamedRevisions.{pairs_in}
+use Rattle.api_json.specs.Objects.{Named, members_from}
 use Rattle.history_json.specs.Commands.{body_first, command_data, counter_member, rev_member, write_members}
 
 -- the members of an object

@@ -12,7 +12,7 @@ use Rattle.model.specs.declared.refusal.Refusal.TheVariants.{Conflict, BadHistor
 use Rattle.model.specs.Map.{Map}
 use Rattle.model.specs.Revision.{Rev}
 use Rattle.document_json.specs.Written.{rev_data, revs_data}
-use Rattle.answer_json.specs.Purge.{removed_data}
+use Rattle.api_json.specs.Purge.{removed_data}
 use Rattle.history_json.specs.Commands.{bulk_data, command_data, counter_member, put_local_data, rev_member, write_members}
 use Rattle.history_json.specs.Fronts.{body_front, write_front}
 use Rattle.history_json.specs.Line.{line_text, seat_data}

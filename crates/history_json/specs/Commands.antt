@@ -6,7 +6,7 @@ use Rattle.model.specs.Body.{Body}
 use Rattle.model.specs.Command.{Id, Edit, Merge, Command, Edits, Merges, PutLocal, Purge, SetLimit, SetPurgedLimit, Compact}
 use Rattle.model.specs.Revision.{Rev}
 use Rattle.document_json.specs.Written.{rev_data, revs_data}
-use Rattle.answer_json.specs.Purge.{removed_data}
+use Rattle.api_json.specs.Purge.{removed_data}
 
 -- `rev`, only where a revision is named
 abbrev pub rev_member : Option Rev → Members

@@ -7,7 +7,7 @@ use Rattle.model.specs.declared.refusal.Refusal.{Refusal}
 use Rattle.model.specs.declared.refusal.Refusal.TheVariants.{Conflict, BadHistory, Missing, Deleted, GenerationLimit}
 use Rattle.model.specs.Revision.{Rev}
 use Rattle.document_json.specs.Written.{rev_data}
-use Rattle.answer_json.specs.Purge.{purged_data}
+use Rattle.api_json.specs.Purge.{purged_data}
 
 abbrev pub refusal_name : Refusal → List ℕ
 refusal_name Conflict = codes "E1"

@@ -72,7 +72,7 @@ pub(crate) fn take_write(alloc: Global, mut members: Object) -> Result<Option<Wr
     read_write(alloc, id, deleted, body)
 }
 
-/// What stands as these members.
+/// What these members say.
 fn read_write(
     alloc: Global,
     id: Json,

@@ -17,7 +17,7 @@ use std::alloc::{AllocError, Global};
 ///
 /// # Errors
 ///
-/// Memory may be refused; what stood in the text still stands there, and a part of the line may.
+/// If memory is refused, what was in the text is still there, with perhaps a part of the line behind it.
 pub fn put_line(text: &mut String, alloc: Global, entry: &Entry) -> Result<(), AllocError>
     ensures line { OnOk result (string_bytes text.new ≡ string_bytes text.old ++ line_text entry.now) }
 {

@@ -10,7 +10,7 @@ use std::alloc::{AllocError, Global};
 
 /// What a line has as a JSON value.
 pub trait LineValue: Drop {
-    /// The value that it stands as.
+    /// The value that is written for it.
     ghost data_of: { Self → Data };
 
     /// What is read keeps these limits.
@@ -20,7 +20,7 @@ pub trait LineValue: Drop {
     fn put(&self, text: &mut String, alloc: Global) -> Result<(), AllocError>
         ensures { OnOk result (string_bytes text.new ≡ string_bytes text.old ++ compact_text (data_of self.now)) };
 
-    /// What stands as the value, if something does that keeps the limits.
+    /// What the value says, if it says anything within the limits.
     fn read(alloc: Global, value: Json) -> Result<Option<Self>, AllocError>
         ensures within { IfOk result (λ found. IfSome found is_within) }
         ensures found { IfOk result (λ found. (it : Self) → is_within it → value ≡ data_of it → found ≡ Some it) };
@@ -45,7 +45,7 @@ pub fn put_list<T: LineValue>(
     text.push_str("]")
 }
 
-/// What stands as each of the values, if something does.
+/// What each of the values says, if all say something.
 fn read_items<T: LineValue>(alloc: Global, values: Vec<Json>) -> Result<Option<Vec<T>>, AllocError>
     ensures within { IfOk result (λ found. IfSome found (λ list. All T.is_within list.items)) }
     ensures found { IfOk result (λ found. (items : List T) → All T.is_within items → values.items ≡ map T.data_of items
@@ -61,7 +61,7 @@ fn read_items<T: LineValue>(alloc: Global, values: Vec<Json>) -> Result<Option<V
     Ok(Some(found))
 }
 
-/// What stands as a list of values, if something does.
+/// What a list of values says, if it says something.
 pub fn read_list<T: LineValue>(alloc: Global, value: Json) -> Result<Option<Vec<T>>, AllocError>
     ensures within { IfOk result (λ found. IfSome found (λ list. All T.is_within list.items)) }
     ensures found { IfOk result (λ found. (items : List T) → All T.is_within items → value ≡ array (items_of (map T.data_of items))

@@ -32,7 +32,7 @@ impl LineValue for Result<RevId, Refusal> {
     }
 }
 
-/// The outcome that a text tells.
+/// The outcome that a text says.
 fn outcome_of(text: &str) -> Option<Result<RevId, Refusal>>
     ensures within { IfSome result FitsEdit }
     ensures found { (outcome : _) → FitsEdit outcome

@@ -4,13 +4,13 @@ ghost use Rattle.serde_json.specs.Written.{compact_text};
 ghost use Rattle.model.specs.Command as model;
 ghost use Rattle.model.specs.Map.{Map, entries};
 ghost use Rattle.model.specs.Revision.{Rev};
-ghost use Rattle.answer_json.specs.Purge.{named_leaves, removed_data};
-ghost use Rattle.answer_json.specs.NamedRevisions.{member_pair};
+ghost use Rattle.api_json.specs.Purge.{named_leaves, removed_data};
+ghost use Rattle.api_json.specs.NamedRevisions.{member_pair};
 ghost use Rattle.history_json.specs.Commands.{command_data};
 
 use crate::line_value::read_list;
 use crate::names::read_id;
-use answer_json::append_named_revisions;
+use api_json::append_named_revisions;
 use commands::{AskedRevisions, Command, NamedRevisions};
 use json_profile::{Json, Member};
 use revision_id::RevId;

@@ -8,7 +8,7 @@ use crate::line_value::{put_list, read_list};
 use crate::number::number_in;
 use crate::outcome::{are_merged, local_outcome_in, put_local_outcome};
 use crate::purge::read_named;
-use answer_json::purged_text;
+use api_json::purged_text;
 use commands::{Command, CommandKind, Reply, ReplyKind};
 use json_profile::Json;
 use model::Refusal;

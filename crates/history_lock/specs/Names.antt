@@ -17,7 +17,7 @@ abbrev pub coded_names : Coded (Option Database) → Coded Config → Coded Name
 coded_names base config = code_by (Book × (Option Database × (TableId × Config))) (coded× book_coded (coded× base (coded× table_id_coded config)))
     (λ n. (n.book, (n.base, (n.table, n.config)))) (λ p. record { book = p.0; base = p.1.0; table = p.1.1.0; config = p.1.1.1 }) (λ _. refl)
 
--- An opened database is the one that a name tells: the name's book, base and table, its configuration, and as many places in
+-- An opened database is the one that a name describes: the name's book, base and table, its configuration, and as many places in
 -- the queue and as many sessions as that says.
 pub record IsNamed (book : Book) (base : Option Database) (table : TableId) (capacity sessions : ℕ) (config : Config) (opened : Names) : Type 0 where
   pub book_is : opened.book ≡ book

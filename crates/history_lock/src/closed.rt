@@ -1,11 +1,11 @@
 //! What is left at the end.
 ghost use Rattle.std.specs.Prelude.{◌≡◌};
-ghost use Rattle.publications.specs.Histories.{newest};
+ghost use Rattle.version_log.specs.Histories.{newest};
 
-use publications::Published;
 use snapshots::Version;
 use std::marker::Model;
-use updating::Opening;
+use updater_state::Opening;
+use version_log::Published;
 
 /// What is left at the end: the last version, and the numbers of the lost sessions.
 pub struct Closed<J: Opening> {
@@ -22,7 +22,7 @@ impl<J: Opening> Drop for Closed<J> {
 impl<J: Opening> Model for Closed<J> {
     ghost use Rattle.std.specs.Coded.{codes};
     ghost use Rattle.model.specs.JsonCode.{coded_members};
-    ghost use Rattle.publications.specs.Histories.{newest};
+    ghost use Rattle.version_log.specs.Histories.{newest};
     ghost use Rattle.history_lock.specs.Ending.{Ending};
 
     ghost Value = { Ending };

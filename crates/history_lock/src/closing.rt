@@ -1,13 +1,13 @@
-//! The last version, and the sessions that it tells to be lost.
+//! The last version, and the sessions that are lost by it.
 ghost use Rattle.std.specs.Prelude.{◌≡◌, ◌+◌, ◌<◌, ◌≤◌, [], ◌∷◌, ◌++◌, length, map, filter, All, vec_capacity, if◌then◌else◌};
 ghost use mathlib.Core.List.{IsPrefix};
-ghost use Rattle.publications.specs.Histories.{newest, Grows};
+ghost use Rattle.version_log.specs.Histories.{newest, Grows};
 ghost use Rattle.sessions.specs.Known.{Known};
 ghost use Rattle.sessions.specs.Ends.{is_lost, IsExact};
 
-use publications::Published;
 use sessions::{Ended, Session, later_of};
-use updating::Opening;
+use updater_state::Opening;
+use version_log::Published;
 
 /// The latest of what was seen, which extends what each session had seen.
 pub(crate) fn last_of_all<C: Drop, J: Opening, G: Drop>(

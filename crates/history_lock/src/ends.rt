@@ -4,27 +4,27 @@ ghost use Rattle.std.specs.List.{range_with_len};
 ghost use Rattle.sessions.specs.Known.{fresh};
 ghost use Rattle.history_lock.specs.Refusals.{IsRefusal};
 
-use publications::{Lens, Press, Published};
+use job_queue::{Consumer, Producer, Queue};
 use sessions::{Fault, Session, Shared};
 use std::alloc::{AllocError, Global};
 use std::marker::Model;
 use std::sync::{Arc, Wait};
-use turns::{Clerk, Line, Ticket};
-use updating::Opening;
+use updater_state::Opening;
+use version_log::{Published, Publisher, Reader};
 
 /// What a session is made of. Contracts see its number.
 pub(crate) struct Ends<J: Opening> {
     latest: Published<J>,
-    lens: Lens<J>,
-    ticket: Ticket<J>,
+    reader: Reader<J>,
+    producer: Producer<J>,
 }
 
 impl<J: Opening> Drop for Ends<J> {
     fn drop(self) {
         let Ends {
             latest: _,
-            lens: _,
-            ticket: _,
+            reader: _,
+            producer: _,
         } = self;
     }
 }
@@ -34,9 +34,9 @@ impl<J: Opening> Model for Ends<J> {
 
     ghost Value = { ℕ };
 
-    ghost view = { λ e. e.ticket.number };
+    ghost view = { λ e. e.producer.number };
 
-    ghost invariant = { λ e. (e.latest ≡ []) × (e.ticket.pushed ≡ 0) × (e.ticket.gone ≡ 0) × (e.ticket.number < 64) };
+    ghost invariant = { λ e. (e.latest ≡ []) × (e.producer.pushed ≡ 0) × (e.producer.gone ≡ 0) × (e.producer.number < 64) };
 }
 
 impl<J: Opening> Ends<J> {
@@ -49,38 +49,38 @@ impl<J: Opening> Ends<J> {
     {
         let Ends {
             latest,
-            lens,
-            ticket,
+            reader,
+            producer,
         } = self;
-        Session::new(alloc, latest, lens, ticket, shared)
+        Session::new(alloc, latest, reader, producer, shared)
     }
 }
 
 /// The ends of the next session.
 fn next_ends<R: Wait + Drop, J: Opening>(
     current: &Published<J>,
-    press: &mut Press<R, J>,
-    clerk: &mut Clerk<J>,
-    line: &Line<J>,
+    publisher: &mut Publisher<R, J>,
+    consumer: &mut Consumer<J>,
+    queue: &Queue<J>,
 ) -> Result<Ends<J>, Fault>
     requires seen { current.now ≡ [] }
-    requires clerk { (clerk.old.taken ≡ []) × (clerk.old.made < J.sessions) × (clerk.old.made < 64) }
-    ensures ends { IfOk result (λ e. (e ≡ clerk.old.made) × (clerk.new ≡ record clerk.old { made = clerk.old.made + 1 })) }
+    requires consumer { (consumer.old.taken ≡ []) × (consumer.old.made < J.sessions) × (consumer.old.made < 64) }
+    ensures ends { IfOk result (λ e. (e ≡ consumer.old.made) × (consumer.new ≡ record consumer.old { made = consumer.old.made + 1 })) }
     ensures refused { IfErr result IsRefusal }
 {
     let Ok(latest) = current.share() else {
         return Err(Fault::Memory);
     };
-    let Ok(lens) = press.lens() else {
+    let Ok(reader) = publisher.reader() else {
         return Err(Fault::EntryRefused);
     };
-    let Ok(ticket) = clerk.ticket(line) else {
+    let Ok(producer) = consumer.producer(queue) else {
         return Err(Fault::Memory);
     };
     Ok(Ends {
         latest,
-        lens,
-        ticket,
+        reader,
+        producer,
     })
 }
 
@@ -90,22 +90,22 @@ pub(crate) fn all_ends<R: Wait + Drop, J: Opening>(
     alloc: Global,
     count: u16,
     current: &Published<J>,
-    press: &mut Press<R, J>,
-    clerk: &mut Clerk<J>,
-    line: &Line<J>,
+    publisher: &mut Publisher<R, J>,
+    consumer: &mut Consumer<J>,
+    queue: &Queue<J>,
 ) -> Result<Vec<Ends<J>>, Fault>
     requires seen { current.now ≡ [] }
-    requires clerk { (clerk.old.taken ≡ []) × (clerk.old.made ≡ 0) }
+    requires consumer { (consumer.old.taken ≡ []) × (consumer.old.made ≡ 0) }
     requires count { (count ≡ J.sessions) × (count ≤ 64) }
     ensures ends { IfOk result (λ ends. ends.items ≡ range_with_len 0 count) }
     ensures refused { IfErr result IsRefusal }
-    ensures made { IfOk result (λ ends. clerk.new.made ≡ count) }
+    ensures made { IfOk result (λ ends. consumer.new.made ≡ count) }
 {
     let Ok(mut ends) = Vec::with_capacity(alloc, count as usize) else {
         return Err(Fault::Memory);
     };
     for _number in 0..count {
-        let next = next_ends(current, press, clerk, line)?;
+        let next = next_ends(current, publisher, consumer, queue)?;
         let Ok(()) = ends.push(next) else {
             return Err(Fault::Memory);
         };

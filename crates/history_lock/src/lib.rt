@@ -16,4 +16,4 @@ pub use master::Master;
 pub use opened::Opened;
 pub use opening::open;
 pub use sessions::{Fault, Receipt, Session, Snapshot};
-pub use updating::{Core, Gate, NoGate, Opening, Point};
+pub use updater_state::{Core, Gate, NoGate, Opening, Point};

@@ -1,16 +1,16 @@
 //! What ends all calls of a database.
 ghost use Rattle.std.specs.Prelude.{◌≡◌, ◌≤◌, length};
-ghost use Rattle.publications.specs.Histories.{Grows};
+ghost use Rattle.version_log.specs.Histories.{Grows};
 ghost use Rattle.history_lock.specs.Ending as ending;
 
 use crate::closed::Closed;
 use crate::closing::{last_of_all, lost_of};
-use publications::Published;
 use sessions::{Ended, Session, Shared};
 use std::alloc::{AllocError, Global};
 use std::marker::Model;
 use std::sync::{Arc, Wait};
-use updating::{Core, Opening};
+use updater_state::{Core, Opening};
+use version_log::Published;
 
 /// What ends all calls of a database. It keeps the room that the end takes.
 pub struct Master<C: Drop, J: Opening, G: Drop> {

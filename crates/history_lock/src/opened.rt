@@ -10,16 +10,16 @@ use commands::Config;
 use snapshots::Version;
 use std::alloc::{AllocError, Global};
 use std::marker::Model;
-use updating::Opening;
+use updater_state::Opening;
 
 /// A database that has no name yet: its book of publications, its version of no entries and its queue. Contracts
 /// see what names it, which a program picks as its `Opening`.
 pub struct Opened {
     pub(crate) alloc: Global,
     pub(crate) config: Config,
-    pub(crate) book: publications::Opened,
+    pub(crate) book: version_log::Opened,
     pub(crate) empty: Version,
-    pub(crate) queue: turns::Opened,
+    pub(crate) queue: job_queue::Opened,
 }
 
 impl Model for Opened {
@@ -78,11 +78,11 @@ impl Opened {
         ensures config { IfOk result (λ o. o.config ≡ config) }
     {
         let limits = config.limits();
-        let queue = turns::Opened::new(alloc, limits.queue, limits.sessions)?;
+        let queue = job_queue::Opened::new(alloc, limits.queue, limits.sessions)?;
         Ok(Opened {
             alloc,
             config,
-            book: publications::Opened::new(),
+            book: version_log::Opened::new(),
             empty,
             queue,
         })

@@ -9,13 +9,13 @@ use crate::ends::{Ends, all_ends, all_sessions};
 use crate::master::Master;
 use crate::opened::Opened;
 use commands::Config;
-use publications::{Book, Front, Press, Published};
+use job_queue::{Consumer, Queue};
 use sessions::{Fault, Session, Shared};
 use snapshots::Version;
 use std::alloc::{AllocError, Global};
 use std::sync::{Arc, Wait};
-use turns::{Clerk, Line};
-use updating::{Core, Gate, Opening};
+use updater_state::{Core, Gate, Opening};
+use version_log::{Book, Front, Published, Publisher};
 
 /// What the updater holds at the beginning, the version of no entries, and what sessions are made of.
 fn begin<R: Wait + Drop, J: Opening>(
@@ -25,13 +25,13 @@ fn begin<R: Wait + Drop, J: Opening>(
     book: Book<J>,
     front: Front<J>,
     empty: Version,
-    line: &Line<J>,
-    mut clerk: Clerk<J>,
+    queue: &Queue<J>,
+    mut consumer: Consumer<J>,
 ) -> Result<(Core<R, J>, Published<J>, Vec<Ends<J>>), Fault>
     requires front { front ≡ [] }
     requires empty { empty ≡ record { base = J.base; entries = [] } }
-    requires taken { clerk.taken ≡ [] }
-    requires made { clerk.made ≡ 0 }
+    requires taken { consumer.taken ≡ [] }
+    requires made { consumer.made ≡ 0 }
     requires sessions { config.sessions ≡ J.sessions }
     requires config { config ≡ J.config }
     ensures ends { IfOk result (λ r. r.2.items ≡ range_with_len 0 config.sessions) }
@@ -42,11 +42,11 @@ fn begin<R: Wait + Drop, J: Opening>(
         return Err(Fault::Memory);
     };
     let first = Published::new(version, front);
-    let (press, ends) = connect(alloc, sessions, rt, &first, line, &mut clerk)?;
+    let (publisher, ends) = connect(alloc, sessions, rt, &first, queue, &mut consumer)?;
     let Ok(current) = first.share() else {
         return Err(Fault::Memory);
     };
-    let Ok(mut core) = Core::new(alloc, config, book, current, clerk, press) else {
+    let Ok(mut core) = Core::new(alloc, config, book, current, consumer, publisher) else {
         return Err(Fault::Memory);
     };
     if !show_twice(&mut core) {
@@ -61,21 +61,21 @@ fn connect<R: Wait + Drop, J: Opening>(
     sessions: u16,
     rt: R,
     first: &Published<J>,
-    line: &Line<J>,
-    clerk: &mut Clerk<J>,
-) -> Result<(Press<R, J>, Vec<Ends<J>>), Fault>
+    queue: &Queue<J>,
+    consumer: &mut Consumer<J>,
+) -> Result<(Publisher<R, J>, Vec<Ends<J>>), Fault>
     requires seen { first.now ≡ [] }
-    requires clerk { (clerk.old.taken ≡ []) × (clerk.old.made ≡ 0) }
+    requires consumer { (consumer.old.taken ≡ []) × (consumer.old.made ≡ 0) }
     requires sessions { (sessions ≡ J.sessions) × (0 < sessions) × (sessions ≤ 64) }
     ensures ends { IfOk result (λ r. r.1.items ≡ range_with_len 0 sessions) }
-    ensures made { IfOk result (λ r. clerk.new.made ≡ sessions) }
+    ensures made { IfOk result (λ r. consumer.new.made ≡ sessions) }
     ensures refused { IfErr result IsRefusal }
 {
-    let Ok(mut press) = Press::new(alloc, rt, first, sessions as usize) else {
+    let Ok(mut publisher) = Publisher::new(alloc, rt, first, sessions as usize) else {
         return Err(Fault::Memory);
     };
-    let ends = all_ends(alloc, sessions, first, &mut press, clerk, line)?;
-    Ok((press, ends))
+    let ends = all_ends(alloc, sessions, first, &mut publisher, consumer, queue)?;
+    Ok((publisher, ends))
 }
 
 /// Shown twice, both copies that `left_right` keeps have the room that a later showing takes.
@@ -87,7 +87,7 @@ fn show_twice<R: Wait + Drop, J: Opening>(core: &mut Core<R, J>) -> bool {
 fn share<R: Wait + Drop, J: Opening, G: Gate + Drop>(
     alloc: Global,
     config: Config,
-    line: Line<J>,
+    queue: Queue<J>,
     gate: G,
     core: Core<R, J>,
     first: Published<J>,
@@ -97,7 +97,7 @@ fn share<R: Wait + Drop, J: Opening, G: Gate + Drop>(
     requires config { config ≡ J.config }
     ensures sessions { IfOk result (λ r. r.1.items ≡ map fresh ends.items) }
 {
-    let shared = Shared::new(alloc, line, gate, config, core)?;
+    let shared = Shared::new(alloc, queue, gate, config, core)?;
     let shared = Arc::new(alloc, shared)?;
     let sessions = all_sessions(alloc, ends, &shared)?;
     let master = Master::new(alloc, shared, first, config.limits().sessions)?;
@@ -127,9 +127,9 @@ pub fn open<R: Wait + Drop, J: Opening, G: Gate + Drop>(
         queue,
     } = opened;
     let (book, front) = book.named::<J>();
-    let (line, clerk) = queue.named::<J>();
-    let (core, first, ends) = begin(alloc, config, rt, book, front, empty, &line, clerk)?;
-    match share(alloc, config, line, gate, core, first, ends) {
+    let (queue, consumer) = queue.named::<J>();
+    let (core, first, ends) = begin(alloc, config, rt, book, front, empty, &queue, consumer)?;
+    match share(alloc, config, queue, gate, core, first, ends) {
         Ok(made) => Ok(made),
         Err(_) => Err(Fault::Memory),
     }

@@ -75,7 +75,7 @@ IsUnreadable-append bytes more (inr (inr (head, after, begins, none))) =
 
 -- ---- one reading
 
--- a head that keeps the limits stands in the first bytes
+-- a head that keeps the limits is in the first bytes
 head_in_window : (bytes : List ℕ) (head : ResponseHead) (after : List ℕ) → BeginsWithHead bytes head after
     → (rest : List ℕ) × ReadsResponse (head_window bytes) head rest
 head_in_window bytes head after begins =
@@ -84,7 +84,7 @@ head_in_window bytes head after begins =
     let P : ℕ → Type 0 = λ n. take n (print_response head ++ after) ≡ print_response head ++ take left after in
     (take left after, (begins.reads.0, ap (take head_limit) begins.reads.1 ∙ subst P fits (take-append-add (print_response head) after left)))
 
--- bytes that begin with a head that tells a length are not unreadable
+-- bytes that begin with a head that gives a length are not unreadable
 head_is_readable : (bytes : List ℕ) (head : ResponseHead) (after : List ℕ) (len : ℕ) → BeginsWithHead bytes head after
     → told_length (headers_of head) ≡ Some len → IsUnreadable bytes → ⊥
 head_is_readable bytes head after len begins told (inl never) =

@@ -32,7 +32,7 @@ abbrev pub length_in : Option (List ℕ) → Option ℕ
 length_in None = None
 length_in (Some value) = number value
 
--- the length of the body that these headers tell: in one `Content-Length`, and with no transfer coding
+-- the length of the body that these headers give: in one `Content-Length`, and with no transfer coding
 -- RFC 9112, 6.3 "Message Body Length"
 unfoldable pub told_length : List Header → Option ℕ
 told_length headers =
@@ -93,7 +93,7 @@ pub record HasManyHeaders (bytes : List ℕ) : Type 0 where
 abbrev pub HasLargeHead : List ℕ → Type 0
 HasLargeHead bytes = HasManyHeaders bytes ⊎ (FillWindow bytes × HasNoResponse (head_window bytes))
 
--- the bytes begin with a head that does not tell the length of its body
+-- the bytes begin with a head that does not give the length of its body
 -- RFC 9112, 6.3 "Message Body Length"
 abbrev pub HasNoLength : List ℕ → Type 0
 HasNoLength bytes =

@@ -65,7 +65,7 @@ fn is_there(bytes: &[u8], headers: &[HeaderSpan], name: &[u8]) -> bool
     headers.iter().any(|header| is_named(bytes, header, name))
 }
 
-/// The length of the body that these headers tell.
+/// The length of the body that these headers give.
 pub(crate) fn told_length(bytes: &[u8], headers: &[HeaderSpan]) -> Option<u64>
     requires { All (IsHeaderWithin (length bytes.now)) headers.now }
     ensures { result ≡ told_length (map (header_bytes bytes.now) headers.now) }

@@ -23,7 +23,7 @@ pub enum ResponseFault {
     #[error("a read failed")]
     ReadFailed,
     /// What came is no response that is read: it has no head of HTTP/1.0 or 1.1 with at most 64 headers
-    /// in its first 16,384 bytes, or none that tells the length of the body in one `Content-Length` of 1
+    /// in its first 16,384 bytes, or none that gives the length of the body in one `Content-Length` of 1
     /// to 18 digits, or it has a `Transfer-Encoding`, since no body in chunks is read.
     #[error("what came is no response")]
     Unreadable,
@@ -34,7 +34,7 @@ pub enum ResponseFault {
 
 /// The bytes that have come and were not taken.
 ///
-/// Room for them grows with what comes, twofold each time, and not with what a head tells. At most
+/// Room for them grows with what comes, twofold each time, and not with what a head says. At most
 /// 16,384 bytes are read past a response.
 pub struct Incoming {
     bytes: Vec<u8>,
@@ -66,7 +66,7 @@ impl Incoming {
         }
     }
 
-    /// The bytes, at whose front the responses stand.
+    /// The bytes, at whose front the responses are.
     pub fn bytes(&self) -> &[u8]
         ensures bytes { result.now ≡ self.now }
     {
@@ -82,7 +82,7 @@ impl Incoming {
         self.end -= len;
     }
 
-    /// Reads until a whole response stands at the front, and not at all where one stands there.
+    /// Reads until a whole response is at the front, and not at all where one is there.
     ///
     /// # Errors
     ///

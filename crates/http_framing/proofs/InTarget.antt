@@ -49,7 +49,7 @@ before_space blank method token =
     All-append (λ b. is_other b ≡ true) (print_blank blank) method (others is_newline refl (print_blank blank) (all_newlines blank))
     (others is_token_byte no_space_in_token method token.1)
 
--- what stands before the first space of a request line, and behind it
+-- what comes before the first space of a request line, and behind it
 same_parts : (xs ys : List ℕ) (blank : List LineEnd) (method after : List ℕ) → AllPass is_other xs → IsToken method
     → xs ++ 32 ∷ ys ≡ (print_blank blank ++ method) ++ 32 ∷ after → (xs ≡ print_blank blank ++ method) × (ys ≡ after)
 same_parts xs ys blank method after all token e =

@@ -38,7 +38,7 @@ one_request bytes r q x y (h, b, of_h) (k, c, of_k) =
     let parts = same_front r.body q.body x y size heads.1 in
     (same_request r q (of_k'.method ∙ sym of_k.method) (of_k'.target ∙ sym of_k.target) parts.0 (of_k'.closes ∙ sym of_k.closes), parts.1)
 
--- a head that keeps the limits stands in the first bytes
+-- a head that keeps the limits is in the first bytes
 pub head_in_window : (bytes : List ℕ) (head : RequestHead) (after : List ℕ) → BeginsWithHead bytes head after
     → (rest : List ℕ) × ReadsRequest (head_window bytes) head rest
 head_in_window bytes head after begins =

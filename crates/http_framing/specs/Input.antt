@@ -11,7 +11,7 @@ use Rattle.http_framing.specs.declared.FramingFault.{FramingFault}
 abbrev pub request_limit : ℕ
 request_limit = head_limit + body_limit
 
--- what stands on a connection: a request, or the fault for which all that is left is refused
+-- what is on a connection: a request, or the fault for which all that is left is refused
 pub data Item : Type 0 where
   Requested : Request → Item
   Refused : FramingFault → Item

@@ -1,4 +1,4 @@
--- How often a header stands in a head.
+-- How often a header is in a head.
 use Rattle.std.specs.Prelude.{◌≡◌, ℕ, ◌<◌, List, [], ◌∷◌, length}
 use Rattle.http_framing.specs.declared.headers.Occurrence.{Occurrence}
 use Rattle.http_framing.specs.declared.headers.Occurrence.TheVariants.{Never, Once, Often}

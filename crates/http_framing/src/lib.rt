@@ -29,7 +29,7 @@ pub const REQUEST_LIMIT: usize = HEAD_LIMIT + BODY_LIMIT;
 /// Why what follows on a connection is refused, and the connection closes.
 ///
 /// Each is looked for before the next, but that a head with too many headers is
-/// [`FramingFault::LargeHead`], whatever stands behind them.
+/// [`FramingFault::LargeHead`], whatever is behind them.
 #[derive(Clone, Copy, Debug, PartialEq, Eq)]
 pub enum FramingFault {
     /// The bytes can't become a head.

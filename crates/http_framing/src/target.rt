@@ -14,7 +14,7 @@ fn is_other(b: u8) -> bool
     b != b' '
 }
 
-/// How many bytes stand before the first space.
+/// How many bytes come before the first space.
 fn len_before_space(bytes: &[u8]) -> usize
     ensures within { result ≤ length bytes.now }
     ensures others { AllPass is_other (take result bytes.now) }

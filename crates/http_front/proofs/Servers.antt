@@ -7,8 +7,8 @@ use Rattle.std.proofs.lemmas.List.{take-append-le, take_all}
 use Rattle.std.proofs.lemmas.List.FromFn.{get_or-map-range_with_len, length-map-range_with_len}
 use Rattle.model.specs.Database.{Database}
 use Rattle.model.specs.World.{Config}
-use Rattle.serving.specs.Served.{Streams}
-use Rattle.serving.specs.declared.outcome.Ended.{Ended}
+use Rattle.http_connection.specs.Served.{Streams}
+use Rattle.http_connection.specs.declared.outcome.Ended.{Ended}
 use Rattle.sessions.specs.Known.{Known as KnownOfThreads, fresh}
 use Rattle.history_lock.specs.Ending.{Ending, Ends}
 use Rattle.http_handlers.specs.Listening.{ServesAll}
@@ -59,7 +59,7 @@ serves_closed base config turns connections len items lent new closed opened is 
     let all : take len (new ++ drop (length new) items) ≡ new = take-append-le len new (drop (length new) items) (omega (arith, long, kept)) ∙ take_all len new (omega (arith, long, kept)) in
     serves_sessions base config turns connections lent new closed (is ∙ opened) kept serves (subst (λ (after : List KnownOfThreads). Ends base after closed) all ends)
 
--- the same where a name tells the numbers
+-- the same where a name gives the numbers
 pub serves_named : (base : Option Database) (config told : Config) (sessions queue turns connections len : ℕ) (items lent new : List KnownOfThreads) (closed : Ending)
     → told ≡ config → told.sessions ≡ sessions → told.queue ≡ queue → (right : Config) → told ≡ right → (often : ℕ) → often ≡ turns
     → items ≡ map fresh (range_with_len 0 told.sessions) → lent ≡ items → length lent ≡ len → length new ≡ length lent

@@ -1,12 +1,12 @@
--- A run of a program that serves one connection, and tells its history.
+-- A run of a program that serves one connection, and reports its history.
 use Rattle.std.specs.Prelude.{◌≡◌, ℕ, ◌⊎◌, List, Option, None}
 use Rattle.model.specs.Database.{Database}
 use Rattle.model.specs.History.{Chronicle}
 use Rattle.history_lock.specs.Ending.{Ending}
 use Rattle.history_dump.specs.Dump.{dump_text}
 use Rattle.streams.specs.Ends.{Ends}
-use Rattle.serving.specs.Served.{Streams}
-use Rattle.serving.specs.declared.outcome.Ended.{Ended}
+use Rattle.http_connection.specs.Served.{Streams}
+use Rattle.http_connection.specs.declared.outcome.Ended.{Ended}
 use Rattle.http_front.specs.Opening.{program_config}
 use Rattle.http_front.specs.Once.{ServesDatabase, OpensNone, exit_status}
 

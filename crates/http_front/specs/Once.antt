@@ -3,10 +3,10 @@ use Rattle.std.specs.Prelude.{◌≡◌, ℕ, ◌⊎◌, [], ◌∷◌, Option}
 use Rattle.model.specs.Database.{Database}
 use Rattle.model.specs.World.{Config}
 use Rattle.history_lock.specs.Ending.{Ending, Ends}
-use Rattle.serving.specs.Served.{Streams}
-use Rattle.serving.specs.declared.outcome.Ended.{Ended}
-use Rattle.serving.specs.declared.outcome.Cause.{Cause}
-use Rattle.serving.specs.declared.outcome.Cause.TheVariants as cause
+use Rattle.http_connection.specs.Served.{Streams}
+use Rattle.http_connection.specs.declared.outcome.Ended.{Ended}
+use Rattle.http_connection.specs.declared.outcome.Cause.{Cause}
+use Rattle.http_connection.specs.declared.outcome.Cause.TheVariants as cause
 use Rattle.sessions.specs.Known.{Known as KnownOfThreads, fresh}
 use Rattle.http_handlers.specs.Connection.{IsConnection}
 use Rattle.http_front.specs.Opening.{GoesBy, known_of, program_config}
@@ -32,7 +32,7 @@ pub record ServesDatabase (base : Option Database) (config : Config) (before aft
   pub connection : IsConnection (GoesBy base config) (known_of base config) once_turns before after (fresh 0) final ended
   pub ends : Ends base (final ∷ []) end
 
--- a connection was served, whose end is told by this status
+-- a connection was served, whose end is reported by this status
 pub record EndsConnection (base : Option Database) (before after : Streams) (status : ℕ) : Type 0 where
   pub ended : Ended
   pub end : Ending

@@ -27,7 +27,7 @@ abbrev pub server_status : Bool → ℕ
 server_status true = 0
 server_status false = 1
 
--- the status tells whether the sessions served
+-- the status says whether the sessions served
 pub record ServesListener (base : Option Database) (workers connections status : ℕ) : Type 0 where
   pub served : Bool
   pub tells : status ≡ server_status served

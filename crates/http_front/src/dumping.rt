@@ -1,6 +1,6 @@
 //! What the program does with its standard streams where the history is asked for.
 ghost use Rattle.std.specs.Prelude.{◌≡◌, None};
-ghost use Rattle.serving.specs.Served.{Streams};
+ghost use Rattle.http_connection.specs.Served.{Streams};
 ghost use Rattle.history_lock.specs.Names.{IsNamed};
 ghost use Rattle.http_front.specs.Opening.{program_config};
 ghost use Rattle.http_front.specs.Dumping.{DumpsOnce, WritesDump};
@@ -15,7 +15,7 @@ use std::marker::Brand;
 use std::sync::Wait;
 use std::time::Clock;
 use streams::{Sink, Source, end_with};
-use updating::Opening;
+use updater_state::Opening;
 
 /// The exit status where memory for the dump was refused.
 const NO_MEMORY: u8 = 1;

@@ -1,6 +1,6 @@
 //! What the program does with its standard streams.
 ghost use Rattle.std.specs.Prelude.{◌≡◌, [], ◌∷◌, IfSome, IfNone, None};
-ghost use Rattle.serving.specs.Served.{Streams};
+ghost use Rattle.http_connection.specs.Served.{Streams};
 ghost use Rattle.sessions.specs.Known.{fresh};
 ghost use Rattle.history_lock.specs.Names.{IsNamed};
 ghost use Rattle.http_front.specs.Once.{ServesDatabase, ServesOnce, exit_status};
@@ -8,13 +8,13 @@ ghost use Rattle.http_front.specs.Opening.{program_config};
 
 use crate::opening::{NOT_OPENED, config};
 use history_lock::{Closed, Opened, open};
+use http_connection::{Cause, Ended};
 use http_handlers::{Setting, serve};
-use serving::{Cause, Ended};
 use std::marker::Brand;
 use std::sync::Wait;
 use std::time::Clock;
 use streams::{Sink, Source};
-use updating::{NoGate, Opening};
+use updater_state::{NoGate, Opening};
 
 /// Nobody else changes the database, so a wait for changes looks once.
 const TURNS: u64 = 1;

@@ -12,7 +12,7 @@ use std::net::TcpListener;
 use std::sync::Wait;
 use std::thread::Threads;
 use std::time::Clock;
-use updating::{NoGate, Opening};
+use updater_state::{NoGate, Opening};
 
 /// So often a wait for changes looks, which is about two minutes.
 const TURNS: u64 = 100_000;

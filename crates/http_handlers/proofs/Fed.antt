@@ -13,7 +13,7 @@ use Rattle.http_request.specs.declared.asked.Asked.TheVariants as asked
 use Rattle.http_request.specs.declared.changes.ChangesAsked.{ChangesAsked}
 use Rattle.http_request.specs.declared.changes.Feed.TheVariants as feed
 use Rattle.http_response.specs.Feed.{feed_head_text}
-use Rattle.serving.specs.Turn.{Turn}
+use Rattle.http_connection.specs.Turn.{Turn}
 use Rattle.http_handlers.specs.Known.{Known, history_of}
 use Rattle.http_handlers.specs.Deeds.{Deed, Refreshed}
 use Rattle.http_handlers.specs.Doing.{Makes}

@@ -32,7 +32,7 @@ legal_reply base [] n e legal is = absurd (none-some e is)
 legal_reply base (f ∷ es) zero e legal is = (base, subst (λ (x : Entry). x.reply ≡ reply_to base x.command) (same_Some f e is) legal.0.reply)
 legal_reply base (f ∷ es) (suc n) e legal is = legal_reply (act base f.seat f.command) es n e legal.1 is
 
--- a version has the entry that stands there
+-- a version has the entry that is there
 pub entry_there : (k : Known) (place : ℕ) (entry : Entry) → HasEntryAt k place entry → entry_at k.seen place ≡ Some entry
 entry_there k zero entry told = absurd (omega (arith, told.0))
 entry_there k (suc n) entry told = let one : n ≡ suc n - 1 = omega arith in ap (slice_get k.seen) one ∙ told.1

@@ -27,7 +27,7 @@ slice_get-behind : (xs ys : List Entry) (n : ℕ) → slice_get (xs ++ ys) (leng
 slice_get-behind [] ys n = let none : 0 + n ≡ n = omega arith in ap (slice_get ys) none
 slice_get-behind (x ∷ xs) ys n = let one : length (x ∷ xs) + n ≡ suc (length xs + n) = omega arith in ap (slice_get (x ∷ xs ++ ys)) one ∙ slice_get-behind xs ys n
 
--- what is first among those that pass a test stands somewhere
+-- what is first among those that pass a test is somewhere
 found : (test : Entry → Bool) (es : List Entry) (e : Entry) (rest : List Entry) → filter test es ≡ e ∷ rest → (n : ℕ) × (slice_get es n ≡ Some e)
 found test [] e rest is = absurd (cc)
 found test (f ∷ es) e rest is =
@@ -135,7 +135,7 @@ module _ (base : Option Database) (config : Config) (sessions queue : ℕ) (new 
           }
 
     module _ (command : Command) where
-      -- a session that is lost for ever is not lost where another reason is told
+      -- a session that is lost for ever is not lost where another reason is reported
       not_lost : (why : Fault) → IsLostForEver old why new → (why ≡ of_threads.Lost → ⊥) → old.lost ≡ false
       not_lost why forever other = is_not old.lost (λ lost. other (forever lost).0)
 

@@ -63,7 +63,7 @@ entry-told k place entry form legal told fits =
     let replied = legal_reply (base_of k.base) k.seen (place - 1) entry legal told.1 in
     subst (λ (reply : Reply). IsSome (reply_told form entry.command reply)) (sym replied.1) (reply-told replied.0 form entry.command fits)
 
--- what has a text to tell has one
+-- what wants a text has one
 due : (place : ℕ) (connection : Connection) (told : Option Told) → IsSome told → option_map (told_text place connection) told ≡ None → ⊥
 due place connection (Some told) some none = absurd (cc)
 due place connection None some none = absurd (cc)

@@ -1,4 +1,4 @@
--- Turns of a session are told by the history at their end.
+-- Turns of a session are determined by the history at their end.
 use Rattle.std.proofs.Common.{◌≡◌, ℕ, ◌≤◌, List, [], ◌∷◌, ◌++◌, length, take, Bool, true, Some, inl, inr, refl, ap, sym, ◌∙◌, subst, arith, append_assoc, length-append}
 use Rattle.std.specs.Prelude.{IsTrue}
 use Rattle.std.specs.List.{FoldsTo, AllZip}
@@ -11,9 +11,9 @@ use Rattle.model.specs.World.{WroteAt, Asked as AskedAt}
 use Rattle.model.specs.Told.{NoneFalls}
 use Rattle.model.proofs.TellLaws.{Tells-append}
 use Rattle.http_framing.specs.Input.{closes_connection}
-use Rattle.serving.specs.Turn.{Turn, all_turns}
-use Rattle.serving.specs.Served.{Streams, Served}
-use Rattle.serving.specs.declared.outcome.Ended.{Ended}
+use Rattle.http_connection.specs.Turn.{Turn, all_turns}
+use Rattle.http_connection.specs.Served.{Streams, Served}
+use Rattle.http_connection.specs.declared.outcome.Ended.{Ended}
 use Rattle.http_handlers.specs.Deeds.{Deed}
 use Rattle.http_handlers.specs.Known.{Known, database_at, sees_more, with_calls}
 use Rattle.http_handlers.specs.Changes.{MayWait, changes_query}
@@ -91,7 +91,7 @@ module _ (k : Known) (more : List Entry) where
   TellsAt-append turn low place Memory last n t = t
   TellsAt-append turn low place (Failed why) last n t = t
 
--- calls and a loss tell nothing of a feed
+-- calls and a loss report nothing of a feed
 pub runs-calls : (k : Known) (pushes : ℕ) (lost : Bool) (pieces : List Piece) (before after : Progress) → FoldsTo (GivesPiece k) before pieces after → FoldsTo (GivesPiece (with_calls k pushes lost)) before pieces after
 runs-calls k pushes lost [] before after runs = runs
 runs-calls k pushes lost (p ∷ ps) before after runs =
@@ -104,7 +104,7 @@ ends-calls k pushes lost after (LookRefused why) ends = tt
 ends-calls k pushes lost after RowsRefused ends = tt
 ends-calls k pushes lost after WriteFailed ends = tt
 
--- calls and a loss tell nothing of a turn
+-- calls and a loss report nothing of a turn
 TellsAt-calls : (k : Known) (pushes : ℕ) (lost : Bool) (turn : Turn) (place : ℕ) (outcome : Outcome) → TellsAt k turn place outcome → TellsAt (with_calls k pushes lost) turn place outcome
 TellsAt-calls k pushes lost turn place Fixed t = t
 TellsAt-calls k pushes lost turn place (Wrote form entry) t = (record { asked = t.0.asked; own = t.0.own; told = t.0.told }, t.1, t.2)
@@ -118,14 +118,14 @@ TellsAt-calls k pushes lost turn place (Fed pieces ending) t = (record { changes
 TellsAt-calls k pushes lost turn place Memory t = t
 TellsAt-calls k pushes lost turn place (Failed why) t = t
 
--- a turn is told by what is known later, of calls and of a loss too
+-- a turn is determined by what is known later, of calls and of a loss too
 told-later : (k : Known) (more : List Entry) (final : Known) → final ≡ with_calls (sees_more k more) final.pushes final.lost → (turn : Turn) (placed : Placed) (low : ℕ) (last : List ℕ)
     → NoneFalls low (places_spoken placed.place placed.outcome ++ last) → IsToldAt k turn placed → IsToldAt final turn placed
 told-later k more final is turn placed low last falls told =
     subst (λ (q : Known). IsToldAt q turn placed) (sym is)
     (TellsAt-calls (sees_more k more) final.pushes final.lost turn placed.place placed.outcome (TellsAt-append k more turn low placed.place placed.outcome last falls told))
 
--- a turn in which nothing is told of a write that failed has the same outcome, whole or not
+-- a turn in which nothing is said of a write that failed has the same outcome, whole or not
 pub whole-or-not : (k : Known) (turn : Turn) (place : ℕ) (outcome : Outcome) (whole : Bool) → turn.whole ≡ true → TellsAt k turn place outcome → TellsAt k (record turn { whole = whole }) place outcome
 whole-or-not k turn place Fixed whole is t = t
 whole-or-not k turn place (Wrote form entry) whole is t = t
@@ -159,7 +159,7 @@ module _ {S : Type 0} (goes : S → Deed → S → Type 0) (known : S → Known)
     goes_by = answers.goes_by;
   }
 
-  -- what is told of turns by what is known at their end
+  -- what is said of turns by what is known at their end
   pub record AreTold (old : S) (turns : List Turn) (final : S) : Type 0 where
     pub outcomes : List Placed
     pub more : List Entry

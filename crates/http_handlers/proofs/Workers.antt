@@ -2,7 +2,7 @@
 use Rattle.std.proofs.Common.{◌≡◌, ℕ, ◌+◌, List, [], ◌∷◌, ◌++◌, length, Option, arith, length-append}
 use Rattle.std.specs.List.{FoldsTo}
 use Rattle.std.proofs.lemmas.Fn.{FoldsTo-push}
-use Rattle.serving.specs.declared.outcome.Ended.{Ended}
+use Rattle.http_connection.specs.declared.outcome.Ended.{Ended}
 use Rattle.http_handlers.specs.Deeds.{Deed}
 use Rattle.http_handlers.specs.Known.{Known}
 use Rattle.http_handlers.specs.Listening.{Accepts}

@@ -8,7 +8,7 @@ use Rattle.http_framing.specs.Input.{Item}
 use Rattle.http_request.specs.declared.asked.Asked.{Asked as Asking}
 use Rattle.http_request.specs.declared.asked.Asked.TheVariants as asked
 use Rattle.http_request.specs.declared.changes.ChangesAsked.{ChangesAsked}
-use Rattle.serving.specs.Turn.{Turn}
+use Rattle.http_connection.specs.Turn.{Turn}
 use Rattle.http_handlers.specs.Deeds.{Deed}
 use Rattle.http_handlers.specs.Doing.{CarriesOut, IsReading, Makes, MakesNone}
 use Rattle.http_handlers.specs.Feeding.{Feeds}
@@ -36,7 +36,7 @@ module _ {S : Type 0} (goes : S → Deed → S → Type 0) (known : S → Known)
       × (CarriesOut goes known turns asking old deeds new (Err fault.Memory)
       ⊎ (IsReading asking × ((first : ℕ) × CarriesOut goes known turns asking old deeds new (Ok first))))
 
-  -- The outcome follows from the calls that were made for the item, and from their answers: nothing is told to have failed but
+  -- The outcome follows from the calls that were made for the item, and from their answers: nothing is reported to have failed but
   -- what a call answered.
   abbrev pub FollowsFrom : Item → ℕ → Outcome → S → List Deed → S → Type 0
   FollowsFrom item place Fixed old deeds new = MakesNone old deeds new
@@ -56,7 +56,7 @@ module _ {S : Type 0} (goes : S → Deed → S → Type 0) (known : S → Known)
     pub follows : FollowsFrom item placed.place placed.outcome old placed.deeds new
     pub sees : Sees (known old) placed (known new)
 
-  -- by this turn, which is told by what it knows then
+  -- by this turn, which is determined by what it knows then
   pub record Answers (old : S) (turn : Turn) (new : S) : Type 0 where
     pub placed : Placed
     pub told : IsToldAt (known new) turn placed

@@ -1,11 +1,11 @@
--- What a connection is, told by the history that its session has seen at the end.
+-- What a connection is, determined by the history that its session has seen at the end.
 use Rattle.std.specs.Prelude.{◌≡◌, ℕ, List, [], ◌∷◌, ◌++◌, length, Option, IfSome, IsFalse}
 use Rattle.std.specs.List.{flat_map, AllZip}
 use Rattle.std.specs.Io.KnownBytes.{Consumes, Appends}
 use Rattle.http_framing.specs.Input.{Splits}
-use Rattle.serving.specs.Turn.{Turn, AreWhole, all_turns, items_of, responses_of}
-use Rattle.serving.specs.Served.{Streams, IsPartOf, EndsBy, CountsReads, CountsWrites}
-use Rattle.serving.specs.declared.outcome.Ended.{Ended}
+use Rattle.http_connection.specs.Turn.{Turn, AreWhole, all_turns, items_of, responses_of}
+use Rattle.http_connection.specs.Served.{Streams, IsPartOf, EndsBy, CountsReads, CountsWrites}
+use Rattle.http_connection.specs.declared.outcome.Ended.{Ended}
 use Rattle.model.specs.Command.{Entry}
 use Rattle.model.specs.History.{IsLegal, of_session, base_of}
 use Rattle.model.specs.Told.{NoneFalls}
@@ -43,7 +43,7 @@ module _ {S : Type 0} (goes : S → Deed → S → Type 0) (known : S → Known)
     pub more : List Entry
     pub reads : Consumes before.left after.left read
     pub splits : Splits read (items_of (all_turns served cut)) rest
-    -- each text is told by the final history
+    -- each text is determined by the final history
     pub told : AllZip (IsToldAt (known final)) (all_turns served cut) outcomes
     pub legal : IsLegal (base_of (known final).base) (known final).seen
     pub extends : known final ≡ with_calls (sees_more (known old) more) (known final).pushes (known final).lost

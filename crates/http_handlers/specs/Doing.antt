@@ -23,7 +23,7 @@ abbrev pub at_place : {A : Type 0} → ℕ → Result A CallFault → Result ℕ
 at_place place (Ok x) = Ok place
 at_place place (Err why) = Err why
 
--- What a turn of a wait for some documents tells by the answer of its one look: whether one of them has a number above the
+-- What a turn of a wait for some documents reports by the answer of its one look: whether one of them has a number above the
 -- cursor among the updates that came with it. What was known before and after the look are given.
 abbrev pub found_by : ℕ → Option (List Id) → Known → Known → Result Bool CallFault → Result Bool CallFault
 found_by cursor ids old new (Ok true) = Ok (has_changes (now (history_of new)) (max cursor (update_seq_of old)) ids)
@@ -32,7 +32,7 @@ found_by cursor ids old new (Err why) = Err why
 
 -- by what a session does, what it knows, and how often a wait looks
 module _ {S : Type 0} (goes : S → Deed → S → Type 0) (known : S → Known) where
-  -- the session made this call, and knows then what the call tells
+  -- the session made this call, and knows then what the call reports
   pub record Makes (old : S) (deed : Deed) (new : S) : Type 0 where
     pub made : goes old deed new
     pub learns : Learns (known old) deed (known new)

@@ -1,4 +1,4 @@
--- A feed that goes on as changes come, told by the history that its session has seen at the end.
+-- A feed that goes on as changes come, determined by the history that its session has seen at the end.
 use Rattle.std.specs.Prelude.{◌≡◌, ◌⊎◌, ℕ, ◌+◌, ◌≤◌, Bool, IsFalse, List, [], ◌∷◌, ◌++◌, length, map, take, ⊤}
 use Rattle.std.specs.List.{flat_map}
 use Rattle.model.specs.Query.{Row}
@@ -6,7 +6,7 @@ use Rattle.model.specs.Database.{Database}
 use Rattle.model.specs.Changes.{last_seq_of, rows_since, wanted_by}
 use Rattle.changes_feed.specs.Followed.{Following}
 use Rattle.http_request.specs.declared.changes.ChangesAsked.{ChangesAsked}
-use Rattle.answer_json.specs.Changes.{feed_line}
+use Rattle.api_json.specs.Changes.{feed_line}
 use Rattle.http_response.specs.Feed.{feed_last_text}
 use Rattle.http_handlers.specs.Known.{Known, database_at}
 use Rattle.http_handlers.specs.Changes.{since_at, most_rows}

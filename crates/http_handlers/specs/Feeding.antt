@@ -29,7 +29,7 @@ pub record Feeding (S : Type 0) : Type 0 where
 -- by what a session does, what it knows, and how often a wait looks
 module _ {S : Type 0} (goes : S → Deed → S → Type 0) (known : S → Known) (turns : ℕ) where
   -- Whether there is more to give behind a piece: no, where as many rows were given as were asked for; yes, where rows are
-  -- left of what was seen; and else what a wait for more tells.
+  -- left of what was seen; and else what a wait for more reports.
   abbrev pub HasMore : Progress → S → List Deed → S → Result Bool CallFault → Type 0
   HasMore after old waits new more =
       let k = known old in

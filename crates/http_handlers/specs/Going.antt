@@ -4,7 +4,7 @@ use Rattle.std.specs.List.{FoldsTo}
 use Rattle.model.specs.Told.{NoneFalls}
 use Rattle.http_framing.specs.Request.{Request}
 use Rattle.http_framing.specs.Input.{Requested}
-use Rattle.serving.specs.Turn.{Turn}
+use Rattle.http_connection.specs.Turn.{Turn}
 use Rattle.streams.specs.Writes.{Writes}
 use Rattle.streams.specs.declared.traits.Failed.{Failed}
 use Rattle.http_handlers.specs.Known.{Known}

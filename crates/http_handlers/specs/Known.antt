@@ -39,6 +39,6 @@ sees_more k more = record k { seen = k.seen ++ more }
 abbrev pub with_calls : Known → ℕ → Bool → Known
 with_calls k pushes lost = record k { pushes = pushes; lost = lost }
 
--- the entry stands at the place in what it has seen
+-- the entry is at the place in what it has seen
 abbrev pub HasEntryAt : Known → ℕ → Entry → Type 0
 HasEntryAt k place entry = Tells (base_of k.base) k.seen (WroteAt entry.seat entry.command place entry.reply)

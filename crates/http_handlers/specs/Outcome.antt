@@ -1,4 +1,4 @@
--- What becomes of a request, and the text that tells it.
+-- What becomes of a request, and the text that reports it.
 use Rattle.std.specs.Prelude.{◌≡◌, ℕ, ◌⊎◌, ◌≤◌, Bool, true, List, [], ◌∷◌, ◌++◌, length, Some, Result, Ok, Err, if◌then◌else◌, ⊤}
 use Rattle.std.specs.List.{FoldsTo}
 use Rattle.model.specs.Command.{Entry}
@@ -23,14 +23,14 @@ use Rattle.http_response.specs.declared.connection.Connection.{Connection as Aft
 use Rattle.http_response.specs.declared.connection.Connection.TheVariants as after
 use Rattle.http_response.specs.declared.memory.MemoryFor.TheVariants as memory_for
 use Rattle.http_response.specs.declared.no_service.Unavailable.{Unavailable}
-use Rattle.serving.specs.Turn.{Turn}
+use Rattle.http_connection.specs.Turn.{Turn}
 use Rattle.http_handlers.specs.Known.{Known, HasEntryAt, database_at}
 use Rattle.http_handlers.specs.Changes.{MayWait, changes_query}
 use Rattle.http_handlers.specs.Deeds.{Deed}
 use Rattle.http_handlers.specs.Feed.{Piece, Ending, GivesPiece, EndsBy, MayBeWhole, ending_text, feed_places, feed_start, pieces_text}
 use Rattle.http_handlers.specs.declared.progress.Progress.{Progress}
 
--- what becomes of what stands on a connection
+-- what becomes of what is on a connection
 pub data Outcome : Type 0 where
   -- it is refused, or it asks for `/`
   Fixed : Outcome
@@ -145,7 +145,7 @@ module _ (k : Known) where
     pub ends : EndsBy k after ending
     pub said : text ≡ feed_head_text place ++ (pieces_text pieces ++ ending_text after.follower.cursor ending)
 
-  -- the text of the turn tells what became of its item, by what the session knows
+  -- the text of the turn reports what became of its item, by what the session knows
   abbrev pub TellsAt : Turn → ℕ → Outcome → Type 0
   TellsAt turn place Fixed = HasFixedText place turn.item turn.text × (turn.closes ≡ closes_connection turn.item)
   TellsAt turn place (Wrote form entry) =

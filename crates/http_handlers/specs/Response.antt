@@ -3,7 +3,7 @@ use Rattle.std.specs.Prelude.{◌≡◌, ℕ, ◌⊎◌, Bool, true, List, Optio
 use Rattle.http_framing.specs.Input.{Item}
 use Rattle.http_request.specs.declared.extent.Extent.{Extent}
 use Rattle.http_request.specs.declared.extent.Extent.TheVariants as extent
-use Rattle.serving.specs.Turn.{Turn}
+use Rattle.http_connection.specs.Turn.{Turn}
 use Rattle.http_response.specs.Texts.{no_memory_text, unavailable_text}
 use Rattle.http_response.specs.declared.memory.MemoryFor.{MemoryFor}
 use Rattle.http_response.specs.declared.memory.MemoryFor.TheVariants as memory_for

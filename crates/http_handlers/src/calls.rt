@@ -16,13 +16,13 @@ pub enum CallFault {
     /// Memory was refused. The call left no entry.
     Memory,
     /// The call has no answer for this reason. It left no entry, but for [`Unavailable::Lost`]: of the
-    /// call that lost the session one may stand, which the session never sees.
+    /// call that lost the session one may be there, which the session never sees.
     Unavailable(Unavailable),
 }
 
 /// Sees the history of a database grow.
 ///
-/// Each of its calls is told by two relations. `goes` is its own: code that knows no more of it can't claim a call that it
+/// Each of its calls is described by two relations. `goes` is its own: code that knows no more of it can't claim a call that it
 /// didn't make, nor another answer. `Learns` says what is known then, whatever it is.
 pub trait Viewer {
     /// What it knows.
@@ -57,7 +57,7 @@ pub trait Calls<X>: Viewer {
     ///
     /// # Errors
     ///
-    /// After each but [`Unavailable::Lost`] the call left no entry. After that one it may stand, the
+    /// After each but [`Unavailable::Lost`] the call left no entry. After that one it may be there, the
     /// session never sees it, and all later calls answer the same.
     fn write(&mut self, context: &X, command: Command) -> Result<u64, CallFault>
         ensures goes { Self.goes self.old (deed.Wrote command result) self.new }

@@ -1,6 +1,6 @@
 //! The connections of a session.
 ghost use Rattle.std.specs.Prelude.{◌≡◌};
-ghost use Rattle.serving.specs.Served.{Streams};
+ghost use Rattle.http_connection.specs.Served.{Streams};
 ghost use Rattle.http_handlers.specs.Answers.{Answers};
 ghost use Rattle.http_handlers.specs.Connection.{IsConnection};
 
@@ -9,9 +9,9 @@ use crate::feed::follow;
 use crate::response::{Reply, send};
 use crate::setting::Setting;
 use crate::turn::{refuse, respond};
+use http_connection::{Cause, Ended, Service, Window};
 use http_framing::FramingFault;
 use http_framing::request::Request;
-use serving::{Cause, Ended, Service, Window};
 use std::alloc::Global;
 use streams::{Failed, Sink, Source};
 
@@ -144,7 +144,7 @@ fn serve_lent<R: Source, W: Sink, X, S: Calls<X>>(
         })
         lent.old.session.now lent.new.session.now result }
 {
-    let ended = serving::serve(window, reader, writer, lent, setting);
+    let ended = http_connection::serve(window, reader, writer, lent, setting);
     let _place = lent.session.place();
     ended
 }

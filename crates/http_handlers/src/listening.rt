@@ -5,8 +5,8 @@ ghost use Rattle.http_handlers.specs.Listening.{Serves, ServesAll, most_connecti
 use crate::calls::Calls;
 use crate::connection::{serve, serve_in};
 use crate::setting::Setting;
+use http_connection::{Cause, Ended, Window};
 use http_framing::BODY_LIMIT;
-use serving::{Cause, Ended, Window};
 use std::net::{Shutdown, TcpListener, TcpStream};
 use std::thread;
 use std::thread::Threads;

@@ -1,10 +1,10 @@
 //! The rows of a feed.
 ghost use Rattle.std.specs.Prelude.{◌≡◌, ◌≤◌, length, IfOk, string_bytes};
 ghost use Rattle.std.specs.List.{flat_map};
-ghost use Rattle.answer_json.specs.Changes.{feed_line};
+ghost use Rattle.api_json.specs.Changes.{feed_line};
 ghost use Rattle.http_handlers.specs.Changes.{most_rows};
 
-use answer_json::feed_line;
+use api_json::feed_line;
 use changes_feed::Follower;
 use document_id::DocIds;
 use http_request::ChangesAsked;

@@ -5,9 +5,9 @@ ghost use Rattle.streams.specs.Writes.{Writes};
 ghost use Rattle.http_handlers.specs.Outcome.{after_closing};
 ghost use Rattle.http_handlers.specs.Response.{SaysLost, SendsDue};
 
+use http_connection::write_response;
 use http_request::{ChangesAsked, Extent};
 use http_response::{Connection, MemoryFor, Response, no_memory};
-use serving::write_response;
 use std::alloc::AllocError;
 use streams::{Failed, Sink};
 

@@ -13,7 +13,7 @@ use sessions::{Fault, Session};
 use snapshots::Version;
 use std::sync::Wait;
 use std::time::Clock;
-use updating::{Core, Gate, Opening};
+use updater_state::{Core, Gate, Opening};
 
 impl<C: Drop, J: Opening, G: Drop> Viewer for Session<C, J, G> {
     ghost known = { λ s. known_of J.base J.config J.sessions J.capacity s };
@@ -89,7 +89,7 @@ fn compact<R: Wait + Drop, J: Opening, G: Gate + Drop, X: Wait>(
     }
 }
 
-/// A session's fault, as a connection tells it.
+/// A session's fault, as a connection reports it.
 fn call_fault(fault: Fault) -> CallFault
     ensures { result ≡ call_fault fault }
 {

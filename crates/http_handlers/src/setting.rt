@@ -1,7 +1,7 @@
 //! What serves connections beside a session.
 ghost use Rattle.std.specs.Prelude.{◌≡◌, IfOk};
 
-use http_routes::Routes;
+use http_routing::Routes;
 use std::alloc::{AllocError, Global};
 use std::marker::Model;
 

@@ -22,7 +22,7 @@ use http_request::{Asked, Form};
 use http_response::{Connection, MemoryFor, Response, reply};
 use std::alloc::{AllocError, Global};
 
-/// Writes a command, and tells the reply in this form.
+/// Writes a command, and reports the reply in this form.
 pub(crate) fn write<X, S: Calls<X>>(
     session: &mut S,
     setting: &Setting<'_, X>,
@@ -41,7 +41,7 @@ pub(crate) fn write<X, S: Calls<X>>(
     }
 }
 
-/// Tells the reply that the history has at a place, in this form.
+/// Reports the reply that the history has at a place, in this form.
 fn tell_reply<S: Viewer>(session: &S, alloc: Global, place: u64, form: Form, closes: bool) -> Sent
     requires { (entry : model.Entry) × IsFormOf form entry.command
         × HasEntryAt (S.known session.now) place entry }

@@ -1,14 +1,14 @@
--- Each request asks for a command in a form in which it is told.
+-- Each request asks for a command in a form in which it is answered.
 use Rattle.std.proofs.Common.{◌≡◌, ℕ, Bool, true, false, List, Option, None, Some, Result, Ok, Err, subst}
 use Rattle.std.specs.Prelude.{IfOk, if◌then◌else◌, codes, length, nat_le, not, ◌||◌}
 use Rattle.std.specs.Str.{bytes_eq}
 use Rattle.http_framing.specs.Request.{Request}
-use Rattle.http_target.specs.Target.{path_of, query_of}
-use Rattle.http_target.specs.Query.{Parameters, parameter, parameters_of}
-use Rattle.http_routes.specs.declared.Route.{Route}
-use Rattle.http_routes.specs.declared.Route.TheVariants as route
-use Rattle.http_routes.specs.declared.Method.{Method}
-use Rattle.http_routes.specs.declared.Method.TheVariants as method
+use Rattle.http_routing.specs.Target.{path_of, query_of}
+use Rattle.http_routing.specs.Query.{Parameters, parameter, parameters_of}
+use Rattle.http_routing.specs.declared.routes.Route.{Route}
+use Rattle.http_routing.specs.declared.routes.Route.TheVariants as route
+use Rattle.http_routing.specs.declared.routes.Method.{Method}
+use Rattle.http_routing.specs.declared.routes.Method.TheVariants as method
 use Rattle.model.specs.Command.{Command, Id, Purge, max_edits, names}
 use Rattle.model.specs.Map.{Map, entries}
 use Rattle.model.specs.Revision.{Rev}
@@ -16,14 +16,14 @@ use Rattle.model.specs.Query.{Options}
 use Rattle.document_json.specs.Steps.{Checked, and_then, or_refused, check}
 use Rattle.document_json.specs.Each.{each}
 use Rattle.document_json.specs.Text.{json_of}
-use Rattle.answer_json.specs.TextLists.{text_list_of, rev_in}
+use Rattle.api_json.specs.TextLists.{text_list_of, rev_in}
 use Rattle.document_json.specs.declared.fault.Reason.TheVariants as reason
 use Rattle.document_json.specs.Bulk.{bulk_of, command_in, documents_in, edit_in, listed_in, merge_in, new_edits_in}
 use Rattle.document_json.specs.Document.{edit_of, parts_in}
-use Rattle.answer_json.specs.Limit.{limit_of}
+use Rattle.api_json.specs.Limit.{limit_of}
 use Rattle.document_json.specs.Local.{counter_in, counter_over, local_document_of, local_edit_of}
-use Rattle.answer_json.specs.NamedRevisions.{named_revisions_of}
-use Rattle.answer_json.specs.Purge.{purge_of}
+use Rattle.api_json.specs.NamedRevisions.{named_revisions_of}
+use Rattle.api_json.specs.Purge.{purge_of}
 use Rattle.http_request.specs.Decide.{decide, route_in, method_in, asked_of, get_document, opened_or_got, put_document, post_bulk, post_purge}
 use Rattle.http_request.specs.Feeds.{all_docs_of, asks_for_keys, asks_for_other_changes, asks_for_range, asks_for_some, changes_of, feed_in, wanted_ids, since_in, style_in}
 use Rattle.http_request.specs.Forms.{IsFormOf, HasForm}

@@ -4,10 +4,10 @@ use Rattle.std.specs.Prelude.{if◌then◌else◌, codes}
 use Rattle.std.specs.Str.{bytes_eq}
 use Rattle.std.proofs.lemmas.Slice.Eq.{bytes_eq-Decides}
 use Rattle.http_framing.specs.Request.{Request}
-use Rattle.http_target.specs.Target.{path_of, query_of}
-use Rattle.http_routes.specs.declared.Route.{Route}
-use Rattle.http_routes.specs.declared.Route.TheVariants as route
-use Rattle.http_routes.specs.declared.Method.{Method}
+use Rattle.http_routing.specs.Target.{path_of, query_of}
+use Rattle.http_routing.specs.declared.routes.Route.{Route}
+use Rattle.http_routing.specs.declared.routes.Route.TheVariants as route
+use Rattle.http_routing.specs.declared.routes.Method.{Method}
 use Rattle.document_json.specs.Steps.{and_then}
 use Rattle.http_request.specs.Decide.{asked_of, decide, method_found, method_in, method_of, route_in}
 use Rattle.http_request.specs.Extent.{extent_of}

@@ -3,13 +3,13 @@ use Rattle.std.specs.Prelude.{ℕ, true, List, [], ◌∷◌, Option, Ok, Err, S
 use Rattle.std.specs.List.{find}
 use Rattle.std.specs.Str.{bytes_eq}
 use Rattle.http_framing.specs.Request.{Request}
-use Rattle.http_target.specs.Target.{path_of, query_of}
-use Rattle.http_target.specs.Query.{Parameters, parameter, parameters_of}
-use Rattle.http_routes.specs.Routes.{route_of, methods_of, name_of}
-use Rattle.http_routes.specs.declared.Route.{Route}
-use Rattle.http_routes.specs.declared.Route.TheVariants as route
-use Rattle.http_routes.specs.declared.Method.{Method}
-use Rattle.http_routes.specs.declared.Method.TheVariants as method
+use Rattle.http_routing.specs.Target.{path_of, query_of}
+use Rattle.http_routing.specs.Query.{Parameters, parameter, parameters_of}
+use Rattle.http_routing.specs.Routes.{route_of, methods_of, name_of}
+use Rattle.http_routing.specs.declared.routes.Route.{Route}
+use Rattle.http_routing.specs.declared.routes.Route.TheVariants as route
+use Rattle.http_routing.specs.declared.routes.Method.{Method}
+use Rattle.http_routing.specs.declared.routes.Method.TheVariants as method
 use Rattle.serde_json.specs.Data.{no_members}
 use Rattle.model.specs.Command.{Id, Compact, Edits, SetLimit, SetPurgedLimit}
 use Rattle.model.specs.Query.{Get, Info, Options, PurgedInfosLimit, RevsLimit, RevsDiff}
@@ -17,13 +17,13 @@ use Rattle.document_json.specs.Steps.{Checked, and_then}
 use Rattle.http_request.specs.Identity.{path_id}
 use Rattle.http_request.specs.Parameters.{options_of, rev_parameter, no_replication}
 use Rattle.document_json.specs.Document.{edit_of}
-use Rattle.answer_json.specs.Limit.{limit_of}
+use Rattle.api_json.specs.Limit.{limit_of}
 use Rattle.document_json.specs.Bulk.{bulk_of}
 use Rattle.http_request.specs.Feeds.{all_docs_of, changes_of}
 use Rattle.http_request.specs.Opened.{open_revs_of}
 use Rattle.http_request.specs.Local.{delete_local, get_local, put_local}
-use Rattle.answer_json.specs.NamedRevisions.{named_revisions_of}
-use Rattle.answer_json.specs.Purge.{purge_of}
+use Rattle.api_json.specs.NamedRevisions.{named_revisions_of}
+use Rattle.api_json.specs.Purge.{purge_of}
 use Rattle.http_request.specs.declared.asked.Asked.{Asked}
 use Rattle.http_request.specs.declared.asked.Asked.TheVariants as asked
 use Rattle.http_request.specs.declared.asked.Form.TheVariants as form

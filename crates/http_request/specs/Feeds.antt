@@ -1,14 +1,14 @@
 -- What is asked of documents: their changes, and their list.
 use Rattle.std.specs.Prelude.{ℕ, ◌&&◌, ◌||◌, Bool, true, false, List, Option, Some, None, Ok, codes, not, unwrap_or, if◌then◌else◌}
 use Rattle.std.specs.Str.{bytes_eq}
-use Rattle.http_routes.specs.declared.Method.{Method}
-use Rattle.http_routes.specs.declared.Method.TheVariants as method
-use Rattle.http_target.specs.Query.{Parameters, parameter}
+use Rattle.http_routing.specs.declared.routes.Method.{Method}
+use Rattle.http_routing.specs.declared.routes.Method.TheVariants as method
+use Rattle.http_routing.specs.Query.{Parameters, parameter}
 use Rattle.model.specs.Command.{Id}
 use Rattle.model.specs.Query.{AllDocuments}
 use Rattle.model.specs.declared.style.Style.{Style}
 use Rattle.model.specs.declared.style.Style.TheVariants.{MainOnly, AllDocs}
-use Rattle.answer_json.specs.DocIds.{doc_ids_of}
+use Rattle.api_json.specs.DocIds.{doc_ids_of}
 use Rattle.document_json.specs.Steps.{Checked, and_then, or_refused, check}
 use Rattle.http_request.specs.Parameters.{asks_for_documents, is_given, is_there, number_parameter}
 use Rattle.http_request.specs.declared.asked.Asked.{Asked}

@@ -1,6 +1,6 @@
 -- The ids that paths name.
 use Rattle.std.specs.Prelude.{ℕ, List}
-use Rattle.http_target.specs.Target.{last_segment, segment_text}
+use Rattle.http_routing.specs.Target.{last_segment, segment_text}
 use Rattle.model.specs.Command.{Id}
 use Rattle.document_json.specs.Identity.{id_named}
 use Rattle.document_json.specs.Steps.{Checked, and_then, or_refused}

@@ -1,6 +1,6 @@
 -- Local documents, as requests name them.
 use Rattle.std.specs.Prelude.{ℕ, List, Option, None, Ok, codes}
-use Rattle.http_target.specs.Query.{parameter, parameters_of}
+use Rattle.http_routing.specs.Query.{parameter, parameters_of}
 use Rattle.model.specs.Command.{PutLocal}
 use Rattle.model.specs.Query.{GetLocal}
 use Rattle.document_json.specs.Local.{counter_in, local_edit_of}

@@ -1,12 +1,12 @@
 -- Which revisions of a document are asked for by `open_revs`.
 use Rattle.std.specs.Prelude.{ℕ, List, Some, None, Ok, codes, if◌then◌else◌}
 use Rattle.std.specs.Str.{bytes_eq}
-use Rattle.http_target.specs.Query.{Parameters}
+use Rattle.http_routing.specs.Query.{Parameters}
 use Rattle.model.specs.Command.{Id}
 use Rattle.model.specs.Query.{OpenRevs, Options}
 use Rattle.document_json.specs.Steps.{Checked, and_then, or_refused}
 use Rattle.document_json.specs.Each.{each}
-use Rattle.answer_json.specs.TextLists.{rev_in, text_list_of}
+use Rattle.api_json.specs.TextLists.{rev_in, text_list_of}
 use Rattle.document_json.specs.declared.fault.Reason.TheVariants as reason
 use Rattle.http_request.specs.Parameters.{rev_parameter}
 use Rattle.http_request.specs.declared.asked.Asked.{Asked}

@@ -2,8 +2,8 @@
 use Rattle.std.specs.Prelude.{ℕ, ◌||◌, Bool, false, List, Option, Some, None, Ok, codes, is_some, not, ⊤}
 use Rattle.std.specs.Option.{option_map_or}
 use Rattle.std.specs.Str.{bytes_eq}
-use Rattle.http_target.specs.Query.{Parameters, parameter}
-use Rattle.http_target.specs.Value.{flag}
+use Rattle.http_routing.specs.Query.{Parameters, parameter}
+use Rattle.http_routing.specs.Value.{flag}
 use Rattle.decimals.specs.Number.{number}
 use Rattle.model.specs.Revision.{Rev}
 use Rattle.model.specs.Query.{Options}
@@ -52,7 +52,7 @@ abbrev pub asks_for_documents : Parameters → Bool
 asks_for_documents parameters =
     is_given (codes "include_docs") (codes "true") parameters || is_given (codes "descending") (codes "true") parameters
 
--- what beside its body is asked of a document
+-- what is asked of a document beside its body
 -- CouchDB: GET /{db}/{docid}, "latest", "revs", "revs_info", "conflicts", "deleted_conflicts"
 abbrev pub options_of : Parameters → Checked Options
 options_of parameters =

@@ -9,7 +9,7 @@ use queries::Query;
 pub enum Asked {
     /// `GET /`
     Welcome,
-    /// To change the database. The reply is told in this form.
+    /// To change the database. The reply is given in this form.
     Command(Form, Command),
     /// To read the database.
     Query(Query),
@@ -17,7 +17,7 @@ pub enum Asked {
     Changes(ChangesAsked),
 }
 
-/// How the reply to a command is told.
+/// How the reply to a command is given.
 #[derive(Clone, Copy, Debug, PartialEq, Eq)]
 pub enum Form {
     /// As that of a write of one document.

@@ -2,16 +2,16 @@
 ghost use Rattle.std.specs.Prelude.{◌≡◌, codes};
 ghost use Rattle.http_request.specs.Feeds.{all_docs_of, asks_for_keys, asks_for_other_changes, asks_for_other_filter, asks_for_range, asks_for_some, changes_of, feed_in, feed_named, wanted_ids, since_in, style_in, style_named};
 ghost use Rattle.document_json.specs.Steps.{Decides};
-ghost use Rattle.http_target.specs.Query.{parameter, parameters_of};
+ghost use Rattle.http_routing.specs.Query.{parameter, parameters_of};
 
 use crate::asked::Asked;
 use crate::changes::{ChangesAsked, Feed, Since};
 use crate::parameter::{asks_for_documents, is_given, is_there, read_number};
-use answer_json::read_doc_ids;
+use api_json::read_doc_ids;
 use document_id::DocIds;
 use document_json::{Fault, Reason};
-use http_routes::Method;
-use http_target::query::Parameters;
+use http_routing::Method;
+use http_routing::query::Parameters;
 use model::Style;
 use queries::{Query, QueryKind};
 use std::alloc::Global;

@@ -4,8 +4,8 @@ ghost use Rattle.http_request.specs.Identity.{path_id};
 
 use document_id::DocId;
 use document_json::{Fault, Reason, read_id};
-use http_target::last_segment;
-use http_target::segment::{SegmentFault, decode_segment};
+use http_routing::last_segment;
+use http_routing::segment::{SegmentFault, decode_segment};
 use std::alloc::Global;
 
 /// The id that a path ends in.

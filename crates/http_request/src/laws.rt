@@ -9,7 +9,7 @@ ghost use Rattle.http_request.specs.Forms.{IsFormOf};
 use crate::asked::{Asked, Form};
 use crate::extent::Extent;
 
-/// A request asks for a command in a form in which such a command is told.
+/// A request asks for a command in a form in which such a command is answered.
 pub fn forms_fit()
     ensures { (request : Request) (form : Form) (command : Command)
         → decide request ≡ Ok (Asked.Command form command) → IsFormOf form command }

@@ -6,7 +6,7 @@ use crate::asked::{Asked, Form};
 use crate::identity::read_path_id;
 use commands::Command;
 use document_json::{Fault, name_counter, read_local_edit};
-use http_target::query::Parameters;
+use http_routing::query::Parameters;
 use queries::{Query, QueryKind};
 use std::alloc::Global;
 

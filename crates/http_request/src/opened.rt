@@ -5,10 +5,10 @@ ghost use Rattle.http_request.specs.Opened.{open_leaves, open_listed, open_revs_
 
 use crate::asked::Asked;
 use crate::parameter::read_named_revision;
-use answer_json::{read_revisions, read_text_list};
+use api_json::{read_revisions, read_text_list};
 use document_id::DocId;
 use document_json::{Fault, Reason};
-use http_target::query::Parameters;
+use http_routing::query::Parameters;
 use queries::{Options, Query, QueryKind};
 use std::alloc::Global;
 

@@ -4,8 +4,8 @@ ghost use Rattle.http_request.specs.Parameters.{asks_for_documents, flag_paramet
 
 use decimals::parse_number;
 use document_json::{Reason, name_revision};
-use http_target::query::Parameters;
-use http_target::value::parse_flag;
+use http_routing::query::Parameters;
+use http_routing::value::parse_flag;
 use queries::Options;
 use revision_id::RevId;
 
@@ -79,7 +79,7 @@ pub(crate) fn asks_for_documents(parameters: &Parameters<'_>) -> bool
     is_given(parameters, "include_docs", "true") || is_given(parameters, "descending", "true")
 }
 
-/// What beside its body is asked of a document.
+/// What is asked of a document beside its body.
 pub(crate) fn read_options(parameters: &Parameters<'_>) -> Result<Options, Reason>
     ensures { result ≡ options_of parameters.now }
 {

@@ -1,7 +1,7 @@
 //! Why a request is rejected.
 
 use document_json::Reason;
-use http_routes::Route;
+use http_routing::Route;
 
 /// Why a request is rejected, after which the connection goes on.
 #[derive(Clone, Copy, Debug, PartialEq, Eq)]

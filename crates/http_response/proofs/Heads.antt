@@ -1,10 +1,10 @@
--- How long what stands in a head is.
+-- How long what is in a head is.
 use Rattle.std.proofs.Common.{◌≤◌, length, arith}
-use Rattle.http_routes.specs.Routes.{methods_of, name_of}
-use Rattle.http_routes.specs.declared.Method.{Method}
-use Rattle.http_routes.specs.declared.Method.TheVariants as method
-use Rattle.http_routes.specs.declared.Route.{Route}
-use Rattle.http_routes.specs.declared.Route.TheVariants as route
+use Rattle.http_routing.specs.Routes.{methods_of, name_of}
+use Rattle.http_routing.specs.declared.routes.Method.{Method}
+use Rattle.http_routing.specs.declared.routes.Method.TheVariants as method
+use Rattle.http_routing.specs.declared.routes.Route.{Route}
+use Rattle.http_routing.specs.declared.routes.Route.TheVariants as route
 
 pub few_methods : (r : Route) → length (methods_of r) ≤ 3
 few_methods route.Root = omega arith

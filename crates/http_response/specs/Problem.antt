@@ -1,4 +1,4 @@
--- Why something was not done, as a response tells it.
+-- Why something was not done, as a response reports it.
 use Rattle.std.specs.Prelude.{ℕ, List, ◌++◌, codes}
 use Rattle.http_framing.specs.declared.FramingFault.{FramingFault}
 use Rattle.http_framing.specs.declared.FramingFault.TheVariants as fault
@@ -10,7 +10,7 @@ use Rattle.model.specs.declared.refusal.Refusal.{Refusal}
 use Rattle.model.specs.declared.refusal.Refusal.TheVariants as refusal
 use Rattle.model.specs.declared.absent.Absent.{Absent}
 use Rattle.model.specs.declared.absent.Absent.TheVariants as absent
-use Rattle.answer_json.specs.Refusals.{write_error, write_reason}
+use Rattle.api_json.specs.Refusals.{write_error, write_reason}
 use Rattle.http_response.specs.declared.status.StatusCode.{StatusCode}
 use Rattle.http_response.specs.declared.status.StatusCode.TheVariants as status
 use Rattle.http_response.specs.declared.head.Allow.{Allow}

@@ -2,8 +2,8 @@
 use Rattle.std.specs.Prelude.{ℕ, List, [], ◌∷◌, ◌++◌, length, codes, string_bytes}
 use Rattle.std.specs.List.{flat_map}
 use Rattle.std.specs.Fmt.{decimal}
-use Rattle.http_routes.specs.Routes.{methods_of, name_of}
-use Rattle.http_routes.specs.declared.Method.{Method}
+use Rattle.http_routing.specs.Routes.{methods_of, name_of}
+use Rattle.http_routing.specs.declared.routes.Method.{Method}
 use Rattle.http_response.specs.declared.body.BodyText.{BodyText}
 use Rattle.http_response.specs.declared.body.BodyText.TheVariants as body_text
 use Rattle.http_response.specs.declared.status.StatusCode.{StatusCode}

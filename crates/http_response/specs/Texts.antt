@@ -19,7 +19,7 @@ use Rattle.http_response.specs.declared.memory.MemoryFor.TheVariants as memory_f
 use Rattle.http_response.specs.declared.no_service.Unavailable.{Unavailable}
 use Rattle.http_response.specs.declared.no_service.Unavailable.TheVariants as unavailable
 
--- ---- what is told of no call of the database
+-- ---- what is said without a call of the database
 
 -- a request that is refused, as far as it takes the response
 unfoldable pub refusal_text : ℕ → Connection → Extent → Rejection → List ℕ
@@ -38,7 +38,7 @@ welcome_text place connection = response_text status.Ok place allow.Unsaid conne
 abbrev pub told_text : ℕ → Connection → Told → List ℕ
 told_text place connection told = response_text told.0 place allow.Unsaid connection extent.Whole told.1
 
--- what became of a command, where its reply is told in this form
+-- what became of a command, where its reply is given in this form
 unfoldable pub reply_text : ℕ → Connection → Form → Command → Reply → Option (List ℕ)
 reply_text place connection form command reply = option_map (told_text place connection) (reply_told form command reply)
 

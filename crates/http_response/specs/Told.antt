@@ -1,4 +1,4 @@
--- The status and the body that tell what became of a command, or what a query is answered.
+-- The status and the body that report what became of a command, or what a query is answered.
 use Rattle.std.specs.Prelude.{ℕ, List, [], ◌∷◌, Result, Ok, Err, codes, Option, Some, None}
 use Rattle.serde_json.specs.Data.{Data, number, unsigned, array}
 use Rattle.serde_json.specs.View.{items_of}
@@ -11,16 +11,16 @@ use Rattle.model.specs.declared.absent.Absent.TheVariants.{IsMissing}
 use Rattle.model.specs.Revision.{Rev}
 use Rattle.http_request.specs.declared.asked.Form.{Form}
 use Rattle.http_request.specs.declared.asked.Form.TheVariants as form
-use Rattle.answer_json.specs.Bulk.{edits_data, merges_data}
-use Rattle.answer_json.specs.Counts.{counts_data}
-use Rattle.answer_json.specs.Purge.{purged_data}
-use Rattle.answer_json.specs.Replies.{written_data, local_written_data}
+use Rattle.api_json.specs.Bulk.{edits_data, merges_data}
+use Rattle.api_json.specs.Counts.{counts_data}
+use Rattle.api_json.specs.Purge.{purged_data}
+use Rattle.api_json.specs.Replies.{written_data, local_written_data}
 use Rattle.document_json.specs.Written.{document_data, local_data}
-use Rattle.answer_json.specs.Opened.{all_opened_data}
+use Rattle.api_json.specs.Opened.{all_opened_data}
 use Rattle.model.specs.Body.{Body}
-use Rattle.answer_json.specs.AllDocs.{all_docs_data}
-use Rattle.answer_json.specs.Changes.{page_data}
-use Rattle.answer_json.specs.Differences.{differences_data}
+use Rattle.api_json.specs.AllDocs.{all_docs_data}
+use Rattle.api_json.specs.Changes.{page_data}
+use Rattle.api_json.specs.Differences.{differences_data}
 use Rattle.http_response.specs.Problem.{write_status, write_problem, absent_problem}
 use Rattle.http_response.specs.declared.status.StatusCode.{StatusCode}
 use Rattle.http_response.specs.declared.status.StatusCode.TheVariants as status

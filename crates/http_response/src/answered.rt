@@ -12,7 +12,7 @@ use crate::connection::Connection;
 use crate::problem::body_of_absent;
 use crate::response::Response;
 use crate::status::StatusCode;
-use answer_json::{
+use api_json::{
     all_docs_text, all_opened_text, counts_text, differences_text, number_text, page_text,
 };
 use document_id::DocId;
@@ -75,14 +75,14 @@ fn tell(
     }
 }
 
-/// Tells of what was found.
+/// Reports what was found.
 fn tell_text(text: String) -> (StatusCode, BodyText)
     ensures { (result.0, bytes_of result.1) ≡ told_found (string_bytes text) }
 {
     (StatusCode::Ok, BodyText::Made(text))
 }
 
-/// Tells that a document is not found.
+/// Reports that a document is not found.
 fn tell_absent(absent: Absent) -> (StatusCode, BodyText)
     ensures { (result.0, bytes_of result.1) ≡ told_absent absent }
 {

@@ -1,4 +1,4 @@
-//! Responses that tell nothing of the database.
+//! Responses that say nothing of the database.
 ghost use Rattle.std.specs.Prelude.{◌≡◌};
 ghost use Rattle.http_response.specs.Problem.{refusal_allow, refusal_body, refusal_status};
 ghost use Rattle.http_response.specs.Texts.{refusal_text, welcome_text};

@@ -8,7 +8,7 @@ ghost use Rattle.http_response.specs.Response.{allow_line, head_text, listed, ne
 use crate::connection::Connection;
 use crate::status::StatusCode;
 use arrayvec::ArrayString;
-use http_routes::{Method, Route};
+use http_routing::{Method, Route};
 use itoa::Buffer;
 
 /// Room for any head.
@@ -70,7 +70,7 @@ fn push_allow(head: &mut ArrayString<HEAD_ROOM>, allow: Allow)
     head.push_str("\r\n");
 }
 
-/// Writes the names of methods, of at most 8 bytes each with what stands between them.
+/// Writes the names of methods, of at most 8 bytes each with what is between them.
 #[tactic(auto, using(crate::proofs::Heads::short_name))]
 fn push_methods(head: &mut ArrayString<HEAD_ROOM>, methods: &[Method])
     requires { array_string_len head.old + 8 * length methods.now ≤ HEAD_ROOM }

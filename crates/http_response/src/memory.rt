@@ -14,7 +14,7 @@ use http_request::Extent;
 pub enum MemoryFor {
     /// A request, before it changed anything.
     Call,
-    /// The text of the reply to a command that stands in the history.
+    /// The text of the reply to a command that is in the history.
     Reply,
 }
 

@@ -1,4 +1,4 @@
-//! Why a write or a query was refused, as a body tells it.
+//! Why a write or a query was refused, as a body reports it.
 ghost use Rattle.std.specs.Prelude.{◌≡◌};
 ghost use Rattle.http_response.specs.Problem.{absent_problem, write_problem, write_status};
 
@@ -17,7 +17,7 @@ pub(crate) fn status_of(refusal: Refusal) -> StatusCode
     }
 }
 
-/// The body that tells of a refused write.
+/// The body that reports a refused write.
 pub(crate) fn body_of_refusal(refusal: Refusal) -> &'static str
     ensures { result.now ≡ write_problem refusal }
 {
@@ -34,7 +34,7 @@ pub(crate) fn body_of_refusal(refusal: Refusal) -> &'static str
     }
 }
 
-/// The body that tells that a document is not found.
+/// The body that says that a document is not found.
 pub(crate) fn body_of_absent(absent: Absent) -> &'static str
     ensures { result.now ≡ absent_problem absent }
 {

@@ -11,7 +11,7 @@ use crate::connection::Connection;
 use crate::problem::{body_of_refusal, status_of};
 use crate::response::Response;
 use crate::status::StatusCode;
-use answer_json::{edits_text, local_written_text, merges_text, purged_text, written_text};
+use api_json::{edits_text, local_written_text, merges_text, purged_text, written_text};
 use commands::{Command, CommandKind, Edit, Reply, ReplyKind};
 use document_id::DocId;
 use http_request::Form;
@@ -100,7 +100,7 @@ fn tell_edits(
     }
 }
 
-/// Tells of the one write that was asked for.
+/// Reports the one write that was asked for.
 fn tell_single(
     alloc: Global,
     status: StatusCode,
@@ -141,7 +141,7 @@ fn tell_refused(refusal: Refusal) -> (StatusCode, BodyText)
     (status_of(refusal), BodyText::Fixed(body))
 }
 
-/// Tells of the write of a local document.
+/// Reports of the write of a local document.
 fn tell_local(
     alloc: Global,
     form: Form,

@@ -17,7 +17,7 @@ use Rattle.replay_cli.proofs.Readable.{readable-dump, readable-none, unreadable-
 
 -- ---- wrong entries
 
--- each entry of a legal history is the next one where it stands
+-- each entry of a legal history is the next one where it is
 next-at : (base : Database) (before : List Entry) (entry : Entry) (after : List Entry) → IsLegal base (before ++ entry ∷ after) → IsNext (replay base before) entry
 next-at base before entry after legal = ((IsLegal-append base before (entry ∷ after)).0 legal).1.0
 

@@ -14,7 +14,7 @@ IsLineAt place line = (place ≤ last_place) × (entry : Entry) × IsLine entry 
 abbrev pub IsFirstLine : List ℕ → Type 0
 IsFirstLine line = (base : Option Database) × IsFirst base × (line ≡ first_line base)
 
--- Lines are counted from 1: the first one tells what the history begins from, and line P + 1 is of the entry at place P.
+-- Lines are counted from 1: the first one reports what the history begins from, and line P + 1 is of the entry at place P.
 abbrev pub IsReadable : ℕ → List ℕ → Type 0
 IsReadable zero line = ⊥
 IsReadable (suc zero) line = IsFirstLine line

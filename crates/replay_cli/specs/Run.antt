@@ -3,7 +3,7 @@ use Rattle.std.specs.Prelude.{◌≡◌, ℕ, List, [], ◌++◌, codes, decimal
 use Rattle.std.specs.Io.KnownBytes.{Consumes, IsAtEnd}
 use Rattle.streams.specs.Counts.{CountRose}
 use Rattle.streams.specs.Ends.{Ends}
-use Rattle.serving.specs.Served.{Streams}
+use Rattle.http_connection.specs.Served.{Streams}
 use Rattle.replay_cli.specs.Verdicts.{IsVerdict}
 use Rattle.replay_cli.specs.declared.verdict.Verdict.{Verdict}
 use Rattle.replay_cli.specs.declared.verdict.Verdict.TheVariants as verdict
@@ -19,7 +19,7 @@ verdict_status (verdict.Legal places) = 0
 verdict_status (verdict.WrongAt place) = 2
 verdict_status (verdict.UnreadableLine number) = 3
 
--- what a run tells
+-- what a run reports
 pub data Told : Type 0 where
   Judged : Verdict → Told
   NoMemory : Told

@@ -1,11 +1,11 @@
 -- A run of `replay base`.
 use Rattle.std.specs.Prelude.{ℕ, List, codes, ⊤}
 use Rattle.streams.specs.Ends.{Ends}
-use Rattle.serving.specs.Served.{Streams}
+use Rattle.http_connection.specs.Served.{Streams}
 use Rattle.replay_cli.specs.Run.{Told, Judged, NoMemory, ReadFailed, IsFound, IsOfInput, told_text, told_status}
 use Rattle.replay_cli.specs.Successors.{IsLastEpoch, IsRefused, IsSuccessorLine}
 
--- the first line of what follows, or that nothing can follow, or what a run of `replay check` tells
+-- the first line of what follows, or that nothing can follow, or what a run of `replay check` reports
 pub data Given : Type 0 where
   Line : List ℕ → Given
   NoneFollows : Given
@@ -22,7 +22,7 @@ given_status (Line line) = 0
 given_status NoneFollows = 6
 given_status (Instead told) = told_status told
 
--- a verdict is told only where nothing follows
+-- a verdict is reported only where nothing follows
 abbrev pub IsInstead : Told → Type 0
 IsInstead (Judged v) = IsRefused v
 IsInstead NoMemory = ⊤

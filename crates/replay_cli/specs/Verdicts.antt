@@ -1,4 +1,4 @@
--- What an audit of a text tells.
+-- What an audit of a text says.
 use Rattle.std.specs.Prelude.{◌≡◌, ℕ, ◌≤◌, List, length, All, Option}
 use Rattle.model.specs.Command.{Entry}
 use Rattle.model.specs.Database.{Database}

@@ -6,7 +6,7 @@ ghost use Rattle.replay_cli.specs.Verdicts.{begun_with};
 use history_dump::dump_version;
 use history_lock::Closed;
 use std::alloc::{AllocError, Global};
-use updating::Opening;
+use updater_state::Opening;
 
 /// The dump of a closed history: the first line, and the line of each entry from place 1 on.
 pub fn dump<J: Opening>(alloc: Global, closed: &Closed<J>) -> Result<Vec<u8>, AllocError>

@@ -29,7 +29,7 @@ pub(crate) fn judge(
     }
 }
 
-/// The place of the first wrong entry, where nothing stands yet. Where there is none, all of them stand.
+/// The place of the first wrong entry, in an empty history. Where there is none, all of them are right.
 fn first_wrong(
     alloc: Global,
     version: &mut Version,

@@ -1,7 +1,7 @@
 //! The dump of a history, and its audit.
 //!
 //! A dump is a text: a first line that says what the history begins from, and a line for each entry. Whoever has it can
-//! tell whether the history in it is legal, with no word from the database that wrote it.
+//! say whether the history in it is legal, without asking the database that wrote it.
 #![tactic(auto)]
 
 mod audit;

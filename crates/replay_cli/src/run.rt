@@ -1,7 +1,7 @@
 //! What the program does with its standard streams.
 ghost use Rattle.std.specs.Prelude.{◌≡◌, ◌⊎◌, ℕ, List, IfOk};
 ghost use Rattle.std.specs.Io.KnownBytes.{Consumes, IsAtEnd};
-ghost use Rattle.serving.specs.Served.{Streams};
+ghost use Rattle.http_connection.specs.Served.{Streams};
 ghost use Rattle.streams.specs.Ends.{Ends};
 ghost use Rattle.replay_cli.specs.Verdicts.{IsVerdict};
 ghost use Rattle.replay_cli.specs.Input.{CountsReads};
@@ -19,7 +19,7 @@ pub(crate) const FAILED: u8 = 1;
 /// The exit status where memory was refused.
 pub(crate) const NO_MEMORY: u8 = 4;
 
-/// Reads a dump to its end, writes one line that tells what it is, and answers the exit status: 0
+/// Reads a dump to its end, writes one line that reports what it is, and answers the exit status: 0
 /// for a legal history, 2 for a wrong entry, 3 for an unreadable line, 4 where memory was refused,
 /// and 1 where a read or a write failed.
 pub fn run_check<R: Source, W: Sink, A: AllocGlobal>(reader: &mut R, writer: &mut W, rt: &A) -> u8
@@ -71,7 +71,7 @@ pub(crate) fn tell<W: Sink>(alloc: Global, writer: &mut W, verdict: Verdict) -> 
     end_with(writer, line.as_bytes(), exit_status(verdict))
 }
 
-/// The status of a verdict that was told.
+/// The status of a verdict that was reported.
 fn exit_status(verdict: Verdict) -> u8
     ensures { result ≡ verdict_status verdict }
 {

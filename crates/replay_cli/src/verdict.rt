@@ -7,7 +7,7 @@ use std::fmt::Display;
 pub enum Verdict {
     /// It is the dump of a legal history of so many entries.
     Legal(u64),
-    /// It is a dump. The first wrong entry stands at this place, counted from 1: its seat isn't its
+    /// It is a dump. The first wrong entry is at this place, counted from 1: its seat isn't its
     /// session's next call, or its reply isn't that of the sequential database.
     WrongAt(u64),
     /// It is no dump. This is the number, counted from 1, of the first line that can't be read.

@@ -86,7 +86,7 @@ told-answered (Err m ∷ opened) id rev told of =
       | false ↦ λ _ later. answered-right [] (given_in opened) ((id, m) ∷ []) (absent_in id opened) (id, rev) (told-answered opened id rev later of)
     ] refl told
 
--- a run of one document's revisions that are all told of
+-- a run of one document's revisions that are all reported
 pub run-answered : (run : List (Id × Rev)) (opened : List (Result Merge Rev)) (id : Id) → All (λ w. same_key names w.0 id ≡ true) run
     → list_all (λ rev. list_any (tells_of rev) opened) (map (λ w. w.1) run) ≡ true → list_all (is_of id) opened ≡ true
     → All (IsAnswered (given_in opened) (absent_in id opened)) run

@@ -1,4 +1,4 @@
--- The log of the calls tells what a worker knows.
+-- The log of the calls shows what a worker knows.
 use Rattle.std.proofs.Common.{◌≡◌, ℕ, List, [], ◌∷◌, ◌++◌, refl, ap, sym, subst, ◌∙◌, Bool, true, false, inl, inr}
 use Rattle.std.specs.Prelude.{Option, None, Some, option_to_list, Result, Ok, Err, if◌then◌else◌}
 use Rattle.std.specs.List.{FoldsTo}
@@ -19,7 +19,7 @@ use Rattle.replicator.specs.Run.{Exchange, Exchanges, IsStep, IsTurn, Party, Ste
 use Rattle.replicator.specs.Stage.{Stage, Unread, SourceRead, Ready, Paged, Passing, first_pass}
 use Rattle.replicator.proofs.Told.{Tells, push-again, readable, after-page, paged, passing, opened, taken, after-mark, covered, sent}
 
--- the call is sound, and what is learnt from it is told
+-- the call is sound, and what is learnt from it is reported
 abbrev Goes : Job → List Exchange → Side → Call → Learned → Type 0
 Goes job log side call learned = IsSound job log side call × Tells job (stage_after learned) (log ++ called side call ∷ [])
 

@@ -12,7 +12,7 @@ use Rattle.replicator.specs.declared.progress.Progress.TheVariants as progress
 use Rattle.replicator.specs.Call.{Call}
 use Rattle.replicator.specs.Run.{CountsEither, Ends, Exchange, GoesOn, IsRun, IsStep, Party, Step, last_told}
 
--- n steps were made, after each of which the worker went on, and the last told this
+-- n steps were made, after each of which the worker went on, and the last reported this
 pub record IsGoing {S T : Type 0} (source_goes : S → Call → S → Type 0) (target_goes : T → Call → T → Type 0) (old now : Party S T) (n : ℕ) (told : Result Progress PeerFault) : Type 0 where
   pub steps : List Step
   pub folds : FoldsTo (IsStep source_goes target_goes) old steps now

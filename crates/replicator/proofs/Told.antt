@@ -1,4 +1,4 @@
--- What a log of calls tells of each stage, and how it grows by a call.
+-- What a log of calls says of each stage, and how it grows by a call.
 use Rattle.std.proofs.Common.{◌≡◌, ℕ, List, [], ◌∷◌, ◌++◌, length, drop, refl, ap, sym, subst, ◌∙◌, Bool, true, false, inr}
 use Rattle.std.specs.Prelude.{All, Contains, Option, Result, Ok, Err, ⊤, if◌then◌else◌}
 use Rattle.std.specs.List.{flat_map}
@@ -25,7 +25,7 @@ use Rattle.replicator.specs.Run.{Exchange, stage_after}
 use Rattle.replicator.specs.Stage.{Covers, Pass, Stage, Unread, SourceRead, Ready, Paged, Passing, first_pass}
 use Rattle.replicator.proofs.OfWanted.{differences-wanted, next-wanted, opened-wanted, page-wanted}
 
--- ---- what a log tells of a stage
+-- ---- what a log says of a stage
 
 pub record TellsPass (job : Job) (p : Pass) (log : List Exchange) : Type 0 where
   pub calls : List Exchange
@@ -68,7 +68,7 @@ marked-longer : (id : Id) (calls : List Exchange) (e : Exchange) (last_seq : ℕ
 marked-longer id calls e last_seq (named, counter, there) =
     (named, counter, Contains-append_left calls (e ∷ []) (called Target (LocalPut id named last_seq (Ok counter))) there)
 
--- ---- what is learnt is told
+-- ---- what is learnt is reported
 
 pub readable : (job : Job) (log : List Exchange) (learned : Learned) (b : Bool) → (b ≡ true → Tells job (stage_after learned) log)
     → Tells job (stage_after (if b then learned else Err fault.Unreadable)) log

@@ -13,7 +13,7 @@ use Rattle.replicator.specs.Readable.{is_readable_page, is_readable_difference, 
 use Rattle.replicator.specs.Stage.{Stage, Unread, SourceRead, Ready, Paged, Passing, Pass, ends_of, first_pass}
 use Rattle.replicator.specs.Wanted.{absent_in, given_in}
 
--- what the worker knows next, and what it tells
+-- what the worker knows next, and what it reports
 abbrev pub Learned : Type 0
 Learned = Result (Stage × Progress) PeerFault
 
@@ -24,7 +24,7 @@ goes_on stage = Ok (stage, progress.Going)
 abbrev pub learnt_of_page : Ends → ChangesPage → Learned
 learnt_of_page ends page = elim page.rows [ [] ↦ Ok (Unread, progress.Done) | row ∷ rows ↦ goes_on (Paged ends page) ]
 
--- with what the source told of the revisions that were asked for
+-- with what the source said of the revisions that were asked for
 abbrev pub with_opened : Pass → Id → List Rev → List (Result Merge Rev) → Pass
 with_opened p id revs opened = record p {
   asked = p.asked + length revs;
@@ -36,11 +36,11 @@ with_opened p id revs opened = record p {
 abbrev pub with_taken : Pass → List Merge → Pass
 with_taken p documents = record p { taken = p.taken ++ documents }
 
--- the target's checkpoint stands, under this revision number
+-- the target's checkpoint is there, under this revision number
 abbrev pub with_mark : Pass → ℕ → Pass
 with_mark p counter = record p { ends = record p.ends { target = Some counter }; marked = true }
 
--- the source's checkpoint stands too, and changes are asked for from there
+-- the source's checkpoint is there too, and changes are asked for from there
 abbrev pub ends_after : Ends → ℕ → ℕ → Ends
 ends_after ends last_seq counter = record ends { since = last_seq; source = Some counter }
 

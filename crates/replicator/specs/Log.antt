@@ -1,4 +1,4 @@
--- What the calls of a replication tell by themselves, with no word of what a worker knows.
+-- What the calls of a replication show by themselves, without what a worker knows.
 use Rattle.std.specs.Prelude.{◌≡◌, ◌⊎◌, ℕ, true, List, [], ◌∷◌, ◌++◌, All, Contains, Option, Some, option_to_list, Ok, ⊤}
 use Rattle.std.specs.List.{flat_map}
 use Rattle.model.specs.Map.{Map, entries}
@@ -70,13 +70,13 @@ pub record IsMarked (id : Id) (log : List Exchange) (since : ℕ) : Type 0 where
 abbrev pub IsStart : Id → List Exchange → ℕ → Type 0
 IsStart id log since = IsRead id log since ⊎ IsMarked id log since
 
--- after some calls the source gave changes, and the target told what it lacks of them; these calls followed
+-- after some calls the source gave changes, and the target reported what it lacks of them; these calls followed
 pub record IsPass (job : Job) (log : List Exchange) (since : ℕ) (page : ChangesPage) (differences : Map names Difference) (calls : List Exchange) : Type 0 where
   pub before : List Exchange
   pub start : IsStart job.id before since
   pub log_is : log ≡ before ++ called Source (Changes job.ids since job.batch (Ok page)) ∷ called Target (Diff (asked_in page.rows) (Ok differences)) ∷ calls
 
--- each of the documents stood in an answer of the source in the pass, and is one of those that are wanted
+-- each of the documents was in an answer of the source in the pass, and is one of those that are wanted
 pub record SendsGiven (job : Job) (log : List Exchange) (documents : List Merge) : Type 0 where
   pub since : ℕ
   pub page : ChangesPage

@@ -23,7 +23,7 @@ pass_of ends page differences asked given absent taken marked = record {
   marked = marked;
 }
 
--- a revision stands in the path of a document that is given, or is missing at the source
+-- a revision is in the path of a document that is given, or is missing at the source
 abbrev pub IsAnswered : List Merge → List (Id × Rev) → Id × Rev → Type 0
 IsAnswered given absent wanted = IsIn given wanted.0 wanted.1 ⊎ Contains absent wanted
 

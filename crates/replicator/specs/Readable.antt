@@ -43,7 +43,7 @@ is_readable_difference asked differences = list_all (λ d. list_all (is_among (a
 abbrev pub path_of : Merge → List Rev
 path_of document = document.newest ∷ document.older
 
--- whether an answer tells of a revision: it stands in the path of a document, or is missing
+-- whether an answer reports a revision: it is in the path of a document, or is missing
 abbrev pub tells_of : Rev → Result Merge Rev → Bool
 tells_of rev (Ok document) = is_among (path_of document) rev
 tells_of rev (Err missing) = same_rev missing rev
@@ -53,6 +53,6 @@ abbrev pub is_of : Id → Result Merge Rev → Bool
 is_of id (Ok document) = same_key names document.id id
 is_of id (Err missing) = true
 
--- whether each revision that was asked for is told of, and no other document is given
+-- whether each revision that was asked for is reported, and no other document is given
 abbrev pub is_readable_opened : Id → List Rev → List (Result Merge Rev) → Bool
 is_readable_opened id revs opened = list_all (λ rev. list_any (tells_of rev) opened) revs && list_all (is_of id) opened

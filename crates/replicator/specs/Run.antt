@@ -53,7 +53,7 @@ abbrev pub Called : {S : Type 0} → (S → Call → S → Type 0) → S → S �
 Called goes old new job stage side learned =
     ((call : Call) × goes old call new × IsTurn job stage side call learned) ⊎ ((new ≡ old) × LacksMemory stage learned)
 
--- what a step called, which is nothing only where memory was refused, and what it told
+-- what a step called, which is nothing only where memory was refused, and what it reported
 pub record Step : Type 0 where
   pub exchange : Option Exchange
   pub result : Result Progress PeerFault
@@ -68,7 +68,7 @@ module _ {S T : Type 0} (source_goes : S → Call → S → Type 0) (target_goes
   Exchanges job stage s t s' t' None learned = (s' ≡ s) × (t' ≡ t) × LacksMemory stage learned
   Exchanges job stage s t s' t' (Some e) learned = Moves e s t s' t' × IsTurn job stage e.side e.call learned
 
--- what a step tells of what was learnt
+-- what a step reports of what was learnt
 abbrev pub told_of : Learned → Result Progress PeerFault
 told_of (Ok next) = Ok next.1
 told_of (Err f) = Err f
@@ -84,7 +84,7 @@ pub record Party (S T : Type 0) : Type 0 where
   pub source : S
   pub target : T
 
--- By a step the worker makes at most one call, which is due, of one end; it learns the answer and tells so. It makes
+-- By a step the worker makes at most one call, which is due, of one end; it learns the answer and reports so. It makes
 -- none only where memory was refused.
 pub record IsStep {S T : Type 0} (source_goes : S → Call → S → Type 0) (target_goes : T → Call → T → Type 0) (old : Party S T) (step : Step) (new : Party S T) : Type 0 where
   pub learned : Learned
@@ -105,7 +105,7 @@ Ends (Ok (progress.Checkpoint last_seq)) = ⊥
 Ends (Ok progress.Done) = ⊤
 Ends (Err f) = ⊤
 
--- what the last step told
+-- what the last step reported
 abbrev pub last_told : List Step → Result Progress PeerFault
 last_told steps = fold (λ _ step. step.result) (Ok progress.Going) steps
 
@@ -122,7 +122,7 @@ pub record IsRun {S T : Type 0} (source_goes : S → Call → S → Type 0) (tar
   pub goes_on : All (λ step. GoesOn step.result) steps
   pub answer : IsAnswer most steps last result
 
--- the counts of failures of both ends: one rose where a failure is told, and else they stayed
+-- the counts of failures of both ends: one rose where a failure is reported, and else they stayed
 abbrev pub CountsEither : {A : Type 0} → Result A PeerFault → ℕ → ℕ → ℕ → ℕ → Type 0
 CountsEither (Err fault.Failed) source target source' target' =
     (CountRose source source' × (target' ≡ target)) ⊎ (CountRose target target' × (source' ≡ source))

@@ -45,7 +45,7 @@ pub data Stage : Type 0 where
   Ready : Ends → Stage
   -- the source gave changes
   Paged : Ends → ChangesPage → Stage
-  -- the target told what it lacks of them
+  -- the target reported what it lacks of them
   Passing : Pass → Stage
 
 -- a worker: what it is to do, which stays, and how far it has come

@@ -35,6 +35,6 @@ given_in opened = flat_map given_of opened
 abbrev pub absent_in : Id → List (Result Merge Rev) → List (Id × Rev)
 absent_in id opened = flat_map (absent_of id) opened
 
--- a revision stands in the path of one of the documents, which has this id
+-- a revision is in the path of one of the documents, which has this id
 abbrev pub IsIn : List Merge → Id → Rev → Type 0
 IsIn documents id rev = Any (λ document. (document.id ≡ id) × Contains (path_of document) rev) documents

@@ -1,6 +1,6 @@
 //! How far a replication had come.
 
-/// How far a replication had come, as the local document of one end tells.
+/// How far a replication had come, as the local document of one end reports.
 #[derive(Clone, Copy, Debug, PartialEq, Eq)]
 pub struct Checkpoint {
     /// The number of the local document's revision, from 1.

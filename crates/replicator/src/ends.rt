@@ -1,6 +1,6 @@
 //! What a worker knows of the two ends.
 
-/// Where changes are asked from, and which local documents stand.
+/// Where changes are asked from, and which local documents there are.
 #[derive(Clone, Copy, Debug, PartialEq, Eq)]
 pub(crate) struct Ends {
     /// The update number of the source after which changes are asked for.

@@ -10,7 +10,7 @@ use crate::peer::Peer;
 
 /// After any steps from the beginning on, whatever was answered and whatever failed, the next call is
 /// sound by the calls before it: a checkpoint is written only where all up to it is covered, the
-/// target's first, and each document that is sent stood in an answer of the source and is one of
+/// target's first, and each document that is sent was in an answer of the source and is one of
 /// those that the worker is to bring. The replication is done only where the source has no more
 /// changes of them.
 pub fn calls_are_sound<S: Peer, T: Peer>()

@@ -1,6 +1,6 @@
 //! Replication: the changes of one database are brought to another.
 //!
-//! A [`Worker`] stands between two [`Peer`]s, and makes one call on one of them a step. It writes a
+//! A [`Worker`] is between two [`Peer`]s, and makes one call on one of them a step. It writes a
 //! checkpoint only where all up to it has come to the target, and at the target first.
 #![tactic(auto)]
 

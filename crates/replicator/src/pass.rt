@@ -21,7 +21,7 @@ use std::marker::Model;
 
 /// A page of changes, what the target lacks of it, and what became of that.
 ///
-/// Each revision that was asked for stands in the path of a given document, or is absent.
+/// Each revision that was asked for is in the path of a given document, or is absent.
 #[derive(Drop)]
 pub(crate) struct Pass {
     ends: Ends,
@@ -107,7 +107,7 @@ impl Pass {
         Ok(AskedRevisions { id, revisions })
     }
 
-    /// With what the source told of these revisions.
+    /// With what the source said of these revisions.
     pub(crate) fn with_opened(
         self,
         asked: &AskedRevisions,

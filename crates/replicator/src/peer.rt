@@ -35,7 +35,7 @@ impl Model for Opened {
 
 /// A database, as one end of a replication.
 ///
-/// Whatever its answers are, contracts tell what a worker does with them.
+/// Whatever its answers are, contracts say what a worker does with them.
 ///
 /// # Errors
 ///
@@ -92,7 +92,7 @@ pub trait Peer {
         ensures reads { OnlyReads result };
 
     /// Writes a checkpoint over the revision that is named, and answers the number of its revision.
-    /// [`PeerFault::Refused`] where another revision stands.
+    /// [`PeerFault::Refused`] where there is another revision.
     fn local_put(
         &mut self,
         alloc: Global,

@@ -97,7 +97,7 @@ fn are_among(revs: &[RevId], missing: &[RevId]) -> bool
     missing.iter().all(|rev| revs.contains(rev))
 }
 
-/// Whether each revision that was asked for is told of, and no other document is given.
+/// Whether each revision that was asked for is reported, and no other document is given.
 pub(crate) fn is_readable_opened(id: &DocId, revs: &[RevId], opened: &Opened) -> bool
     ensures { result ≡ is_readable_opened id.now revs.now opened.now }
 {
@@ -116,7 +116,7 @@ fn is_told_of(rev: &RevId, opened: &[Result<Merge, RevId>]) -> bool
     opened.iter().any(|opened| tells_of(rev, opened))
 }
 
-/// Whether a revision stands in the path of a document, or is missing.
+/// Whether a revision is in the path of a document, or is missing.
 fn tells_of(rev: &RevId, opened: &Result<Merge, RevId>) -> bool
     ensures { result ≡ tells_of rev.now opened.now }
 {

@@ -16,6 +16,6 @@ pub(crate) enum Stage {
     Ready(Ends),
     /// The source gave changes.
     Paged(Ends, ChangesPage),
-    /// The target told what it lacks of them.
+    /// The target reported what it lacks of them.
     Passing(Pass),
 }

@@ -52,7 +52,7 @@ impl Worker {
     /// [`MAX_BATCH`]; nothing for another number.
     ///
     /// The id is to belong to this source and this target alone, in this direction: the first changes that
-    /// are asked for are told by whatever checkpoints stand under it.
+    /// are asked for are decided by whatever checkpoints are under it.
     pub fn new(id: DocId, batch: u64) -> Option<Worker>
         ensures in_range { IsSome result ↔ ((0 < batch) × (batch ≤ 100)) }
         ensures unread { IfSome result (λ worker. worker
@@ -68,7 +68,7 @@ impl Worker {
     /// A worker for these documents alone, and else as [`Worker::new`] makes one. It sends no other
     /// document, whatever its ends answer.
     ///
-    /// The id is to belong to this source, this target and this list of ids alone: a checkpoint tells
+    /// The id is to belong to this source, this target and this list of ids alone: a checkpoint reports
     /// how far the documents of the list have come, and a worker with another list under the same id
     /// would begin there too, past older changes of its documents.
     ///
@@ -131,7 +131,7 @@ impl Worker {
     }
 
     /// Makes at most so many steps, until there are no more changes or a step has a fault, and answers
-    /// what the last one told; of no step [`Progress::Going`].
+    /// what the last one reported; of no step [`Progress::Going`].
     ///
     /// # Errors
     ///
@@ -162,7 +162,7 @@ impl Worker {
     }
 }
 
-/// Whether the replication ends with a step that tells this.
+/// Whether the replication ends with a step that reports this.
 fn ends(told: &Result<Progress, PeerFault>) -> bool
     ensures ends { IsTrue result → Ends told.now }
     ensures goes_on { IsFalse result → GoesOn told.now }

@@ -40,7 +40,7 @@ module _ {S : Type 0} (goes : S → Deed → S → Type 0) (known : S → Known)
   unfolding answer_to
   reads-opened id revs = record { looked = looked; answers = ap Opened (ap (λ (h : Chronicle). opened (now h) id (Some revs) with_paths) is) }
 
-  -- of a local document as it is told
+  -- of a local document as it is reported
   module _ {A : Type 0} (told : A → ℕ × Body) (id : Id) (found : Option A) (e : option_map told found ≡ option_map local_shown (get (now seen).locals id)) where
     reads-local : (local : Option (ℕ × Body)) → option_map told found ≡ local → Reads goes known old (GetLocal id) (FoundLocal local) new
     unfolding answer_to

@@ -42,7 +42,7 @@ fn last_seq_in(alloc: Global, body: &Body) -> Result<Option<u64>, AllocError>
 ///
 /// # Errors
 ///
-/// [`PeerFault::Refused`] where the number is past those of a body. Memory may be refused.
+/// [`PeerFault::Refused`] where the number is past those of a body.
 pub(crate) fn checkpoint_body(alloc: Global, last_seq: u64) -> Result<Body, PeerFault>
     ensures body { IfOk result (λ body. body ≡ checkpoint_body last_seq) }
     ensures past { result ≡ Err fault.Refused → past_numbers ≤ last_seq }

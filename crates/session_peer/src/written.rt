@@ -19,7 +19,7 @@ use std::sync::Arc;
 ///
 /// # Errors
 ///
-/// [`PeerFault::Refused`] where they are more than a command may have. Memory may be refused.
+/// [`PeerFault::Refused`] where they are more than a command may have.
 pub(crate) fn bulk_of(alloc: Global, documents: &[Merge]) -> Result<Command, PeerFault>
     ensures command { IfOk result (λ command. command ≡ Merges documents.now) }
     ensures many { result ≡ Err fault.Refused → max_edits < length documents.now }
@@ -47,7 +47,7 @@ fn copies(alloc: Global, documents: &[Merge]) -> Result<Vec<Merge>, AllocError>
 /// # Errors
 ///
 /// [`PeerFault::Refused`] where it names the revision number 0, or a number past those of a body.
-/// Memory may be refused.
+///
 pub(crate) fn put_of(
     alloc: Global,
     id: &DocId,

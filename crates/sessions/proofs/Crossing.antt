@@ -2,17 +2,17 @@
 use denote.RattleType.{RattleType}
 use denote.Param.Send.{IsSend, IsSync}
 use Rattle.crossbeam_utils.proofs.cache_padded.CachePadded.TheSendSync as CachePadded
-use Rattle.publications.proofs.Crossing as publications
-use Rattle.publications.specs.declared.front.Naming as Naming
+use Rattle.version_log.proofs.Crossing as publications
+use Rattle.version_log.specs.declared.front.Naming as Naming
 use Rattle.sessions.specs.contracts.mailboxes.Mailboxes as Mailboxes
 use Rattle.sessions.specs.contracts.session.Session as Session
 use Rattle.sessions.specs.contracts.shared.Shared as Shared
 use Rattle.snapshots.proofs.Crossing as versions
-use Rattle.turns.proofs.Crossing as turns
-use Rattle.turns.specs.declared.line.Queued as Queued
-use Rattle.updating.proofs.Crossing.{core-send, told-send}
-use Rattle.updating.specs.contracts.locked.Core as Core
-use Rattle.updating.specs.declared.naming.Opening as Opening
+use Rattle.job_queue.proofs.Crossing as turns
+use Rattle.job_queue.specs.declared.queue.Queued as Queued
+use Rattle.updater_state.proofs.Crossing.{core-send, told-send}
+use Rattle.updater_state.specs.contracts.locked.Core as Core
+use Rattle.updater_state.specs.declared.naming.Opening as Opening
 
 ruleset parts = (CachePadded.the_field_send, publications.crosses, turns.crosses, versions.crosses)
 

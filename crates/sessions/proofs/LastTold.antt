@@ -1,4 +1,4 @@
--- What the last version tells of a session.
+-- What the last version says of a session.
 use Rattle.std.specs.Prelude.{Option}
 use Rattle.std.proofs.Common.{◌≡◌, ℕ, Bool, true, false, not, List, length, nat_eq, refl, ap, sym, ◌∙◌, arith}
 use Rattle.std.proofs.lemmas.Bool.{or_parts}
@@ -8,13 +8,13 @@ use Rattle.model.specs.Map.{empty}
 use Rattle.model.specs.Command.{Entry}
 use Rattle.model.specs.Database.{Database, calls_of}
 use Rattle.model.specs.History.{Chronicle, now, of_session, base_of}
-use Rattle.publications.specs.Histories.{newest, Grows}
-use Rattle.publications.proofs.Growing.{newest_grows}
+use Rattle.version_log.specs.Histories.{newest, Grows}
+use Rattle.version_log.proofs.Growing.{newest_grows}
 use Rattle.sessions.specs.Known.{Known, seen, SeesOwn}
 use Rattle.sessions.specs.Ends.{IsExact}
 use Rattle.sessions.proofs.Receipts.{same_calls, counted}
 
--- the calls that a version tells
+-- the calls that a version records
 pub calls_told : (c : Chronicle) (s : ℕ) → (base_of c.base).calls ≡ empty → calls_of (now c) s ≡ length (of_session s c.entries)
 calls_told c s uncalled = counted (base_of c.base) uncalled s c.entries
 

@@ -6,7 +6,7 @@ use Rattle.model.specs.Command.{Command}
 use Rattle.model.specs.Database.{Database}
 use Rattle.model.specs.History.{IsLegal, Chronicle, Extends, base_of}
 use Rattle.model.specs.World.{Config}
-use Rattle.publications.proofs.Prefixes.{prefix_self, prefix_trans}
+use Rattle.version_log.proofs.Prefixes.{prefix_self, prefix_trans}
 use Rattle.sessions.specs.Known.{Known, seen, SeesOwn}
 use Rattle.sessions.specs.Calls.{Looks, Told, Writes, next_seat}
 use Rattle.sessions.specs.Compactions.{OnlyLooks, Leaves, IsOfCopy}
@@ -59,7 +59,7 @@ begun_then base a b c is p =
 pub looks_lost : (base : Option Database) (k : Known) → IsLegal (base_of base) (seen k) → SeesOwn k → k.lost ≡ true → Looks base (record k { lost = true }) k
 looks_lost base k legal own lost = record { legal = legal; extends = prefix_self (seen k); own = own; same = λ i. record k { lost = lost i } }
 
--- a compaction that has not been told of an entry
+-- a compaction that has not learned of an entry
 pub only_looks : (base : Option Database) (k : Known) → IsLegal (base_of base) (seen k) → SeesOwn k → k.entered ≡ false → OnlyLooks base k k
 only_looks base k legal own none = record { legal = legal; extends = prefix_self (seen k); own = own; same = λ i. record k { entered = none i } }
 

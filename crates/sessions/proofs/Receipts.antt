@@ -13,8 +13,8 @@ use Rattle.model.specs.History.{IsLegal, replay, of_session, base_of}
 use Rattle.model.proofs.ListLaws.{by_cases}
 use Rattle.model.proofs.CallLaws.{calls-replay, calls-own, calls-other}
 use Rattle.snapshots.specs.Version.{entry_at}
-use Rattle.publications.specs.Histories.{newest, Grows}
-use Rattle.publications.proofs.Growing.{newest_grows, newest_legal}
+use Rattle.version_log.specs.Histories.{newest, Grows}
+use Rattle.version_log.proofs.Growing.{newest_grows, newest_legal}
 use Rattle.sessions.specs.Known.{Known, seen, SeesOwn}
 use Rattle.sessions.specs.Calls.{Told, Writes, IsTold, next_seat}
 
@@ -34,7 +34,7 @@ of_session-other s e es f = cond-false _ _ _ f
 none_called : (base : Database) (s : ℕ) → base.calls ≡ empty → calls_of base s ≡ 0
 none_called base s uncalled = ap (λ (m : Map numbers ℕ). unwrap_or (get m s) 0) uncalled
 
--- the number of calls that the database tells, over a base
+-- the number of calls that the database records, over a base
 pub counted : (base : Database) → base.calls ≡ empty → (s : ℕ) (h : List Entry) → calls_of (replay base h) s ≡ length (of_session s h)
 counted base uncalled s h = omega (arith, calls-replay base h s, none_called base s uncalled)
 
@@ -95,7 +95,7 @@ early_call base (x ∷ xs) rest (suc k) e legal less at =
     (λ t. omega (arith, later, calls-own base x.seat x.command s t, ap length (of_session-own s x xs t)))
     (λ f. omega (arith, later, calls-other base x.seat x.command s f, ap length (of_session-other s x xs f)))
 
--- an entry with a greater number stands behind the beginning
+-- an entry with a greater number is behind the beginning
 stands_behind : (base : Database) → base.calls ≡ empty → (s : ℕ) (old new : List Entry) (k : ℕ) (e : Entry) → IsLegal base new → IsPrefix old new → slice_get new k ≡ Some e → e.seat.session ≡ s → length (of_session s old) < e.seat.call → length old ≤ k
 stands_behind base uncalled s old new k e legal pre at is more = from (cases_lt k (length old))
   where
@@ -126,13 +126,13 @@ at_place : (h : List Entry) (place : ℕ) (e : Entry) → entry_at h place ≡ S
 at_place h zero e at = absurd (none-some e at)
 at_place h (suc n) e at = (omega arith, ap (λ k. slice_get h k) (omega arith) ∙ at)
 
--- where an entry stands there were publications
+-- where there is an entry, there were publications
 first_publication : (found : List (List Entry)) (place : ℕ) (e : Entry) → entry_at (newest found) place ≡ Some e → 0 < length found
 first_publication [] zero e at = absurd (none-some e at)
 first_publication [] (suc n) e at = absurd (none-some e at)
 first_publication (h ∷ hs) place e at = omega arith
 
--- what a session compares tells what it owes
+-- what a session compares shows what it owes
 pub writes : (base : Option Database) → (base_of base).calls ≡ empty → (old new : Known) (found : List (List Entry)) (command : Command) (receipt : Told) (e : Entry)
     → SeesOwn old → IsPrefix old.published found → Grows base found → entry_at (newest found) receipt.place ≡ Some e → e ≡ record { seat = receipt.seat; command = command; reply = receipt.reply }
     → receipt.seat ≡ next_seat old → length (of_session old.number (newest found)) ≡ length old.receipts + 1 → receipt.publication ≡ length found → length found ≤ receipt.place
@@ -180,7 +180,7 @@ entry_is h place seat command reply t stands =
     let replies : t.entry.reply ≡ reply = same_Some t.entry.reply reply (sym (ap (option_map (λ (x : Entry). x.reply)) t.at) ∙ stands) in
     λ i. record { seat = t.seat_is i; command = t.command_is i; reply = replies i }
 
--- what a version is compared with tells that the entry is what was asked
+-- what a version is compared with says that the entry is what was asked
 pub told : (h : List Entry) (place session calls : ℕ) (seat : Seat) (command : Command) (e : Entry)
     → entry_at h place ≡ Some e → session ≡ seat.session → e.seat.session ≡ session → e.seat.call ≡ seat.call → e.command ≡ command → calls ≡ length (of_session session h) → calls ≡ seat.call → IsTold h place seat command
 told h place session calls seat command e at own mine called same counts last = record {

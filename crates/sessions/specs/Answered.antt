@@ -1,6 +1,6 @@
--- What a session may be answered, by what it was told.
+-- What a session may be answered, by what it learned.
 use Rattle.std.specs.Prelude.{◌≡◌, ◌⊎◌, Result, Ok, Err, Option, None, IfErr, IsErrAnd, MatchResult, IsSome}
-use Rattle.updating.specs.Outcomes.{Fate, StoodAt, NoPlaceLeft, NoMemory, LeftOut}
+use Rattle.updater_state.specs.Outcomes.{Fate, StoodAt, NoPlaceLeft, NoMemory, LeftOut}
 use Rattle.sessions.specs.Calls.{Told}
 use Rattle.sessions.specs.declared.fault.Fault.{Fault}
 use Rattle.sessions.specs.declared.fault.Fault.TheVariants as fault

@@ -21,14 +21,14 @@ pub record Looks (base : Option Database) (old new : Known) : Type 0 where
 abbrev pub next_seat : Known → Seat
 next_seat k = record { session = k.number; call = length k.receipts + 1 }
 
--- what a receipt tells
+-- what a receipt reports
 pub record Told : Type 0 where
   pub place : ℕ
   pub seat : Seat
   pub reply : Reply
   pub publication : ℕ
 
--- After a receipt: a legal history over the base is seen, which extends what was seen, tells the call, and has of this
+-- After a receipt: a legal history over the base is seen, which extends what was seen, records the call, and has of this
 -- session exactly its earlier entries with a receipt and this one. The publication is the last that is seen, one of those
 -- up to the place.
 pub record Writes (base : Option Database) (old : Known) (command : Command) (receipt : Told) (new : Known) : Type 0 where

@@ -30,7 +30,7 @@ IsOfCopy fault.Lost = ⊥
 IsOfCopy fault.Full = ⊥
 IsOfCopy fault.EntryRefused = ⊥
 
--- after a compaction that was told of no entry: the session has only looked, and was behind so often
+-- after a compaction that learned of no entry: the session has only looked, and was behind so often
 abbrev pub OnlyLooks : Option Database → Known → Known → Type 0
 OnlyLooks base old new = Looks base (record old { tried = new.tried; entered = false }) new
 

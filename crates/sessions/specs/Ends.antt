@@ -1,4 +1,4 @@
--- What the last history tells of a session.
+-- What the last history says of a session.
 use Rattle.std.specs.Prelude.{◌≡◌, Bool, false, ◌||◌, not, ◌==◌, List, length}
 use Rattle.model.specs.Command.{Entry}
 use Rattle.model.specs.History.{of_session}

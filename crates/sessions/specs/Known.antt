@@ -3,12 +3,12 @@ use Rattle.std.specs.Prelude.{◌≡◌, ℕ, ◌<◌, Bool, false, List, [], le
 use Rattle.model.specs.Command.{Entry}
 use Rattle.model.specs.Database.{Database}
 use Rattle.model.specs.History.{Chronicle, of_session}
-use Rattle.turns.specs.Turns.{Turn}
-use Rattle.publications.specs.Histories.{newest, Grows, IsNewest}
+use Rattle.job_queue.specs.Turns.{Turn}
+use Rattle.version_log.specs.Histories.{newest, Grows, IsNewest}
 
 -- A session's number, the published histories that it has seen, the entries for which it has a receipt, how many jobs it
 -- pushed, how often its last wait looked, how often its last compaction was behind, whether its last write or compaction
--- was told of an entry, and whether it is lost.
+-- learned of an entry, and whether it is lost.
 pub record Known : Type 0 where
   pub number : ℕ
   pub published : List (List Entry)
@@ -33,13 +33,13 @@ SeesOwn k = of_session k.number (seen k) ≡ k.receipts
 
 -- What a session keeps: with its last receipt came the last of the histories `receipted`. Its entries there are those with a
 -- receipt, as many as its calls, and it has the same ones in the history that it has seen.
-pub record Holds (base : Option Database) (number calls : ℕ) (lost : Bool) (latest receipted : List (List Entry)) (looked : Option Chronicle) (ticket : Turn) : Type 0 where
+pub record Holds (base : Option Database) (number calls : ℕ) (lost : Bool) (latest receipted : List (List Entry)) (looked : Option Chronicle) (producer : Turn) : Type 0 where
   pub counted : calls ≡ length (of_session number (newest receipted))
   pub own : of_session number (newest latest) ≡ of_session number (newest receipted)
   pub grows : Grows base latest
   pub session : number < 64
-  pub ticket_is : ticket.number ≡ number
+  pub ticket_is : producer.number ≡ number
   -- no job of a session waits that is not lost
-  pub gone : lost ≡ false → ticket.gone ≡ ticket.pushed
+  pub gone : lost ≡ false → producer.gone ≡ producer.pushed
   -- what a look took is what was seen
   pub looked_is : IfSome looked (λ version. IsNewest base version latest)

@@ -4,10 +4,10 @@ use mathlib.Core.List.{IsPrefix}
 use Rattle.model.specs.Command.{Entry, Seat, Done}
 use Rattle.model.specs.Database.{Database}
 use Rattle.model.specs.World.{Config}
-use Rattle.publications.specs.Histories.{newest}
+use Rattle.version_log.specs.Histories.{newest}
 use Rattle.compactor.specs.Copy.{CopyView}
-use Rattle.updating.specs.State.{State}
-use Rattle.updating.specs.Swaps.{HasPlace, Swaps, may_swap, is_past, behind_by}
+use Rattle.updater_state.specs.State.{State}
+use Rattle.updater_state.specs.Swaps.{HasPlace, Swaps, may_swap, is_past, behind_by}
 use Rattle.sessions.specs.declared.swapping.Swapped.{Swapped}
 use Rattle.sessions.specs.declared.swapping.Swapped.TheVariants as swapped
 
@@ -15,7 +15,7 @@ use Rattle.sessions.specs.declared.swapping.Swapped.TheVariants as swapped
 abbrev pub IsBehind : Option Database → Config → CopyView → List (List Entry) → State → Type 0
 IsBehind base config copy seen s = IsPrefix s.published seen ⊎ (HasPlace config.max_places s × (is_past base copy s ≡ false) × (config.slack < behind_by base copy s))
 
--- The copy is swapped in, with the configuration's slack, and the entry that stands is told; or nothing changes, and this is why.
+-- The copy is swapped in, with the configuration's slack, and the entry is reported; or nothing changes, and this is why.
 abbrev pub EndsTry : {J : Type 0} → Option Database → Config → CopyView → Seat → List (List Entry) → State → State → Swapped J → Type 0
 EndsTry base config copy seat seen old new (swapped.Stood s) = Swaps base config copy seat old new × (s ≡ record { published = new.published; place = length (newest old.published) + 1; reply = Done })
 EndsTry base config copy seat seen old new (swapped.Full found) = (new ≡ old) × (found ≡ old.published) × (config.max_places ≤ length (newest old.published))

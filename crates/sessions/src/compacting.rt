@@ -16,14 +16,14 @@ use crate::swapping::{Swapped, swap};
 use commands::{Command, Seat};
 use compactor::Compaction;
 use std::sync::Wait;
-use updating::{Answer, Core, Gate, Opening, Point};
+use updater_state::{Answer, Core, Gate, Opening, Point};
 
 impl<R: Wait + Drop, J: Opening, G: Gate + Drop> Session<Core<R, J>, J, G> {
     /// Compacts the database, while others read and write. It makes a copy of what it sees, which
     /// catches up with what was written meanwhile, and waits for the updater's lock only to swap the
     /// copy in, as often as it may be tried: it is `Behind` after as many tries that were.
     ///
-    /// After a fault but `Lost` it was told of no entry, and the next receipt has exactly the calls with a receipt.
+    /// After a fault but `Lost` it learned of no entry, and the next receipt has exactly the calls with a receipt.
     pub fn compact<W: Wait>(&mut self, rt: &W) -> Result<Receipt, Fault>
         ensures receipt { IfOk result (λ receipt. Writes J.base self.old Compact receipt self.new) }
         ensures memory { result ≡ Err fault.Memory → OnlyLooks J.base self.old self.new }
@@ -130,7 +130,7 @@ impl<R: Wait + Drop, J: Opening, G: Gate + Drop> Session<Core<R, J>, J, G> {
 }
 
 impl<C: Drop, J: Opening, G: Drop> Session<C, J, G> {
-    /// A compaction begins: it was not yet told of an entry, nor behind.
+    /// A compaction begins: it has not yet learned of an entry, and was not yet behind.
     fn begin_compaction(&mut self)
         ensures { self.new ≡ record self.old { tried = 0; entered = false } }
     {

@@ -8,7 +8,7 @@ use crate::fault::Fault;
 use crate::shared::Shared;
 use compactor::Compaction;
 use snapshots::Version;
-use updating::{Gate, Opening, Point};
+use updater_state::{Gate, Opening, Point};
 
 /// Makes the whole copy, slice by slice.
 pub(crate) fn slice_all<C: Drop, J: Opening, G: Gate + Drop>(

@@ -1,13 +1,13 @@
 //! What is left of a session at the end.
 ghost use Rattle.std.specs.Prelude.{◌≡◌};
 ghost use mathlib.Core.List.{IsPrefix};
-ghost use Rattle.publications.specs.Histories.{newest};
+ghost use Rattle.version_log.specs.Histories.{newest};
 ghost use Rattle.sessions.specs.Ends.{is_lost, IsExact};
 
 use crate::session::calls_of;
-use publications::{Front, Published};
 use std::marker::Model;
-use updating::Opening;
+use updater_state::Opening;
+use version_log::{Front, Published};
 
 /// What is left of a session at the end. Contracts see what was known of the session.
 pub struct Ended<J: Opening> {
@@ -43,7 +43,7 @@ impl<J: Opening> Model for Ended<J> {
     ghost use Rattle.std.specs.Coded.{codes};
     ghost use Rattle.model.specs.JsonCode.{coded_members};
     ghost use Rattle.model.specs.History.{of_session};
-    ghost use Rattle.publications.specs.Histories.{newest};
+    ghost use Rattle.version_log.specs.Histories.{newest};
     ghost use Rattle.sessions.specs.Known.{Known};
 
     ghost Value = { Known };

@@ -3,7 +3,7 @@
 use compactor::CopyFault;
 use thiserror::Error;
 
-/// Why a call has no answer. Only after `Lost` is the session of no more use. After each other fault it was told of no
+/// Why a call has no answer. Only after `Lost` is the session of no more use. After each other fault it learned of no
 /// entry of the call, and its next receipt shows that there is none.
 #[derive(Clone, Copy, Debug, PartialEq, Eq, Drop, Error)]
 pub enum Fault {
@@ -20,7 +20,7 @@ pub enum Fault {
     /// The history is full.
     #[error("the history is full")]
     Full,
-    /// A reader, an entry or a share was refused, or a call of this session without a receipt stands in
+    /// A reader, an entry or a share was refused, or a call of this session without a receipt is in
     /// the history that was found. A wait or a compaction may have looked before.
     #[error("the entry was refused")]
     EntryRefused,

@@ -1,12 +1,12 @@
-//! Where sessions are told what became of their jobs, apart from the updater's lock.
+//! Where sessions learn what became of their jobs, apart from the updater's lock.
 
+use job_queue::Queue;
 use std::alloc::{AllocError, Global};
 use std::mem::replace;
 use std::sync::{Mutex, Wait};
-use turns::Line;
-use updating::{Core, Opening, Told};
+use updater_state::{Core, Opening, Told};
 
-/// Of each session a mailbox. Who holds the updater's lock leaves there what the session is told, and the
+/// Of each session a mailbox. The holder of the updater's lock leaves there the session's outcome, and the
 /// session takes it without that lock.
 pub(crate) struct Mailboxes<J: Opening> {
     boxes: Vec<Mutex<Option<Told<J>>>>,
@@ -38,12 +38,12 @@ impl<J: Opening> Mailboxes<J> {
     pub(crate) fn leave_all<R: Wait + Drop, W: Wait>(
         &self,
         rt: &W,
-        line: &Line<J>,
+        queue: &Queue<J>,
         core: &mut Core<R, J>,
         sessions: u16,
     ) {
         for session in 0..sessions {
-            if let Some(told) = core.tell(line, session) {
+            if let Some(told) = core.tell(queue, session) {
                 self.leave(rt, session, told);
             }
         }

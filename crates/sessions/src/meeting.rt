@@ -1,15 +1,15 @@
 //! How two sessions meet.
 ghost use Rattle.std.specs.Prelude.{◌≡◌, ◌↔◌, ◌⊎◌, length, true, Err, IfOk, IfErr, IfSome, OnErr};
 ghost use mathlib.Core.List.{IsPrefix};
-ghost use Rattle.publications.specs.Histories.{Grows};
+ghost use Rattle.version_log.specs.Histories.{Grows};
 ghost use Rattle.sessions.specs.Known.{seen, SeesOwn};
 ghost use Rattle.sessions.specs.Calls.{Looks};
 ghost use Rattle.sessions.specs.declared.fault.Fault.TheVariants as fault;
 
 use crate::fault::Fault;
 use crate::session::{Session, later_of};
-use publications::Published;
-use updating::Opening;
+use updater_state::Opening;
+use version_log::Published;
 
 impl<C: Drop, J: Opening, G: Drop> Session<C, J, G> {
     /// Afterwards both sessions, which are of one opened database, have seen one history. The answer

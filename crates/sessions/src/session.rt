@@ -3,7 +3,7 @@ ghost use Rattle.std.specs.Arc.{arc_value};
 ghost use Rattle.std.specs.Prelude.{◌≡◌, ◌↔◌, ◌⊎◌, ◌+◌, ◌<◌, ◌≤◌, [], length, true, Err, IfOk, IfErr, IfSome, IsTrue, OnErr};
 ghost use mathlib.Core.List.{IsPrefix};
 ghost use Rattle.model.specs.History.{IsLegal, of_session, base_of};
-ghost use Rattle.publications.specs.Histories.{newest, Grows, IsNewest};
+ghost use Rattle.version_log.specs.Histories.{newest, Grows, IsNewest};
 ghost use Rattle.sessions.specs.Known.{Known, seen, fresh, SeesOwn};
 ghost use Rattle.sessions.specs.Calls.{Looks};
 ghost use Rattle.sessions.specs.declared.fault.Fault.TheVariants as fault;
@@ -13,13 +13,13 @@ use crate::fault::Fault;
 use crate::shared::Shared;
 use crate::snapshot::{Snapshot, shared_apart};
 use crossbeam_utils::CachePadded;
-use publications::{Front, Lens, Published};
+use job_queue::Producer;
 use snapshots::Version;
 use std::alloc::{AllocError, Global};
 use std::marker::Model;
 use std::sync::Arc;
-use turns::Ticket;
-use updating::Opening;
+use updater_state::Opening;
+use version_log::{Front, Published, Reader};
 
 /// A session over what the updater holds, `C`. Contracts see what it has seen, and its receipts.
 pub struct Session<C: Drop, J: Opening, G: Drop> {
@@ -34,7 +34,7 @@ pub struct Session<C: Drop, J: Opening, G: Drop> {
     pub(crate) paced: u64,
     /// How often its last compaction was behind.
     pub(crate) tried: u16,
-    /// Whether its last write or compaction was told of an entry.
+    /// Whether its last write or compaction learned of an entry.
     pub(crate) entered: bool,
     /// What was published with its last receipt. It takes no room but a count.
     pub(crate) receipted: Front<J>,
@@ -42,8 +42,8 @@ pub struct Session<C: Drop, J: Opening, G: Drop> {
     /// A share of that version, where a look took one: the looks that see the same one are owners of it.
     pub(crate) looked: Option<Arc<Version, Global>>,
     /// Each look writes to it, and other sessions may lie beside this one.
-    pub(crate) reader: CachePadded<Lens<J>>,
-    pub(crate) ticket: Ticket<J>,
+    pub(crate) reader: CachePadded<Reader<J>>,
+    pub(crate) producer: Producer<J>,
     pub(crate) shared: Arc<Shared<C, J, G>, Global>,
 }
 
@@ -62,7 +62,7 @@ impl<C: Drop, J: Opening, G: Drop> Drop for Session<C, J, G> {
             latest: _,
             looked: _,
             reader: _,
-            ticket: _,
+            producer: _,
             shared: _,
         } = self;
     }
@@ -74,16 +74,16 @@ impl<C: Drop, J: Opening, G: Drop> Model for Session<C, J, G> {
     ghost use Rattle.std.specs.Prelude.{option_map};
     ghost use Rattle.model.specs.JsonCode.{coded_members};
     ghost use Rattle.model.specs.History.{of_session};
-    ghost use Rattle.publications.specs.Histories.{newest};
+    ghost use Rattle.version_log.specs.Histories.{newest};
     ghost use Rattle.sessions.specs.Known.{Known, Holds};
 
     ghost Value = { Known };
 
     ghost coded = { Prim.hlevel (codes, coded_members) };
 
-    ghost view = { λ s. record { number = s.number; published = s.latest; receipts = of_session s.number (newest s.receipted); pushes = s.ticket.pushed; waited = s.waited; tried = s.tried; entered = s.entered; lost = s.lost } };
+    ghost view = { λ s. record { number = s.number; published = s.latest; receipts = of_session s.number (newest s.receipted); pushes = s.producer.pushed; waited = s.waited; tried = s.tried; entered = s.entered; lost = s.lost } };
 
-    ghost invariant = { λ s. Holds J.base s.number s.calls s.lost s.latest s.receipted (option_map arc_value s.looked) s.ticket };
+    ghost invariant = { λ s. Holds J.base s.number s.calls s.lost s.latest s.receipted (option_map arc_value s.looked) s.producer };
 }
 
 impl<C: Drop, J: Opening, G: Drop> Session<C, J, G> {
@@ -91,18 +91,18 @@ impl<C: Drop, J: Opening, G: Drop> Session<C, J, G> {
     pub fn new(
         alloc: Global,
         latest: Published<J>,
-        reader: Lens<J>,
-        ticket: Ticket<J>,
+        reader: Reader<J>,
+        producer: Producer<J>,
         shared: Arc<Shared<C, J, G>, Global>,
     ) -> Session<C, J, G>
         requires seen { latest ≡ [] }
-        requires number { ticket.number < 64 }
-        requires unused { (ticket.pushed ≡ 0) × (ticket.gone ≡ 0) }
-        ensures { result ≡ fresh ticket.number }
+        requires number { producer.number < 64 }
+        requires unused { (producer.pushed ≡ 0) × (producer.gone ≡ 0) }
+        ensures { result ≡ fresh producer.number }
     {
         Session {
             alloc,
-            number: ticket.number(),
+            number: producer.number(),
             calls: 0,
             lost: false,
             waited: 0,
@@ -113,7 +113,7 @@ impl<C: Drop, J: Opening, G: Drop> Session<C, J, G> {
             latest,
             looked: None,
             reader: CachePadded::new(reader),
-            ticket,
+            producer,
             shared,
         }
     }
@@ -153,7 +153,7 @@ impl<C: Drop, J: Opening, G: Drop> Session<C, J, G> {
             latest,
             looked: _,
             reader: _,
-            ticket,
+            producer,
             shared: _,
         } = self;
         let _count = latest.publication();
@@ -161,7 +161,7 @@ impl<C: Drop, J: Opening, G: Drop> Session<C, J, G> {
         let ended = Ended {
             number,
             calls,
-            pushes: ticket.pushed(),
+            pushes: producer.pushed(),
             waited,
             tried,
             entered,

@@ -3,15 +3,15 @@ ghost use Rattle.std.specs.Prelude.{◌≡◌, ◌<◌};
 
 use crate::mailboxes::Mailboxes;
 use commands::Config;
+use job_queue::Queue;
 use std::alloc::{AllocError, Global};
 use std::sync::Mutex;
-use turns::Line;
-use updating::Opening;
+use updater_state::Opening;
 
 /// The queue of jobs, the gate, the configuration, behind its lock what the updater holds, `C`, and where the
-/// sessions are told what became of their jobs.
+/// sessions learn what became of their jobs.
 pub struct Shared<C: Drop, J: Opening, G: Drop> {
-    pub(crate) line: Line<J>,
+    pub(crate) queue: Queue<J>,
     pub(crate) gate: G,
     pub(crate) config: Config,
     pub(crate) core: Mutex<C>,
@@ -22,7 +22,7 @@ pub struct Shared<C: Drop, J: Opening, G: Drop> {
 impl<C: Drop, J: Opening, G: Drop> Drop for Shared<C, J, G> {
     fn drop(self) {
         let Shared {
-            line: _,
+            queue: _,
             gate: _,
             config: _,
             core: _,
@@ -35,7 +35,7 @@ impl<C: Drop, J: Opening, G: Drop> Shared<C, J, G> {
     /// What the sessions of the configuration share, with the updater's state behind its lock.
     pub fn new(
         alloc: Global,
-        line: Line<J>,
+        queue: Queue<J>,
         gate: G,
         config: Config,
         core: C,
@@ -44,7 +44,7 @@ impl<C: Drop, J: Opening, G: Drop> Shared<C, J, G> {
     {
         let mailboxes = Mailboxes::new(alloc, config.limits().sessions)?;
         Ok(Shared {
-            line,
+            queue,
             gate,
             config,
             core: Mutex::new(core),

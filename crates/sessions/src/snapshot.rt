@@ -4,14 +4,14 @@ ghost use Rattle.std.specs.Prelude.{◌≡◌, ℕ, length, IfOk, IfSome};
 ghost use Rattle.model.specs.History.{IsLegal, base_of};
 ghost use Rattle.model.specs.World.{Asked};
 ghost use Rattle.model.specs.Told.{Tells};
-ghost use Rattle.publications.specs.Histories.{newest, IsNewest};
+ghost use Rattle.version_log.specs.Histories.{newest, IsNewest};
 
-use publications::{Front, Naming};
 use queries::{Answer, Query};
 use snapshots::Version;
 use std::alloc::{AllocError, Global};
 use std::marker::Model;
 use std::sync::Arc;
+use version_log::{Front, Naming};
 
 /// A version that a session has seen, which never changes. Its queries wait for nobody. Contracts see
 /// its history.
@@ -37,7 +37,7 @@ impl<J: Naming> Model for Snapshot<J> {
     ghost use Rattle.std.specs.Coded.{codes};
     ghost use Rattle.model.specs.JsonCode.{coded_members};
     ghost use Rattle.model.specs.Command.{Entry};
-    ghost use Rattle.publications.specs.Histories.{newest, IsNewest};
+    ghost use Rattle.version_log.specs.Histories.{newest, IsNewest};
 
     ghost Value = { List Entry };
 
@@ -71,7 +71,7 @@ impl<J: Naming> Snapshot<J> {
         &self.version
     }
 
-    /// What its history tells of a query, at its place.
+    /// What its history answers to a query, at its place.
     pub fn answer(&self, alloc: Global, query: &Query) -> Result<Answer, AllocError>
         ensures told { IfOk result (λ answer. (session : ℕ)
             → Tells (base_of J.base) self.now (Asked session query.now (length self.now) answer)) }

@@ -1,19 +1,19 @@
 //! How a try of a compaction ends under the lock.
 ghost use Rattle.std.specs.Prelude.{◌≡◌, ◌⊎◌, ◌≤◌, length};
-ghost use Rattle.publications.specs.Histories.{newest};
+ghost use Rattle.version_log.specs.Histories.{newest};
 ghost use Rattle.sessions.specs.Tries.{EndsTry};
 
 use crate::shared::Shared;
 use commands::Seat;
 use compactor::Compaction;
-use publications::Published;
 use std::sync::Wait;
-use updating::{Answer, Core, Filled, Gate, Opening, Point, SwapFault};
+use updater_state::{Answer, Core, Filled, Gate, Opening, Point, SwapFault};
+use version_log::Published;
 
 /// How a try of a compaction ends.
 #[derive(Drop)]
 pub(crate) enum Swapped<J: Opening> {
-    /// Its entry stands.
+    /// Its entry is in the history.
     Stood(Answer<J>),
     /// Others wrote too much meanwhile.
     Behind,
@@ -72,7 +72,7 @@ fn swap_into<R: Wait + Drop, J: Opening>(
     }
 }
 
-/// The entry stands. Where memory for showing it is refused, a later showing shows it.
+/// The entry is in the history. Where memory for showing it is refused, a later showing shows it.
 fn shown<R: Wait + Drop, J: Opening>(core: &mut Core<R, J>, answer: Answer<J>) -> Swapped<J>
     ensures same { core.new ≡ core.old }
     ensures stood { result ≡ Swapped.Stood answer }

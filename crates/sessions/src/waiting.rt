@@ -9,7 +9,7 @@ use crate::fault::Fault;
 use crate::session::Session;
 use std::thread;
 use std::time::{Clock, Duration};
-use updating::Opening;
+use updater_state::Opening;
 
 /// After so many looks that follow one another, a wait no longer only yields but sleeps.
 const YIELDS: u64 = 1_000;

@@ -3,8 +3,8 @@ ghost use Rattle.std.specs.Prelude.{◌≡◌, ◌≢◌, ◌⊎◌, ◌+◌, �
 ghost use mathlib.Core.List.{IsPrefix};
 ghost use Rattle.model.specs.History.{of_session};
 ghost use Rattle.model.specs.World.{is_compact};
-ghost use Rattle.publications.specs.Histories.{newest, Grows};
-ghost use Rattle.updating.specs.Outcomes.{has_entry};
+ghost use Rattle.version_log.specs.Histories.{newest, Grows};
+ghost use Rattle.updater_state.specs.Outcomes.{has_entry};
 ghost use Rattle.sessions.specs.Known.{seen};
 ghost use Rattle.sessions.specs.Answered.{Answers};
 ghost use Rattle.sessions.specs.Calls.{Looks, Writes, IsTold, next_seat};
@@ -16,12 +16,12 @@ use crate::receipt::Receipt;
 use crate::session::{Session, calls_of};
 use crate::shared::Shared;
 use commands::{Command, Copied, Job, Seat};
-use publications::Published;
 use snapshots::Version;
 use std::alloc::Global;
 use std::sync::Wait;
 use std::thread;
-use updating::{Answer, Core, Filled, Gate, Opening, Outcome, OutcomeKind, Point, Told};
+use updater_state::{Answer, Core, Filled, Gate, Opening, Outcome, OutcomeKind, Point, Told};
+use version_log::Published;
 
 /// How often a session that waits for its outcome looks for it and yields, before it sleeps.
 const YIELDS: u32 = 1_000;
@@ -30,7 +30,7 @@ impl<R: Wait + Drop, J: Opening, G: Gate + Drop> Session<Core<R, J>, J, G> {
     /// Writes a command, which is no compaction. It waits until another session has published it, or
     /// until it has the updater's lock, under which it publishes batches of jobs until its own is answered.
     ///
-    /// After a fault but `Lost` it was told of no entry, and the next receipt has exactly the calls with a receipt.
+    /// After a fault but `Lost` it learned of no entry, and the next receipt has exactly the calls with a receipt.
     pub fn write<W: Wait>(&mut self, rt: &W, command: Command) -> Result<Receipt, Fault>
         requires edits { is_compact command ≡ false }
         ensures receipt { IfOk result (λ receipt. Writes J.base self.old command receipt self.new) }
@@ -72,21 +72,24 @@ impl<R: Wait + Drop, J: Opening, G: Gate + Drop> Session<Core<R, J>, J, G> {
         ensures kept { result ≡ false → self.new ≡ self.old }
         ensures busy { result ≡ false → (J.capacity < J.sessions) ⊎ (2 ^ 62 ≤ self.old.pushes) }
     {
-        if self.ticket.push(rt, &self.shared.line, job).is_err() {
+        if self.producer.push(rt, &self.shared.queue, job).is_err() {
             return false;
         }
         self.lost = true;
         true
     }
 
-    /// Waits until the session is told what became of its job.
+    /// Waits until the session learns what became of its job.
     fn wait_for_outcome<W: Wait>(&mut self, rt: &W, asked: &Command) -> Option<Outcome<J>>
         ensures some { IfSome result (λ outcome. self.new ≡ record self.old { entered = has_entry outcome; lost = false }) }
         ensures none { IfNone result (self.new ≡ record self.old { lost = true }) }
     {
         self.lost = true;
         self.shared.gate.at(Point::Pushed, self.number);
-        let Told { outcome, word } = await_told(
+        let Told {
+            outcome,
+            taken_count,
+        } = await_told(
             rt,
             self.alloc,
             &self.shared,
@@ -94,7 +97,7 @@ impl<R: Wait + Drop, J: Opening, G: Gate + Drop> Session<Core<R, J>, J, G> {
             self.latest.version(),
             asked,
         )?;
-        if !self.ticket.hear(&self.shared.line, word) {
+        if !self.producer.hear(&self.shared.queue, taken_count) {
             return None;
         }
         self.entered = outcome.has_entry();
@@ -103,7 +106,7 @@ impl<R: Wait + Drop, J: Opening, G: Gate + Drop> Session<Core<R, J>, J, G> {
     }
 }
 
-/// Waits until the session is told what became of its job: by who holds the lock, in its mailbox, or by itself,
+/// Waits until the session learns what became of its job: from the holder of the lock, in its mailbox, or by itself,
 /// where it gets the lock. Where it doesn't at once, it prepares for the updater's work; then it yields for a while,
 /// and then it sleeps until it gets the lock.
 fn await_told<R: Wait + Drop, J: Opening, G: Gate + Drop, W: Wait>(
@@ -130,7 +133,7 @@ fn await_told<R: Wait + Drop, J: Opening, G: Gate + Drop, W: Wait>(
     serve(rt, shared, &mut core, session)
 }
 
-/// Does the updater's work until the session is told, unless it was before, and tells the others.
+/// Does the updater's work until the session's outcome is known, unless it was before, and notifies the others.
 fn serve<R: Wait + Drop, J: Opening, G: Gate + Drop, W: Wait>(
     rt: &W,
     shared: &Shared<Core<R, J>, J, G>,
@@ -141,10 +144,10 @@ fn serve<R: Wait + Drop, J: Opening, G: Gate + Drop, W: Wait>(
         return Some(told);
     }
     let limits = shared.config.limits();
-    let told = core.serve(rt, &shared.line, &shared.gate, session, limits.queue);
+    let told = core.serve(rt, &shared.queue, &shared.gate, session, limits.queue);
     shared
         .mailboxes
-        .leave_all(rt, &shared.line, core, limits.sessions);
+        .leave_all(rt, &shared.queue, core, limits.sessions);
     told
 }
 
@@ -160,7 +163,7 @@ impl<C: Drop, J: Opening, G: Drop> Session<C, J, G> {
         seat
     }
 
-    /// A write or a compaction begins, which was not yet told of an entry.
+    /// A write or a compaction begins, which has not yet learned of an entry.
     pub(crate) fn begin_call(&mut self)
         ensures { self.new ≡ record self.old { entered = false } }
     {

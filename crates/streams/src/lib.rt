@@ -1,7 +1,7 @@
 //! Where the bytes of a connection come from and go to.
 //!
-//! A [`Source`] and a [`Sink`] count their failures, so that what ended a connection can be told
-//! from them, and tell contracts which bytes they gave and took where those are known.
+//! A [`Source`] and a [`Sink`] count their failures, so that what ended a connection can be known
+//! from them, and show contracts which bytes they gave and took where those are known.
 #![tactic(auto)]
 
 mod counted;

@@ -1,5 +1,5 @@
-//! Readers and writers over memory that move bytes in pieces and fail where they are told to, for
-//! tests of what stands on a stream.
+//! Readers and writers over memory that move bytes in pieces and fail where they are asked to, for
+//! tests of what is on a stream.
 ghost use Rattle.std.specs.Prelude.{◌≡◌, length, min, Some, OnOk};
 ghost use Rattle.std.specs.Result.{result_ok};
 ghost use Rattle.std.specs.Io.{ReadsAtMost, WritesAtMost};

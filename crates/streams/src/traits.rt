@@ -5,7 +5,7 @@ ghost use Rattle.streams.specs.Counts.{CountsFailure};
 
 use thiserror::Error;
 
-/// A read or a write failed, and the count of failures of its source or sink tells so.
+/// A read or a write failed, and the count of failures of its source or sink reports so.
 #[derive(Clone, Copy, Debug, PartialEq, Eq, Error)]
 #[error("a read or a write failed")]
 pub struct Failed;
@@ -26,7 +26,7 @@ pub trait Source {
     ///
     /// # Errors
     ///
-    /// The read failed. No byte came, and the count of failures tells so.
+    /// The read failed. No byte came, and the count of failures reports so.
     fn read(&mut self, buf: &mut [u8]) -> Result<usize, Failed>
         ensures within { IfOk result (λ n. n ≤ length buf.new) }
         ensures bytes { ReadConsumes (left self.old) (left self.new) result buf.new }
@@ -54,7 +54,7 @@ pub trait Sink {
     ///
     /// # Errors
     ///
-    /// The write failed. No byte was taken, and the count of failures tells so.
+    /// The write failed. No byte was taken, and the count of failures reports so.
     fn write(&mut self, buf: &[u8]) -> Result<usize, Failed>
         requires { 0 < length buf.now }
         ensures some { IfOk result (λ n. 0 < n) }

@@ -26,7 +26,7 @@ pub fn write_all<W: Sink>(writer: &mut W, bytes: &[u8]) -> Result<(), Failed>
     Ok(())
 }
 
-/// Writes a head and what stands behind it as one text: in one write where both are short, as most
+/// Writes a head and what is behind it as one text: in one write where both are short, as most
 /// responses are.
 ///
 /// # Errors
@@ -58,7 +58,7 @@ fn write_joined<W: Sink>(writer: &mut W, head: &str, body: &str) -> Result<(), F
     write_all(writer, text.as_str().as_bytes())
 }
 
-/// Writes a head, and then what stands behind it.
+/// Writes a head, and then what is behind it.
 fn write_apart<W: Sink>(writer: &mut W, head: &[u8], body: &[u8]) -> Result<(), Failed>
     ensures written { Writes (W.taken writer.old) (W.taken writer.new) result
         (head.now ++ body.now) }

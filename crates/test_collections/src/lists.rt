@@ -30,7 +30,7 @@ impl Lists {
         }
     }
 
-    /// Does what a statement says, and tells what comes of it.
+    /// Does what a statement says, and reports what comes of it.
     fn perform(&mut self, alloc: Global, statement: &str, text: &mut String) -> Result<(), Fail> {
         let words: Vec<&str> = statement.split_whitespace().collect(alloc)?;
         match words.as_slice() {
@@ -59,7 +59,7 @@ impl Lists {
         Ok(())
     }
 
-    /// Pushes each number from one up to another, and tells how many nodes that made.
+    /// Pushes each number from one up to another, and reports how many nodes that made.
     fn push(&mut self, from: u64, end: u64, text: &mut String) -> Result<(), Fail> {
         let mut nodes = 0u64;
         for number in from..end {

@@ -1,7 +1,7 @@
 //! Does what each row of its input says to an empty map, list or tree, and prints what comes of it.
 //!
 //! A row begins with its kind: `map` has calls of the shared map, `list` calls of the shared list, and `tree` changes of a
-//! document's revisions. Statements stand with `;` between. `tests/rows` has the rows and what they must print.
+//! document's revisions. Statements are with `;` between. `tests/rows` has the rows and what they must print.
 #![tactic(auto)]
 
 mod lists;

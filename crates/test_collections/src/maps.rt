@@ -46,7 +46,7 @@ impl Maps {
         }
     }
 
-    /// Does what a statement says, and tells what comes of it.
+    /// Does what a statement says, and reports what comes of it.
     fn perform(&mut self, alloc: Global, statement: &str, text: &mut String) -> Result<(), Fail> {
         let words: Vec<&str> = statement.split_whitespace().collect(alloc)?;
         match words.as_slice() {
@@ -122,7 +122,7 @@ fn changed(alloc: Global, map: Numbers, call: Call, key: u64) -> Result<Numbers,
     }
 }
 
-/// What the map tells of itself.
+/// What the map says of itself.
 fn push_read(text: &mut String, map: &Numbers, words: &[&str]) -> Result<(), Fail> {
     match words {
         ["size"] => push_size(text, map)?,

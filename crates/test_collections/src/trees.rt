@@ -29,7 +29,7 @@ pub(crate) fn told(alloc: Global, row: &str) -> Result<String, Fail> {
 }
 
 impl Trees {
-    /// Does what a statement says, and tells what comes of it.
+    /// Does what a statement says, and reports what comes of it.
     fn perform(&mut self, alloc: Global, statement: &str, text: &mut String) -> Result<(), Fail> {
         let words: Vec<&str> = statement.split_whitespace().collect(alloc)?;
         match words.as_slice() {
@@ -42,7 +42,7 @@ impl Trees {
         }
     }
 
-    /// The same of a statement that wants a tree: after a change the nodes are told, after a read what is read.
+    /// The same of a statement that wants a tree: after a change the nodes are reported, after a read what is read.
     fn perform_on(&mut self, alloc: Global, words: &[&str], text: &mut String) -> Result<(), Fail> {
         let Some(tree) = &self.tree else {
             return push_nodes(text, None);
@@ -85,7 +85,7 @@ impl Trees {
         self.take(written, text)
     }
 
-    /// Takes a tree that was made, or tells why there is none.
+    /// Takes a tree that was made, or reports why there is none.
     fn take(&mut self, made: Result<RevTree, MergeFault>, text: &mut String) -> Result<(), Fail> {
         match made {
             Ok(tree) => self.tree = Some(tree),
@@ -103,7 +103,7 @@ fn stemmed(alloc: Global, tree: &RevTree, limit: u32) -> Result<RevTree, Fail> {
     Ok(stem(alloc, tree, limit)?)
 }
 
-/// The tree without the named leaves. Tells which of them there were.
+/// The tree without the named leaves. Reports which of them there were.
 fn cut(
     alloc: Global,
     tree: &RevTree,
@@ -132,7 +132,7 @@ fn push_same(text: &mut String, tree: &RevTree, kept: Option<&RevTree>) -> Resul
     Ok(())
 }
 
-/// What the tree tells of itself.
+/// What the tree says of itself.
 fn push_read(alloc: Global, text: &mut String, tree: &RevTree, words: &[&str]) -> Result<(), Fail> {
     match words {
         ["count"] => write!(text, "{}", tree.count())?,

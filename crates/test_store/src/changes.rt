@@ -33,7 +33,7 @@ pub(crate) fn after(alloc: Global, version: &Version, words: &[&str]) -> Result<
     act(version, 0, &command)
 }
 
-/// The command of these words. A revision or a number that isn't named is `-`. Edits stand one after another, each as its id,
+/// The command of these words. A revision or a number that isn't named is `-`. Edits are one after another, each as its id,
 /// the revision that it names and its body; a path of revisions newest first; a document with its revisions as `a:1-a,2-b`,
 /// where each revision is written out.
 pub(crate) fn command(alloc: Global, words: &[&str]) -> Result<Command, Fail> {

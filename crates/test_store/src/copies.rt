@@ -11,7 +11,7 @@ use snapshots::Version;
 use std::alloc::{AllocError, Global};
 use std::test::Fail;
 
-/// What comes of each step, and what stands at the end. The commands in front of `|` come before both compactions start,
+/// What comes of each step, and what is at the end. The commands in front of `|` come before both compactions start,
 /// and the steps after it.
 pub(crate) fn told(alloc: Global, row: &str) -> Result<String, Fail> {
     let Some((commands, steps)) = row.split_once('|') else {
@@ -23,7 +23,7 @@ pub(crate) fn told(alloc: Global, row: &str) -> Result<String, Fail> {
     Ok(text)
 }
 
-/// The version after these commands, whose replies are told.
+/// The version after these commands, whose replies are reported.
 pub(crate) fn written(alloc: Global, commands: &str, text: &mut String) -> Result<Version, Fail> {
     let mut version = Version::empty(alloc);
     for command in commands.split(';') {
@@ -34,7 +34,7 @@ pub(crate) fn written(alloc: Global, commands: &str, text: &mut String) -> Resul
     Ok(version)
 }
 
-/// The version after a command, which is told.
+/// The version after a command, which is reported.
 fn with_command(
     alloc: Global,
     version: &Version,
@@ -82,7 +82,7 @@ fn with_second(
     made
 }
 
-/// Makes all steps, and tells what stands then.
+/// Makes all steps, and says what is there then.
 fn make_all(
     alloc: Global,
     version: Version,

@@ -13,7 +13,7 @@ use std::alloc::Global;
 use std::mem;
 use std::test::Fail;
 
-/// What stands, what stood before the last command or the end of the last epoch, and a follower.
+/// What is there, what was there before the last command or the end of the last epoch, and a follower.
 #[derive(Drop)]
 struct Store {
     now: Version,
@@ -42,7 +42,7 @@ impl Store {
         }
     }
 
-    /// Does what a statement says, and tells what comes of it. A query follows `?`, a read of what stands or of what stood
+    /// Does what a statement says, and reports what comes of it. A query follows `?`, a read of what is there or of what was
     /// follows `now` or `before`, and a command may follow `by` and its session, which is else 0. `reopen` begins the next
     /// epoch.
     fn perform(&mut self, alloc: Global, statement: &str, text: &mut String) -> Result<(), Fail> {
@@ -63,7 +63,7 @@ impl Store {
         }
     }
 
-    /// Does a command, and tells its reply.
+    /// Does a command, and reports its reply.
     fn write(
         &mut self,
         alloc: Global,
@@ -78,14 +78,14 @@ impl Store {
         Ok(())
     }
 
-    /// Ends the epoch, and tells what the next one begins from.
+    /// Ends the epoch, and reports what the next one begins from.
     fn reopen(&mut self, text: &mut String) -> Result<(), Fail> {
         let next = reopened(&self.now, text)?;
         self.before = mem::replace(&mut self.now, next);
         Ok(())
     }
 
-    /// Begins to follow the changes above a number, and tells where the follower stands.
+    /// Begins to follow the changes above a number, and reports where the follower is.
     fn follow(&mut self, since: &str, word: &str, text: &mut String) -> Result<(), Fail> {
         self.follower = Follower::new(since.parse::<u64>()?, style(word)?);
         write!(text, "at {}", self.follower.cursor())?;
@@ -113,7 +113,7 @@ impl Store {
         Ok(())
     }
 
-    /// The follower's next rows, and where it stands then.
+    /// The follower's next rows, and where it is then.
     fn next(&mut self, alloc: Global, limit: u64, text: &mut String) -> Result<(), Fail> {
         push_rows(text, &self.follower.next(alloc, &self.now, limit)?)?;
         write!(text, " at {}", self.follower.cursor())?;

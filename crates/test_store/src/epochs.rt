@@ -6,7 +6,7 @@ use crate::replies::push_content;
 use snapshots::Version;
 use std::test::Fail;
 
-/// The version with which the next epoch begins, of which it is told what stands in it.
+/// The version with which the next epoch begins, with what is in it.
 pub(crate) fn reopened(version: &Version, text: &mut String) -> Result<Version, Fail>
     ensures { IfOk result (λ v. v ≡ record { base = Some (successor (now version.now)); entries = [] }) }
 {

@@ -16,7 +16,7 @@ use snapshots::Version;
 use std::alloc::{AllocError, Global};
 use std::test::Fail;
 
-/// The query of these words. `-` stands where no revision is named, or no limit.
+/// The query of these words. `-` is where no revision is named, or no limit.
 pub(crate) fn query(alloc: Global, words: &[&str]) -> Result<QueryKind, Fail> {
     match words {
         ["get", id, rev, options @ ..] => Ok(QueryKind::Get {
@@ -94,7 +94,7 @@ pub(crate) fn style(word: &str) -> Result<Style, Fail> {
     }
 }
 
-/// Asks a query by its own call and by the one for all, and tells the answer; both where they are not the same.
+/// Asks a query by its own call and by the one for all, and reports the answer; both where they are not the same.
 pub(crate) fn push_asked(
     text: &mut String,
     alloc: Global,

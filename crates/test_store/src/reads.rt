@@ -5,8 +5,8 @@ use snapshots::Version;
 use std::alloc::AllocError;
 use std::test::Fail;
 
-/// What a version tells of itself: its content, how many entries it has, the number of a session's next call, whose call
-/// stands at a place, the changes above a number, or how many purges and updates lie above marks.
+/// What a version says of itself: its content, how many entries it has, the number of a session's next call, whose call
+/// is at a place, the changes above a number, or how many purges and updates lie above marks.
 pub(crate) fn push_read(text: &mut String, version: &Version, words: &[&str]) -> Result<(), Fail> {
     match words {
         ["content"] => push_content(text, version)?,

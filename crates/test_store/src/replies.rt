@@ -1,4 +1,4 @@
-//! What commands were answered, and what stands in a version, as texts.
+//! What commands were answered, and what is in a version, as texts.
 
 use commands::{AskedRevisions, Reply, ReplyKind};
 use document_id::DocId;

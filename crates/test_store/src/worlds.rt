@@ -12,7 +12,7 @@ use snapshots::Version;
 use std::alloc::{AllocError, Global};
 use std::test::Fail;
 
-/// The calls that the events complete, how many entries there are then, and what stands.
+/// The calls that the events complete, how many entries there are then, and what is in it.
 pub(crate) fn told(alloc: Global, row: &str) -> Result<String, Fail> {
     let events = events(alloc, row)?;
     let record = run(alloc, config()?, &events)?;
@@ -43,7 +43,7 @@ fn happened_after(alloc: Global, version: &Version, events: &[Event]) -> Result<
     Ok(record)
 }
 
-/// The same as [`told`], one event after another. An event that is refused memory is told, and happens then.
+/// The same as [`told`], one event after another. An event that is refused memory is reported, and happens then.
 pub(crate) fn told_by_steps(alloc: Global, row: &str) -> Result<String, Fail> {
     let events = events(alloc, row)?;
     let mut machine = Machine::new(alloc, config()?)?;

@@ -2,15 +2,15 @@
 
 use crate::scripts::{json, steps};
 use document_id::DocId;
-use http_peer::HttpPeer;
 use replicator::Peer;
+use replicator_http::HttpPeer;
 use revision_id::RevId;
 use std::alloc::Global;
 use std::test::Fail;
 use streams::scripted::{ScriptedReader, ScriptedWriter, Step};
 use streams::{Sink, Source, Stream};
 
-/// Makes calls one after another of a peer whose responses are a text that is written as JSON, and tells
+/// Makes calls one after another of a peer whose responses are a text that is written as JSON, and reports
 /// what each answers, how many reads, writes and calls failed, and what was written.
 pub(crate) fn calls_told(
     alloc: Global,
@@ -54,7 +54,7 @@ fn make_calls(
     Ok(text)
 }
 
-/// Makes the call of these words, and tells what it answers.
+/// Makes the call of these words, and reports what it answers.
 fn push_call<P: Peer>(
     alloc: Global,
     text: &mut String,

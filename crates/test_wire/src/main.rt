@@ -1,5 +1,5 @@
-//! Tells what the libraries of texts, limits and connections make of each row of its input, a text for
-//! each. A row is words with `|` between, and the first says what is asked. At words that are no row the
+//! Reports what the libraries of texts, limits and connections make of each row of its input, a text for
+//! each. A row is words with `|` between, and the first says what is asked. At a line that is no row the
 //! run ends, with status 1.
 #![tactic(auto)]
 
@@ -15,7 +15,7 @@ mod words;
 use std::alloc::Global;
 use std::test::Fail;
 
-/// What a row of these words tells.
+/// What a row of these words prints.
 fn told(alloc: Global, words: &[&str]) -> Result<String, Fail> {
     match words {
         ["line", line] => histories::line_told(alloc, line),
@@ -41,7 +41,7 @@ fn told(alloc: Global, words: &[&str]) -> Result<String, Fail> {
     }
 }
 
-/// What a row tells.
+/// What a row prints.
 fn row_told(alloc: Global, row: &str) -> Result<String, Fail> {
     let words: Vec<&str> = row.split('|').collect(alloc)?;
     told(alloc, words.as_slice())

@@ -10,7 +10,7 @@ use streams::{Source, Stream};
 /// The most responses that are read.
 const MOST: u32 = 8;
 
-/// Reads responses from a text that is written as JSON, and tells the status and the body of each, why
+/// Reads responses from a text that is written as JSON, and reports the status and the body of each, why
 /// there are no more, how many reads failed, and how many bytes are left.
 pub(crate) fn responses_read(alloc: Global, reading: &str, input: &str) -> Result<String, Fail> {
     let input = json(alloc, input)?;
@@ -21,7 +21,7 @@ pub(crate) fn responses_read(alloc: Global, reading: &str, input: &str) -> Resul
     Ok(text)
 }
 
-/// Reads responses from a text that is written as JSON, whole and in two pieces at each cut, and tells at how
+/// Reads responses from a text that is written as JSON, whole and in two pieces at each cut, and reports at how
 /// many cuts it reads the same, and what.
 pub(crate) fn responses_however_cut(alloc: Global, input: &str) -> Result<String, Fail> {
     let input = json(alloc, input)?;
@@ -55,7 +55,7 @@ fn read_text(alloc: Global, reading: &[Step], input: &str) -> Result<(String, u6
     Ok((text, reader.failures(), incoming.bytes().len()))
 }
 
-/// Reads a response and tells of it, or of the fault; answers whether there was one.
+/// Reads a response and reports it, or the fault; answers whether there was one.
 fn push_next<R: Source>(
     text: &mut String,
     incoming: &mut Incoming,

@@ -1,9 +1,9 @@
 //! Connections of a service that echoes targets.
 
 use crate::scripts::{json, steps};
+use http_connection::{Service, Window, serve, write_response};
 use http_framing::FramingFault;
 use http_framing::request::Request;
-use serving::{Service, Window, serve, write_response};
 use std::alloc::Global;
 use std::test::Fail;
 use streams::scripted::{ScriptedReader, ScriptedWriter, Step};
@@ -35,7 +35,7 @@ impl Service<()> for Echo {
     }
 }
 
-/// Serves a text that is written as JSON, and tells how many requests were answered and why it ended,
+/// Serves a text that is written as JSON, and reports how many requests were answered and why it ended,
 /// how many reads and writes failed, and what was written.
 pub(crate) fn served(
     alloc: Global,

@@ -5,8 +5,8 @@ use Rattle.std.proofs.lemmas.Result.{on_ok_weaker}
 use Rattle.serde_json.specs.Data.{array}
 use Rattle.serde_json.specs.View.{items_of}
 use Rattle.serde_json.specs.Written.{compact_text}
-use Rattle.answer_json.specs.List.{stands_after}
-use Rattle.answer_json.proofs.ListTexts.{one_more, stands_after-push}
+use Rattle.api_json.specs.List.{stands_after}
+use Rattle.api_json.proofs.ListTexts.{one_more, stands_after-push}
 use Rattle.base_json.specs.Base.{record_data}
 use Rattle.history_json.proofs.Lists.{closed}
 use Rattle.base_json.proofs.Mapped.{mapped_more}

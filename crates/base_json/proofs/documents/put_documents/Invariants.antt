@@ -1,6 +1,6 @@
 use Rattle.std.proofs.Common.{◌≡◌, ◌∷◌, ◌++◌, false, map, string_bytes}
 use Rattle.std.specs.Map.Iter.{deref_pair}
-use Rattle.answer_json.specs.List.{items_so_far, stands_after}
+use Rattle.api_json.specs.List.{items_so_far, stands_after}
 use Rattle.base_json.specs.Base.{record_data}
 use Rattle.base_json.proofs.documents.put_documents.Given as goal
 

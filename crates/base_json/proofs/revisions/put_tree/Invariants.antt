@@ -1,5 +1,5 @@
 use Rattle.std.proofs.Common.{◌≡◌, ◌∷◌, ◌++◌, false, map, string_bytes}
-use Rattle.answer_json.specs.List.{items_so_far, stands_after}
+use Rattle.api_json.specs.List.{items_so_far, stands_after}
 use Rattle.revision_tree.specs.Nodes.{entry_of}
 use Rattle.base_json.specs.Base.{revision_data}
 use Rattle.base_json.proofs.revisions.put_tree.Given as goal

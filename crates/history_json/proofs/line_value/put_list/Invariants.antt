@@ -1,5 +1,5 @@
 use Rattle.std.proofs.Common.{◌≡◌, ◌++◌, ◌∷◌, false, map, take, string_bytes}
-use Rattle.answer_json.specs.List.{items_so_far, stands_after}
+use Rattle.api_json.specs.List.{items_so_far, stands_after}
 use Rattle.history_json.proofs.line_value.put_list.Given as goal
 
 -- what was written so far

@@ -3,8 +3,8 @@ use Rattle.std.specs.Prelude.{codes}
 use Rattle.std.proofs.lemmas.Result.{on_ok_weaker}
 use Rattle.serde_json.specs.Data.{object}
 use Rattle.serde_json.specs.Written.{compact_text}
-use Rattle.answer_json.specs.Objects.{members_from}
-use Rattle.answer_json.specs.Purge.{named_leaves, removed_data}
+use Rattle.api_json.specs.Objects.{members_from}
+use Rattle.api_json.specs.Purge.{named_leaves, removed_data}
 use Rattle.history_json.proofs.Parts.{parts_3, pushed}
 use Rattle.history_json.proofs.Texts.{purge_text}
 use Rattle.history_json.proofs.purge.put_purge.Goals as goal

@@ -3,8 +3,8 @@ use Rattle.std.specs.Vec.Iter.{into_iter_items, into_iter_len}
 use Rattle.std.proofs.lemmas.List.{nil_from_length}
 use Rattle.std.proofs.lemmas.List.Elements.{All-append, All-cons, All-nil}
 use Rattle.model.specs.Command.{NamesRevs}
-use Rattle.answer_json.specs.NamedRevisions.{member_pair}
-use Rattle.answer_json.specs.Purge.{named_leaves}
+use Rattle.api_json.specs.NamedRevisions.{member_pair}
+use Rattle.api_json.specs.Purge.{named_leaves}
 use Rattle.history_json.proofs.Rests.{Rest, rest-next, rest-none, rest-last}
 use Rattle.history_json.proofs.purge.read_documents.Goals as goal
 

@@ -1,8 +1,8 @@
 use Rattle.std.proofs.Common.{◌≡◌, List, All, map, length}
 use Rattle.std.specs.Vec.Iter.{into_iter_items, into_iter_len}
 use Rattle.model.specs.Command.{NamesRevs}
-use Rattle.answer_json.specs.NamedRevisions.{member_pair}
-use Rattle.answer_json.specs.Purge.{named_leaves}
+use Rattle.api_json.specs.NamedRevisions.{member_pair}
+use Rattle.api_json.specs.Purge.{named_leaves}
 use Rattle.history_json.proofs.Rests.{Rest}
 use Rattle.history_json.proofs.purge.read_documents.Given as goal
 

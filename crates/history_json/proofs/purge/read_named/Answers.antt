@@ -1,9 +1,9 @@
 use Rattle.std.proofs.Common.{◌≡◌, All, map, sym, ap, ◌∙◌, subst}
 use Rattle.model.specs.Command.{NamesRevs}
 use Rattle.model.specs.Map.{entries}
-use Rattle.answer_json.specs.NamedRevisions.{pairs_in}
-use Rattle.answer_json.specs.Purge.{named_leaves}
-use Rattle.answer_json.proofs.NamedRevisions.{pairs_in-members_of}
+use Rattle.api_json.specs.NamedRevisions.{pairs_in}
+use Rattle.api_json.specs.Purge.{named_leaves}
+use Rattle.api_json.proofs.NamedRevisions.{pairs_in-members_of}
 use Rattle.history_json.proofs.Taken.{if_some, inside, named_once, once, pairs_in-members_from}
 use Rattle.history_json.proofs.purge.read_named.Goals as goal
 

@@ -5,7 +5,7 @@ use Rattle.std.proofs.lemmas.List.{append-nil}
 use Rattle.std.proofs.lemmas.List.Elements.{All-push}
 use mathlib.Core.List.{IsPrefix}
 use Rattle.model.specs.Command.{Entry}
-use Rattle.publications.proofs.Prefixes.{prefix_trans}
+use Rattle.version_log.proofs.Prefixes.{prefix_trans}
 use Rattle.sessions.specs.Known.{Known}
 use Rattle.sessions.proofs.Receipts.{nothing_left}
 use Rattle.history_lock.proofs.closing.last_of_all.Goals as goal

@@ -2,7 +2,7 @@ use Rattle.std.proofs.Common.{◌≡◌, ◌++◌, ◌+◌, ◌≤◌, length, v
 use Rattle.std.specs.List.{All}
 use Rattle.std.specs.Vec.Iter.{into_iter_items, into_iter_len}
 use mathlib.Core.List.{IsPrefix}
-use Rattle.publications.specs.Histories.{Grows}
+use Rattle.version_log.specs.Histories.{Grows}
 use Rattle.sessions.specs.Known.{Known}
 use Rattle.history_lock.proofs.closing.last_of_all.Given as goal
 

@@ -1,6 +1,6 @@
 use Rattle.std.proofs.Common.{◌++◌, ◌∷◌, [], if◌then◌else◌, ap, sym, ◌∙◌, subst, arith, ℕ}
 use mathlib.Core.List.{IsPrefix}
-use Rattle.publications.specs.Histories.{newest}
+use Rattle.version_log.specs.Histories.{newest}
 use Rattle.sessions.specs.Known.{Known}
 use Rattle.sessions.specs.Ends.{IsExact}
 use Rattle.history_lock.proofs.Noted.{noted, all_more}

@@ -1,6 +1,6 @@
 use Rattle.std.proofs.Common.{◌≡◌, ◌≤◌, map, filter, take, length, vec_capacity}
 use Rattle.std.specs.List.{All}
-use Rattle.publications.specs.Histories.{newest}
+use Rattle.version_log.specs.Histories.{newest}
 use Rattle.sessions.specs.Known.{Known}
 use Rattle.sessions.specs.Ends.{is_lost, IsExact}
 use Rattle.history_lock.proofs.closing.lost_of.Given as goal

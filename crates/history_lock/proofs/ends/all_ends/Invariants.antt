@@ -3,4 +3,4 @@ use Rattle.std.specs.List.{range_with_len}
 use Rattle.history_lock.proofs.ends.all_ends.Given as goal
 
 abbrev pub invariant-loop-number : goal.invariant-loop-number
-invariant-loop-number g l = (l.ends.items ≡ range_with_len 0 l._number) × (l.clerk.taken ≡ []) × (l.clerk.made ≡ l._number)
+invariant-loop-number g l = (l.ends.items ≡ range_with_len 0 l._number) × (l.consumer.taken ≡ []) × (l.consumer.made ≡ l._number)

@@ -1,6 +1,6 @@
 use Rattle.std.proofs.Common.{ap, sym, ◌∙◌}
 use Rattle.model.specs.History.{Chronicle}
-use Rattle.publications.specs.Histories.{newest}
+use Rattle.version_log.specs.Histories.{newest}
 use Rattle.history_lock.proofs.Refused.{passed_on}
 use Rattle.history_lock.proofs.opening.begin.Goals as goal
 
@@ -12,5 +12,5 @@ new-first-requires g c = record {
   };
 }
 
-pub returns-in_err-press-clause-refused : goal.returns-in_err-press-clause-refused
-returns-in_err-press-clause-refused g c = passed_on c.from_residual.result c.in_err-press.field-0.0 c.from_residual.ensures.1 c.in_err-press.ensures.refused
+pub returns-in_err-publisher-clause-refused : goal.returns-in_err-publisher-clause-refused
+returns-in_err-publisher-clause-refused g c = passed_on c.from_residual.result c.in_err-publisher.field-0.0 c.from_residual.ensures.1 c.in_err-publisher.ensures.refused

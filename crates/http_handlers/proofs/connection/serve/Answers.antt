@@ -1,5 +1,5 @@
 use Rattle.std.proofs.Common.{ℕ}
-use Rattle.serving.proofs.Going.{served-nothing}
+use Rattle.http_connection.proofs.Going.{served-nothing}
 use Rattle.http_handlers.proofs.Told.{served_lent}
 use Rattle.http_handlers.proofs.connection.serve.Goals as goal
 

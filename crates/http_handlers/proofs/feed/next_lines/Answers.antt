@@ -3,7 +3,7 @@ use Rattle.std.specs.List.{flat_map}
 use Rattle.model.specs.Query.{Row}
 use Rattle.model.specs.History.{Chronicle, now}
 use Rattle.model.specs.Changes.{rows_since, wanted_by}
-use Rattle.answer_json.specs.Changes.{feed_line}
+use Rattle.api_json.specs.Changes.{feed_line}
 use Rattle.http_handlers.proofs.Feeds.{few, gives_rows}
 use Rattle.http_handlers.proofs.feed.next_lines.Goals as goal
 

@@ -2,7 +2,7 @@ use Rattle.std.proofs.Common.{◌≡◌}
 use Rattle.std.specs.Io.KnownBytes.{Consumes}
 use Rattle.replay_cli.proofs.input.read_all.Given as goal
 
--- what has come stands in the text, and nothing failed
+-- what has come is in the text, and nothing failed
 abbrev pub invariant-loop-text : goal.invariant-loop-text
 invariant-loop-text g l =
     Consumes (g.R.Source.left l.fn.reader) (g.R.Source.left l.reader) l.text.items

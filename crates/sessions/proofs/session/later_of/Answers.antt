@@ -1,4 +1,4 @@
-use Rattle.publications.proofs.Prefixes.{prefix_self}
+use Rattle.version_log.proofs.Prefixes.{prefix_self}
 use Rattle.sessions.proofs.session.later_of.Goals as goal
 
 pub returns-then-precedes-clause-extends : goal.returns-then-precedes-clause-extends

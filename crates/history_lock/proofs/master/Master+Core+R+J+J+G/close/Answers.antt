@@ -1,8 +1,8 @@
 use Rattle.std.proofs.Common.{ap, sym, ◌∙◌, subst, [], List, map, filter}
 use Rattle.std.specs.List.{All}
 use mathlib.Core.List.{IsPrefix}
-use Rattle.publications.specs.Histories.{newest}
-use Rattle.publications.proofs.Growing.{newest_grows, newest_legal}
+use Rattle.version_log.specs.Histories.{newest}
+use Rattle.version_log.proofs.Growing.{newest_grows, newest_legal}
 use Rattle.sessions.specs.Known.{Known}
 use Rattle.history_lock.specs.Ending.{Ending, Ends}
 use Rattle.sessions.specs.Ends.{is_lost, IsExact}

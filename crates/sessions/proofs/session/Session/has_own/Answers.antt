@@ -1,7 +1,7 @@
 use Rattle.std.proofs.Common.{◌≡◌, ◌==◌, ◌∙◌, true, ap, refl, subst, length, arith}
 use Rattle.std.proofs.lemmas.Bool.Decides.{nat_tests}
 use Rattle.model.specs.History.{Chronicle, of_session}
-use Rattle.publications.specs.Histories.{newest}
+use Rattle.version_log.specs.Histories.{newest}
 use Rattle.sessions.specs.Known.{Known, SeesOwn}
 use Rattle.sessions.proofs.LastTold.{own_by}
 use Rattle.sessions.proofs.session.Session.has_own.Goals as goal

@@ -1,7 +1,7 @@
 use Rattle.std.proofs.Common.{ap, sym, ◌∙◌, ◌≡◌, List, length}
 use Rattle.model.specs.Command.{Entry}
 use Rattle.model.specs.History.{of_session}
-use Rattle.publications.specs.Histories.{newest}
+use Rattle.version_log.specs.Histories.{newest}
 use Rattle.sessions.specs.Known.{Known}
 use Rattle.sessions.proofs.session.Session.keep.Goals as goal
 

@@ -1,6 +1,6 @@
 use Rattle.std.proofs.Common.{rules, ◌≡◌, sym, subst}
 use mathlib.Core.List.{IsPrefix}
-use Rattle.publications.proofs.Prefixes.{prefix_self}
+use Rattle.version_log.proofs.Prefixes.{prefix_self}
 use Rattle.sessions.proofs.session.Session.observe.Goals as goal
 
 pub returns-clause-later : goal.returns-clause-later

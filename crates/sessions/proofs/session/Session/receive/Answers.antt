@@ -3,7 +3,7 @@ use mathlib.Core.List.{IsPrefix}
 use Rattle.model.specs.Map.{empty}
 use Rattle.model.specs.Command.{Entry, Seat}
 use Rattle.model.specs.History.{Chronicle, of_session, base_of}
-use Rattle.publications.specs.Histories.{newest}
+use Rattle.version_log.specs.Histories.{newest}
 use Rattle.sessions.specs.Known.{Known, SeesOwn}
 use Rattle.sessions.specs.Calls.{Told, IsTold}
 use Rattle.sessions.proofs.Receipts.{writes, entry_is}

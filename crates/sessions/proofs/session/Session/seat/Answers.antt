@@ -1,6 +1,6 @@
 use Rattle.std.proofs.Common.{ap, length, arith}
 use Rattle.model.specs.History.{Chronicle}
-use Rattle.publications.specs.Histories.{newest}
+use Rattle.version_log.specs.Histories.{newest}
 use Rattle.sessions.proofs.Receipts.{few_calls}
 use Rattle.sessions.proofs.session.Session.seat.Goals as goal
 

@@ -1,7 +1,7 @@
 use Rattle.std.proofs.Common.{◌≡◌, ◌∙◌, [], ap, sym}
 use Rattle.model.specs.History.{of_session}
-use Rattle.publications.specs.Histories.{newest}
-use Rattle.publications.proofs.Growing.{newest_grows, newest_legal}
+use Rattle.version_log.specs.Histories.{newest}
+use Rattle.version_log.proofs.Growing.{newest_grows, newest_legal}
 use Rattle.sessions.specs.Known.{Known}
 use Rattle.sessions.proofs.session.Session.see.Goals as goal
 

@@ -1,6 +1,0 @@
-use Rattle.std.proofs.Common.{rules}
-use Rattle.answer_json.specs.Purge.{named_leaves}
-use Rattle.answer_json.proofs.purge.append_named_revisions.Goals as goal
-
-pub returns : goal.returns
-returns c = c.append_object.ensures named_leaves (λ written item told longer h. search rules)

@@ -1,6 +1,0 @@
-use Rattle.std.proofs.Common.{◌≡◌, take}
-use Rattle.http_routes.specs.Rows.{rows_of}
-use Rattle.http_routes.proofs.router_of.Given as goal
-
-abbrev pub invariant-loop-path : goal.invariant-loop-path
-invariant-loop-path l = l.router ≡ rows_of (take l.path-index l.paths)

@@ -1,0 +1,6 @@
+pub mod Segments
+pub mod Values
+pub mod Pairs
+pub mod Walk
+pub mod Table
+pub mod EmptySegments

@@ -1,8 +1,0 @@
-//! That a server takes the request of each call of a replication as that call: the texts that
-//! `peer_requests` writes, read by the rules by which `http_framing` finds a request and
-//! `http_request` decides it.
-//!
-//! There is nothing to run here: [`laws`] are the statements.
-#![tactic(auto)]
-
-pub mod laws;

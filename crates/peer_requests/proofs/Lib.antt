@@ -1,2 +1,0 @@
-mod BulkTexts
-mod DocIdsTexts

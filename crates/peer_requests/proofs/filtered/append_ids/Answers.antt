@@ -1,6 +1,0 @@
-use Rattle.std.proofs.Common.{rules}
-use Rattle.serde_json.specs.Data.{string}
-use Rattle.peer_requests.proofs.filtered.append_ids.Goals as goal
-
-pub returns : goal.returns
-returns c = c.append_list.ensures string (λ item told h. search rules)

@@ -1,0 +1,12 @@
+pub mod Connection
+pub mod Input
+pub mod Asked
+pub mod Told
+pub mod Goes
+pub mod Requests
+pub mod Members
+pub mod Changes
+pub mod Differences
+pub mod Opened
+pub mod Bulk
+pub mod Checkpoint

@@ -1,0 +1,279 @@
+//! A database that is reached over a connection.
+ghost use Rattle.std.specs.Prelude.{◌≡◌, ℕ, ◌≤◌, length, [], IfErr, IfOk};
+ghost use Rattle.http_client.specs.Front.{IsResponseAt, response_at};
+ghost use Rattle.http_client.specs.declared.incoming.ResponseFault.TheVariants as response_fault;
+ghost use Rattle.replicator.specs.Call.{CountsFailed};
+ghost use Rattle.replicator.specs.declared.fault.PeerFault.TheVariants as peer_fault;
+ghost use Rattle.streams.specs.Counts.{CountRose};
+ghost use Rattle.replicator_http.specs.Asked.{Fails, HasCome, after, fault_of};
+ghost use Rattle.replicator_http.specs.Connection.{Connection, state_after};
+ghost use Rattle.replicator_http.specs.Goes.{Goes};
+ghost use Rattle.replicator_http.specs.declared.state.State.TheVariants as state;
+
+use crate::requests::{
+    bulk_request, changes_request, diff_request, filtered_changes_request, local_get_request,
+    local_put_request, open_revs_request,
+};
+use crate::state::State;
+use crate::told::{
+    bulk_told, checkpoint_told, counter_told, differences_told, opened_told, page_told,
+};
+use commands::{Merge, NamedRevisions};
+use document_id::{DocId, DocIds};
+use http_client::{Incoming, ResponseFault, ResponseSpans};
+use queries::{ChangesPage, Differences};
+use replicator::{Checkpoint, Opened, Peer, PeerFault};
+use revision_id::RevId;
+use std::alloc::Global;
+use std::marker::Model;
+use streams::{Sink, Source, write_all};
+
+/// A database that is reached over a connection: its requests go to a sink, and its responses come
+/// from a source. They answer the requests in their order, so bytes that come behind a response belong
+/// to the next one.
+///
+/// The connection is given up where a request was not written whole, or its response was not read. From
+/// then on nothing is written and nothing read, and each call that has the memory for its request is
+/// [`PeerFault::Failed`] after a write or a read that failed or an input that ended inside a response,
+/// and else [`PeerFault::Unreadable`].
+pub struct HttpPeer<R: Source, W: Sink> {
+    reader: R,
+    writer: W,
+    incoming: Incoming,
+    state: State,
+    failures: u64,
+}
+
+impl<R: Source + Drop, W: Sink + Drop> Drop for HttpPeer<R, W> {
+    fn drop(self) {
+        let HttpPeer {
+            reader: _,
+            writer: _,
+            incoming: _,
+            state: _,
+            failures: _,
+        } = self;
+    }
+}
+
+impl<R: Source, W: Sink> Model for HttpPeer<R, W> {
+    ghost use Rattle.replicator_http.specs.Connection.{Connection};
+
+    ghost Value = { Connection };
+
+    ghost view = { λ p. record {
+      left = R.left p.reader;
+      failed_reads = R.failed_reads p.reader;
+      taken = W.taken p.writer;
+      failed_writes = W.failed_writes p.writer;
+      come = p.incoming;
+      state = p.state;
+      failed_calls = p.failures;
+    } };
+}
+
+impl<R: Source, W: Sink> HttpPeer<R, W> {
+    /// A peer over a connection on which nothing has been asked.
+    pub fn new(alloc: Global, reader: R, writer: W) -> HttpPeer<R, W>
+        ensures { result ≡ record {
+          left = R.left reader;
+          failed_reads = R.failed_reads reader;
+          taken = W.taken writer;
+          failed_writes = W.failed_writes writer;
+          come = [];
+          state = state.Open;
+          failed_calls = 0;
+        } }
+    {
+        HttpPeer {
+            reader,
+            writer,
+            incoming: Incoming::new(alloc),
+            state: State::Open,
+            failures: 0,
+        }
+    }
+
+    /// The source and the sink. What has come and was not taken is lost.
+    pub fn into_parts(self) -> (R, W)
+        ensures left { R.left result.0 ≡ self.left }
+        ensures failed_reads { R.failed_reads result.0 ≡ self.failed_reads }
+        ensures taken { W.taken result.1 ≡ self.taken }
+        ensures failed_writes { W.failed_writes result.1 ≡ self.failed_writes }
+    {
+        let HttpPeer {
+            reader,
+            writer,
+            incoming: _,
+            state: _,
+            failures: _,
+        } = self;
+        (reader, writer)
+    }
+
+    /// Writes a request, and reads until a whole response has come, unless the connection is given up.
+    fn ask(&mut self, request: &str) -> Result<ResponseSpans, PeerFault>
+        ensures come { IfOk result (HasCome request.now self.old self.new) }
+        ensures fault { IfErr result (Fails request.now self.old self.new) }
+        ensures failures { CountsFailed self.old.failed_calls self.new.failed_calls result }
+    {
+        match self.state {
+            State::Open => self.exchange(request),
+            State::Failed => Err(fail(&mut self.failures)),
+            State::Unreadable => Err(PeerFault::Unreadable),
+        }
+    }
+
+    /// Writes a request, and reads until a whole response has come. The connection is given up where
+    /// none has.
+    fn exchange(&mut self, request: &str) -> Result<ResponseSpans, PeerFault>
+        requires { self.old.state ≡ state.Open }
+        ensures come { IfOk result (HasCome request.now self.old self.new) }
+        ensures fault { IfErr result (Fails request.now self.old self.new) }
+        ensures failures { CountsFailed self.old.failed_calls self.new.failed_calls result }
+    {
+        let Ok(()) = write_all(&mut self.writer, request.as_bytes()) else {
+            self.state = State::Failed;
+            return Err(fail(&mut self.failures));
+        };
+        match self.incoming.read_response(&mut self.reader) {
+            Ok(spans) => Ok(spans),
+            Err(fault) => {
+                self.state = state_after(fault);
+                Err(fault_of(&mut self.failures, fault))
+            }
+        }
+    }
+
+    /// The body of the response that has come.
+    fn body(&self, response: ResponseSpans) -> &[u8]
+        requires { IsResponseAt self.now.come response }
+        ensures { result.now ≡ (response_at self.now.come response).body }
+    {
+        response.body(self.incoming.bytes())
+    }
+
+    /// Takes the response away. The bytes behind it stay.
+    fn take(&mut self, response: ResponseSpans)
+        requires { IsResponseAt self.old.come response }
+        ensures { self.new ≡ after self.old response }
+    {
+        self.incoming.take(response.taken());
+    }
+}
+
+/// Counts a failure.
+fn fail(failures: &mut u64) -> PeerFault
+    ensures count { CountRose failures.old failures.new }
+    ensures failed { result ≡ peer_fault.Failed }
+{
+    *failures = failures.saturating_add(1);
+    PeerFault::Failed
+}
+
+/// Why there is no response, as a peer answers it; a failure is counted.
+fn fault_of(failures: &mut u64, fault: ResponseFault) -> PeerFault
+    ensures fault { result ≡ fault_of fault }
+    ensures count { CountsFailed {A = ℕ} failures.old failures.new (Err result) }
+{
+    match fault {
+        ResponseFault::Ended | ResponseFault::ReadFailed => fail(failures),
+        ResponseFault::Unreadable => PeerFault::Unreadable,
+        ResponseFault::Memory => PeerFault::Memory,
+    }
+}
+
+/// How a connection goes on after a response that was not read.
+fn state_after(fault: ResponseFault) -> State
+    ensures { result ≡ state_after fault }
+{
+    match fault {
+        ResponseFault::Ended | ResponseFault::ReadFailed => State::Failed,
+        ResponseFault::Unreadable | ResponseFault::Memory => State::Unreadable,
+    }
+}
+
+impl<R: Source, W: Sink> Peer for HttpPeer<R, W> {
+    ghost goes = { Goes };
+
+    ghost failed_calls = { λ p. p.failed_calls };
+
+    fn changes(&mut self, alloc: Global, since: u64, limit: u64) -> Result<ChangesPage, PeerFault> {
+        let request = changes_request(alloc, since, limit)?;
+        let response = self.ask(request.as_str())?;
+        let page = page_told(alloc, response.status, self.body(response));
+        self.take(response);
+        page
+    }
+
+    /// One request has the whole list. A server that takes no body so large refuses it, which is
+    /// [`PeerFault::Unreadable`].
+    fn changes_of(
+        &mut self,
+        alloc: Global,
+        ids: &DocIds,
+        since: u64,
+        limit: u64,
+    ) -> Result<ChangesPage, PeerFault> {
+        let request = filtered_changes_request(alloc, ids, since, limit)?;
+        let response = self.ask(request.as_str())?;
+        let page = page_told(alloc, response.status, self.body(response));
+        self.take(response);
+        page
+    }
+
+    fn diff(&mut self, alloc: Global, asked: &NamedRevisions) -> Result<Differences, PeerFault> {
+        let request = diff_request(alloc, asked)?;
+        let response = self.ask(request.as_str())?;
+        let differences = differences_told(alloc, response.status, self.body(response));
+        self.take(response);
+        differences
+    }
+
+    fn open_revs(
+        &mut self,
+        alloc: Global,
+        id: &DocId,
+        revs: &[RevId],
+    ) -> Result<Opened, PeerFault> {
+        let request = open_revs_request(alloc, id, revs)?;
+        let response = self.ask(request.as_str())?;
+        let opened = opened_told(alloc, response.status, self.body(response));
+        self.take(response);
+        opened
+    }
+
+    fn bulk(&mut self, alloc: Global, documents: &[Merge]) -> Result<(), PeerFault> {
+        let request = bulk_request(alloc, documents)?;
+        let response = self.ask(request.as_str())?;
+        let taken = bulk_told(alloc, response.status, self.body(response));
+        self.take(response);
+        taken
+    }
+
+    fn local_get(&mut self, alloc: Global, id: &DocId) -> Result<Option<Checkpoint>, PeerFault> {
+        let request = local_get_request(alloc, id)?;
+        let response = self.ask(request.as_str())?;
+        let checkpoint = checkpoint_told(alloc, response.status, self.body(response));
+        self.take(response);
+        checkpoint
+    }
+
+    fn local_put(
+        &mut self,
+        alloc: Global,
+        id: &DocId,
+        named: Option<u32>,
+        last_seq: u64,
+    ) -> Result<u32, PeerFault> {
+        let request = local_put_request(alloc, id, named, last_seq)?;
+        let response = self.ask(request.as_str())?;
+        let counter = counter_told(alloc, response.status, self.body(response));
+        self.take(response);
+        counter
+    }
+
+    fn failures(&self) -> u64 {
+        self.failures
+    }
+}

@@ -1,0 +1,186 @@
+//! An end that counts the documents that pass it, and reports what keeps a replication from going on.
+ghost use Rattle.std.specs.Prelude.{◌≡◌, ◌≤◌, length};
+ghost use Rattle.replicator.specs.Wanted.{given_in, given_of};
+ghost use Rattle.replicator_run.specs.Counted.{Counts, and_more};
+
+use crate::large::large_in;
+use crate::watch::Watch;
+use commands::{Merge, NamedRevisions};
+use document_id::{DocId, DocIds};
+use queries::{ChangesPage, Differences};
+use replicator::{Checkpoint, Opened, Peer, PeerFault};
+use revision_id::RevId;
+use std::alloc::Global;
+use std::marker::Model;
+
+/// An end, and how many documents it gave or took. It reports where it has written its checkpoint, where
+/// it ends before the number after which changes are asked for, and of a document that no bulk can hold.
+#[derive(Drop)]
+pub(crate) struct Counted<P, W> {
+    peer: P,
+    passed: u64,
+    watch: W,
+}
+
+impl<P, W> Model for Counted<P, W> {
+    ghost use Rattle.replicator_run.specs.Counted.{Counted};
+
+    ghost Value = { Counted P };
+
+    ghost view = { λ c. record { end = c.peer; passed = c.passed } };
+}
+
+impl<P: Peer, W: Watch> Counted<P, W> {
+    /// An end that no document has passed.
+    pub(crate) fn new(peer: P, watch: W) -> Counted<P, W>
+        ensures { result ≡ record { end = peer; passed = 0 } }
+    {
+        Counted {
+            peer,
+            passed: 0,
+            watch,
+        }
+    }
+
+    /// How many documents have passed, or 2^64 - 1 where more have.
+    pub(crate) fn passed(&self) -> u64
+        ensures { result ≡ self.now.passed }
+    {
+        self.passed
+    }
+
+    /// Counts documents that passed.
+    fn count(&mut self, documents: usize)
+        ensures end { self.new.end ≡ self.old.end }
+        ensures passed { self.new.passed ≡ and_more self.old.passed documents }
+    {
+        self.passed = self.passed.saturating_add(documents as u64);
+    }
+}
+
+/// How many documents are given.
+fn given(revisions: &[Result<Merge, RevId>]) -> usize
+    ensures { result ≡ length (given_in revisions.now) }
+{
+    let mut given = 0;
+    for revision in revisions {
+        given += documents_in(revision);
+    }
+    given
+}
+
+fn documents_in(revision: &Result<Merge, RevId>) -> usize
+    ensures documents { result ≡ length (given_of revision.now) }
+    ensures one { result ≤ 1 }
+{
+    match revision {
+        Ok(_) => 1,
+        Err(_) => 0,
+    }
+}
+
+/// Reports where the changes end before the number after which they were asked for.
+fn tell_end<W: Watch>(watch: &W, since: u64, last_seq: u64) {
+    if last_seq < since {
+        watch.past_end(since, last_seq);
+    }
+}
+
+/// Reports of a document that no bulk can hold, where the answer to its bulk can't be read.
+fn tell_large<W: Watch>(watch: &W, alloc: Global, documents: &[Merge], fault: PeerFault) {
+    let PeerFault::Unreadable = fault else {
+        return;
+    };
+    let Ok(Some((id, len))) = large_in(alloc, documents) else {
+        return;
+    };
+    watch.large_document(id, len);
+}
+
+impl<P: Peer, W: Watch> Peer for Counted<P, W> {
+    ghost goes = { Counts P.goes };
+
+    ghost failed_calls = { λ c. P.failed_calls c.end };
+
+    fn changes(&mut self, alloc: Global, since: u64, limit: u64) -> Result<ChangesPage, PeerFault> {
+        match self.peer.changes(alloc, since, limit) {
+            Ok(page) => {
+                tell_end(&self.watch, since, page.last_seq);
+                Ok(page)
+            }
+            Err(fault) => Err(fault),
+        }
+    }
+
+    fn changes_of(
+        &mut self,
+        alloc: Global,
+        ids: &DocIds,
+        since: u64,
+        limit: u64,
+    ) -> Result<ChangesPage, PeerFault> {
+        match self.peer.changes_of(alloc, ids, since, limit) {
+            Ok(page) => {
+                tell_end(&self.watch, since, page.last_seq);
+                Ok(page)
+            }
+            Err(fault) => Err(fault),
+        }
+    }
+
+    fn diff(&mut self, alloc: Global, asked: &NamedRevisions) -> Result<Differences, PeerFault> {
+        self.peer.diff(alloc, asked)
+    }
+
+    fn open_revs(
+        &mut self,
+        alloc: Global,
+        id: &DocId,
+        revs: &[RevId],
+    ) -> Result<Opened, PeerFault> {
+        match self.peer.open_revs(alloc, id, revs) {
+            Ok(opened) => {
+                self.count(given(&opened.revisions));
+                Ok(opened)
+            }
+            Err(fault) => Err(fault),
+        }
+    }
+
+    fn bulk(&mut self, alloc: Global, documents: &[Merge]) -> Result<(), PeerFault> {
+        match self.peer.bulk(alloc, documents) {
+            Ok(()) => {
+                self.count(documents.len());
+                Ok(())
+            }
+            Err(fault) => {
+                tell_large(&self.watch, alloc, documents, fault);
+                Err(fault)
+            }
+        }
+    }
+
+    fn local_get(&mut self, alloc: Global, id: &DocId) -> Result<Option<Checkpoint>, PeerFault> {
+        self.peer.local_get(alloc, id)
+    }
+
+    fn local_put(
+        &mut self,
+        alloc: Global,
+        id: &DocId,
+        named: Option<u32>,
+        last_seq: u64,
+    ) -> Result<u32, PeerFault> {
+        match self.peer.local_put(alloc, id, named, last_seq) {
+            Ok(counter) => {
+                self.watch.checkpoint(last_seq, self.passed);
+                Ok(counter)
+            }
+            Err(fault) => Err(fault),
+        }
+    }
+
+    fn failures(&self) -> u64 {
+        self.peer.failures()
+    }
+}

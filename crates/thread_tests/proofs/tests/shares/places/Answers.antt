@@ -1,5 +1,0 @@
-use Rattle.snapshots.proofs.Crossing.{crosses}
-use Rattle.thread_tests.proofs.tests.shares.places.Goals as goal
-
-pub join-requires-send-F : goal.join-requires-send-F
-join-requires-send-F g c κs within = search crosses depth 60

@@ -1,7 +1,0 @@
-use Rattle.std.proofs.Common.{List, Option, drop}
-use Rattle.updating.specs.Outcomes.{Fate, GivesUp}
-use Rattle.updating.proofs.outcomes.give_up_all.Given as goal
-
--- what the rest of the jobs come to, all of them come to
-abbrev pub invariant-loop-job : goal.invariant-loop-job
-invariant-loop-job g l = (last : List (Option Fate)) → GivesUp g.J.Opening.config.max_places l.current (drop l.job-index l.jobs) l.outcomes.items last → GivesUp g.J.Opening.config.max_places l.current l.jobs l.initial.outcomes.items last

@@ -1,4 +1,0 @@
-use Rattle.updating.proofs.outcomes.tell.Goals as goal
-
-pub returns : goal.returns
-returns g c = c.exchange-older.ensures
