@@ -16,6 +16,10 @@ pub record Streams : Type 0 where
   pub taken : Option (List ℕ)
   pub failed_writes : ℕ
 
+-- the same, by what is left, the failed reads, what was taken and the failed writes
+abbrev pub streams_of : Option (List ℕ) → ℕ → Option (List ℕ) → ℕ → Streams
+streams_of left failed_reads taken failed_writes = record { left = left; failed_reads = failed_reads; taken = taken; failed_writes = failed_writes }
+
 -- the count of failed reads rose where a read ended the connection, and else stayed
 abbrev pub CountsReads : Cause → ℕ → ℕ → Type 0
 CountsReads cause.ReadFault old new = CountRose old new

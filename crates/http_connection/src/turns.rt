@@ -1,5 +1,5 @@
 //! The turns of a connection.
-ghost use Rattle.http_connection.specs.Served.{EndsInput, Served, Streams};
+ghost use Rattle.http_connection.specs.Served.{EndsInput, Served, streams_of};
 
 use crate::answering::Service;
 use crate::outcome::{Cause, Ended};
@@ -20,18 +20,8 @@ pub fn serve<C, R: Source, W: Sink, S: Service<C>>(
     context: &C,
 ) -> Ended
     ensures { Served (S.answers context.now)
-        (record {
-          left = R.left reader.old;
-          failed_reads = R.failed_reads reader.old;
-          taken = W.taken writer.old;
-          failed_writes = W.failed_writes writer.old;
-        })
-        (record {
-          left = R.left reader.new;
-          failed_reads = R.failed_reads reader.new;
-          taken = W.taken writer.new;
-          failed_writes = W.failed_writes writer.new;
-        })
+        (streams_of (R.left reader.old) (R.failed_reads reader.old) (W.taken writer.old) (W.failed_writes writer.old))
+        (streams_of (R.left reader.new) (R.failed_reads reader.new) (W.taken writer.new) (W.failed_writes writer.new))
         service.old service.new result }
 {
     window.clear();

@@ -1,6 +1,6 @@
 //! What the program does with its standard streams where the history is asked for.
 ghost use Rattle.std.specs.Prelude.{◌≡◌, None};
-ghost use Rattle.http_connection.specs.Served.{Streams};
+ghost use Rattle.http_connection.specs.Served.{streams_of};
 ghost use Rattle.history_lock.specs.Names.{IsNamed};
 ghost use Rattle.http_front.specs.Opening.{program_config};
 ghost use Rattle.http_front.specs.Dumping.{DumpsOnce, WritesDump};
@@ -29,18 +29,8 @@ pub fn run_dump<R: Source, W: Sink, A: AllocGlobal + Wait + Clock>(
     rt: &A,
 ) -> u8
     ensures { DumpsOnce None
-        (record {
-          left = R.left reader.old;
-          failed_reads = R.failed_reads reader.old;
-          taken = W.taken writer.old;
-          failed_writes = W.failed_writes writer.old;
-        })
-        (record {
-          left = R.left reader.new;
-          failed_reads = R.failed_reads reader.new;
-          taken = W.taken writer.new;
-          failed_writes = W.failed_writes writer.new;
-        })
+        (streams_of (R.left reader.old) (R.failed_reads reader.old) (W.taken writer.old) (W.failed_writes writer.old))
+        (streams_of (R.left reader.new) (R.failed_reads reader.new) (W.taken writer.new) (W.failed_writes writer.new))
         result }
 {
     let Ok(opened) = Opened::new(rt.alloc(), config(1)) else {
@@ -60,18 +50,8 @@ fn dump_opened<J: Opening, T: Wait + Drop, R: Source, W: Sink, A: AllocGlobal + 
     requires named { IsNamed J.book J.base J.table J.capacity J.sessions J.config opened }
     requires config { opened.config ≡ program_config 1 }
     ensures { DumpsOnce J.base
-        (record {
-          left = R.left reader.old;
-          failed_reads = R.failed_reads reader.old;
-          taken = W.taken writer.old;
-          failed_writes = W.failed_writes writer.old;
-        })
-        (record {
-          left = R.left reader.new;
-          failed_reads = R.failed_reads reader.new;
-          taken = W.taken writer.new;
-          failed_writes = W.failed_writes writer.new;
-        })
+        (streams_of (R.left reader.old) (R.failed_reads reader.old) (W.taken writer.old) (W.failed_writes writer.old))
+        (streams_of (R.left reader.new) (R.failed_reads reader.new) (W.taken writer.new) (W.failed_writes writer.new))
         result }
 {
     let mut nowhere = Nowhere;

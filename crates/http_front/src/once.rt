@@ -1,6 +1,6 @@
 //! What the program does with its standard streams.
 ghost use Rattle.std.specs.Prelude.{◌≡◌, [], ◌∷◌, IfSome, IfNone, None};
-ghost use Rattle.http_connection.specs.Served.{Streams};
+ghost use Rattle.http_connection.specs.Served.{streams_of};
 ghost use Rattle.sessions.specs.Known.{fresh};
 ghost use Rattle.history_lock.specs.Names.{IsNamed};
 ghost use Rattle.http_front.specs.Once.{ServesDatabase, ServesOnce, exit_status};
@@ -38,18 +38,8 @@ pub fn run_once<R: Source, W: Sink, A: AllocGlobal + Wait + Clock>(
     rt: &A,
 ) -> u8
     ensures { ServesOnce None
-        (record {
-          left = R.left reader.old;
-          failed_reads = R.failed_reads reader.old;
-          taken = W.taken writer.old;
-          failed_writes = W.failed_writes writer.old;
-        })
-        (record {
-          left = R.left reader.new;
-          failed_reads = R.failed_reads reader.new;
-          taken = W.taken writer.new;
-          failed_writes = W.failed_writes writer.new;
-        })
+        (streams_of (R.left reader.old) (R.failed_reads reader.old) (W.taken writer.old) (W.failed_writes writer.old))
+        (streams_of (R.left reader.new) (R.failed_reads reader.new) (W.taken writer.new) (W.failed_writes writer.new))
         result }
 {
     let Ok(opened) = Opened::new(rt.alloc(), config(1)) else {
@@ -69,18 +59,8 @@ fn once_opened<J: Opening, T: Wait + Drop, R: Source, W: Sink, A: AllocGlobal + 
     requires named { IsNamed J.book J.base J.table J.capacity J.sessions J.config opened }
     requires config { opened.config ≡ program_config 1 }
     ensures { ServesOnce J.base
-        (record {
-          left = R.left reader.old;
-          failed_reads = R.failed_reads reader.old;
-          taken = W.taken writer.old;
-          failed_writes = W.failed_writes writer.old;
-        })
-        (record {
-          left = R.left reader.new;
-          failed_reads = R.failed_reads reader.new;
-          taken = W.taken writer.new;
-          failed_writes = W.failed_writes writer.new;
-        })
+        (streams_of (R.left reader.old) (R.failed_reads reader.old) (W.taken writer.old) (W.failed_writes writer.old))
+        (streams_of (R.left reader.new) (R.failed_reads reader.new) (W.taken writer.new) (W.failed_writes writer.new))
         result }
 {
     let Some((ended, _closed)) = serve_opened::<J, T, R, W, A>(
@@ -110,18 +90,8 @@ pub(crate) fn serve_opened<
     requires named { IsNamed J.book J.base J.table J.capacity J.sessions J.config opened }
     requires config { opened.config ≡ program_config 1 }
     ensures served { IfSome result (λ served. ServesDatabase J.base (program_config 1)
-        (record {
-          left = R.left reader.old;
-          failed_reads = R.failed_reads reader.old;
-          taken = W.taken writer.old;
-          failed_writes = W.failed_writes writer.old;
-        })
-        (record {
-          left = R.left reader.new;
-          failed_reads = R.failed_reads reader.new;
-          taken = W.taken writer.new;
-          failed_writes = W.failed_writes writer.new;
-        })
+        (streams_of (R.left reader.old) (R.failed_reads reader.old) (W.taken writer.old) (W.failed_writes writer.old))
+        (streams_of (R.left reader.new) (R.failed_reads reader.new) (W.taken writer.new) (W.failed_writes writer.new))
         served.0 served.1) }
     ensures same_reader { IfNone result (reader.new ≡ reader.old) }
     ensures same_writer { IfNone result (writer.new ≡ writer.old) }

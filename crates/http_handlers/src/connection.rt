@@ -1,6 +1,6 @@
 //! The connections of a session.
 ghost use Rattle.std.specs.Prelude.{◌≡◌};
-ghost use Rattle.http_connection.specs.Served.{Streams};
+ghost use Rattle.http_connection.specs.Served.{streams_of};
 ghost use Rattle.http_handlers.specs.Answers.{Answers};
 ghost use Rattle.http_handlers.specs.Connection.{IsConnection};
 
@@ -72,18 +72,8 @@ pub fn serve<R: Source, W: Sink, X, S: Calls<X>>(
     setting: &Setting<'_, X>,
 ) -> Ended
     ensures connection { IsConnection S.goes S.known setting.now
-        (record {
-          left = R.left reader.old;
-          failed_reads = R.failed_reads reader.old;
-          taken = W.taken writer.old;
-          failed_writes = W.failed_writes writer.old;
-        })
-        (record {
-          left = R.left reader.new;
-          failed_reads = R.failed_reads reader.new;
-          taken = W.taken writer.new;
-          failed_writes = W.failed_writes writer.new;
-        })
+        (streams_of (R.left reader.old) (R.failed_reads reader.old) (W.taken writer.old) (W.failed_writes writer.old))
+        (streams_of (R.left reader.new) (R.failed_reads reader.new) (W.taken writer.new) (W.failed_writes writer.new))
         session.old session.new result }
 {
     let Ok(mut window) = Window::new(alloc) else {
@@ -102,18 +92,8 @@ pub(crate) fn serve_in<R: Source, W: Sink, X, S: Calls<X>>(
     setting: &Setting<'_, X>,
 ) -> Ended
     ensures connection { IsConnection S.goes S.known setting.now
-        (record {
-          left = R.left reader.old;
-          failed_reads = R.failed_reads reader.old;
-          taken = W.taken writer.old;
-          failed_writes = W.failed_writes writer.old;
-        })
-        (record {
-          left = R.left reader.new;
-          failed_reads = R.failed_reads reader.new;
-          taken = W.taken writer.new;
-          failed_writes = W.failed_writes writer.new;
-        })
+        (streams_of (R.left reader.old) (R.failed_reads reader.old) (W.taken writer.old) (W.failed_writes writer.old))
+        (streams_of (R.left reader.new) (R.failed_reads reader.new) (W.taken writer.new) (W.failed_writes writer.new))
         session.old session.new result }
 {
     let mut lent = Lent { session };
@@ -130,18 +110,8 @@ fn serve_lent<R: Source, W: Sink, X, S: Calls<X>>(
 ) -> Ended
     ensures same { lent.new.session.ghost_name ≡ lent.old.session.ghost_name }
     ensures connection { IsConnection S.goes S.known setting.now
-        (record {
-          left = R.left reader.old;
-          failed_reads = R.failed_reads reader.old;
-          taken = W.taken writer.old;
-          failed_writes = W.failed_writes writer.old;
-        })
-        (record {
-          left = R.left reader.new;
-          failed_reads = R.failed_reads reader.new;
-          taken = W.taken writer.new;
-          failed_writes = W.failed_writes writer.new;
-        })
+        (streams_of (R.left reader.old) (R.failed_reads reader.old) (W.taken writer.old) (W.failed_writes writer.old))
+        (streams_of (R.left reader.new) (R.failed_reads reader.new) (W.taken writer.new) (W.failed_writes writer.new))
         lent.old.session.now lent.new.session.now result }
 {
     let ended = http_connection::serve(window, reader, writer, lent, setting);

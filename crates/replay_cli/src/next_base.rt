@@ -1,7 +1,7 @@
 //! What the program does with its standard streams where the base of a next epoch is asked for.
 ghost use Rattle.std.specs.Prelude.{◌≡◌, ◌⊎◌, ◌↔◌, ℕ, List, Ok, Err, IfOk};
 ghost use Rattle.std.specs.Io.KnownBytes.{Consumes, IsAtEnd};
-ghost use Rattle.http_connection.specs.Served.{Streams};
+ghost use Rattle.http_connection.specs.Served.{streams_of};
 ghost use Rattle.streams.specs.Ends.{Ends};
 ghost use Rattle.replay_cli.specs.Input.{CountsReads};
 ghost use Rattle.replay_cli.specs.RunBase.{RunsBase, Given, given_status, given_text};
@@ -24,18 +24,8 @@ const NO_SUCCESSOR: u8 = 6;
 /// memory was refused, or a read or a write failed, it does as [`run_check`](crate::run_check).
 pub fn run_base<R: Source, W: Sink, A: AllocGlobal>(reader: &mut R, writer: &mut W, rt: &A) -> u8
     ensures { RunsBase
-        (record {
-          left = R.left reader.old;
-          failed_reads = R.failed_reads reader.old;
-          taken = W.taken writer.old;
-          failed_writes = W.failed_writes writer.old;
-        })
-        (record {
-          left = R.left reader.new;
-          failed_reads = R.failed_reads reader.new;
-          taken = W.taken writer.new;
-          failed_writes = W.failed_writes writer.new;
-        })
+        (streams_of (R.left reader.old) (R.failed_reads reader.old) (W.taken writer.old) (W.failed_writes writer.old))
+        (streams_of (R.left reader.new) (R.failed_reads reader.new) (W.taken writer.new) (W.failed_writes writer.new))
         result }
 {
     match follow_input(rt.alloc(), reader) {

@@ -1,7 +1,7 @@
 //! What the program does with its standard streams.
 ghost use Rattle.std.specs.Prelude.{◌≡◌, ◌⊎◌, ℕ, List, IfOk};
 ghost use Rattle.std.specs.Io.KnownBytes.{Consumes, IsAtEnd};
-ghost use Rattle.http_connection.specs.Served.{Streams};
+ghost use Rattle.http_connection.specs.Served.{streams_of};
 ghost use Rattle.streams.specs.Ends.{Ends};
 ghost use Rattle.replay_cli.specs.Verdicts.{IsVerdict};
 ghost use Rattle.replay_cli.specs.Input.{CountsReads};
@@ -24,18 +24,8 @@ pub(crate) const NO_MEMORY: u8 = 4;
 /// and 1 where a read or a write failed.
 pub fn run_check<R: Source, W: Sink, A: AllocGlobal>(reader: &mut R, writer: &mut W, rt: &A) -> u8
     ensures { RunsCheck
-        (record {
-          left = R.left reader.old;
-          failed_reads = R.failed_reads reader.old;
-          taken = W.taken writer.old;
-          failed_writes = W.failed_writes writer.old;
-        })
-        (record {
-          left = R.left reader.new;
-          failed_reads = R.failed_reads reader.new;
-          taken = W.taken writer.new;
-          failed_writes = W.failed_writes writer.new;
-        })
+        (streams_of (R.left reader.old) (R.failed_reads reader.old) (W.taken writer.old) (W.failed_writes writer.old))
+        (streams_of (R.left reader.new) (R.failed_reads reader.new) (W.taken writer.new) (W.failed_writes writer.new))
         result }
 {
     match check_input(rt.alloc(), reader) {

@@ -1,5 +1,5 @@
 -- The connection to another database, and what a request does on it.
-use Rattle.std.specs.Prelude.{◌≡◌, ◌⊎◌, ℕ, ◌<◌, List, ◌++◌, length, take, Option, Err}
+use Rattle.std.specs.Prelude.{◌≡◌, ◌⊎◌, ℕ, ◌<◌, List, [], ◌++◌, length, take, Option, Err}
 use Rattle.std.specs.Io.KnownBytes.{Appends, Consumes}
 use Rattle.streams.specs.Counts.{CountRose}
 use Rattle.http_client.specs.Incoming.{CountsReads, Reads}
@@ -22,6 +22,11 @@ pub record Connection : Type 0 where
   pub come : List ℕ
   pub state : State
   pub failed_calls : ℕ
+
+-- a connection on which nothing has been asked, by what is left, the failed reads, what was taken and the failed writes
+abbrev pub fresh_connection : Option (List ℕ) → ℕ → Option (List ℕ) → ℕ → Connection
+fresh_connection left failed_reads taken failed_writes =
+    record { left = left; failed_reads = failed_reads; taken = taken; failed_writes = failed_writes; come = []; state = state.Open; failed_calls = 0 }
 
 -- what became of a request
 -- RFC 9110, 3.4 "Messages"

@@ -1,12 +1,12 @@
 //! A database that is reached over a connection.
-ghost use Rattle.std.specs.Prelude.{◌≡◌, ℕ, ◌≤◌, length, [], IfErr, IfOk};
+ghost use Rattle.std.specs.Prelude.{◌≡◌, ℕ, ◌≤◌, length, IfErr, IfOk};
 ghost use Rattle.http_client.specs.Front.{IsResponseAt, response_at};
 ghost use Rattle.http_client.specs.declared.incoming.ResponseFault.TheVariants as response_fault;
 ghost use Rattle.replicator.specs.Call.{CountsFailed};
 ghost use Rattle.replicator.specs.declared.fault.PeerFault.TheVariants as peer_fault;
 ghost use Rattle.streams.specs.Counts.{CountRose};
 ghost use Rattle.replicator_http.specs.Asked.{Fails, HasCome, after, fault_of};
-ghost use Rattle.replicator_http.specs.Connection.{Connection, state_after};
+ghost use Rattle.replicator_http.specs.Connection.{Connection, fresh_connection, state_after};
 ghost use Rattle.replicator_http.specs.Goes.{Goes};
 ghost use Rattle.replicator_http.specs.declared.state.State.TheVariants as state;
 
@@ -75,15 +75,7 @@ impl<R: Source, W: Sink> Model for HttpPeer<R, W> {
 impl<R: Source, W: Sink> HttpPeer<R, W> {
     /// A peer over a connection on which nothing has been asked.
     pub fn new(alloc: Global, reader: R, writer: W) -> HttpPeer<R, W>
-        ensures { result ≡ record {
-          left = R.left reader;
-          failed_reads = R.failed_reads reader;
-          taken = W.taken writer;
-          failed_writes = W.failed_writes writer;
-          come = [];
-          state = state.Open;
-          failed_calls = 0;
-        } }
+        ensures { result ≡ fresh_connection (R.left reader) (R.failed_reads reader) (W.taken writer) (W.failed_writes writer) }
     {
         HttpPeer {
             reader,

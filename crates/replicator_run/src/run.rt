@@ -1,6 +1,6 @@
 //! A replication from its beginning to its end.
-ghost use Rattle.std.specs.Prelude.{◌≡◌, [], None, Some};
-ghost use Rattle.replicator_http.specs.Connection.{Connection};
+ghost use Rattle.std.specs.Prelude.{◌≡◌, None, Some};
+ghost use Rattle.replicator_http.specs.Connection.{fresh_connection};
 ghost use Rattle.replicator_http.specs.Goes.{Goes};
 ghost use Rattle.replicator_http.specs.declared.state.State.TheVariants as state;
 ghost use Rattle.replicator_run.specs.Report.{Replicates, fresh};
@@ -82,24 +82,8 @@ pub fn run_replication<
     W: Watch + Copy + Drop,
 >(alloc: Global, id: DocId, ids: Option<DocIds>, source: (A, B), target: (C, D), watch: W) -> Report
     ensures { Replicates Goes Goes (λ c. c.failed_calls) (λ c. c.failed_calls) id ids
-        (record {
-          left = A.left source.0;
-          failed_reads = A.failed_reads source.0;
-          taken = B.taken source.1;
-          failed_writes = B.failed_writes source.1;
-          come = [];
-          state = state.Open;
-          failed_calls = 0;
-        })
-        (record {
-          left = C.left target.0;
-          failed_reads = C.failed_reads target.0;
-          taken = D.taken target.1;
-          failed_writes = D.failed_writes target.1;
-          come = [];
-          state = state.Open;
-          failed_calls = 0;
-        })
+        (fresh_connection (A.left source.0) (A.failed_reads source.0) (B.taken source.1) (B.failed_writes source.1))
+        (fresh_connection (C.left target.0) (C.failed_reads target.0) (D.taken target.1) (D.failed_writes target.1))
         result }
 {
     let source = HttpPeer::new(alloc, source.0, source.1);
