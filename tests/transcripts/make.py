@@ -1,20 +1,19 @@
-#!/usr/bin/env python3
-"""Writes the transcripts and the examples: of each case the bytes of its requests, and what the reference answers; of an
-example also the dump of its history.
+"""Writes the stored transcripts and examples from their cases, or checks that they are as they would be written.
 
-    tests/transcripts/make.py            writes them
-    tests/transcripts/make.py --check    says which files are not as they would be written; status 1 where one is not
+Of each case it stores the bytes of its requests and what the reference answers, of an example also the dump of its history.
 
-The last line of a check is `N passed, M failed`.
+    python3 tests/transcripts/make.py            writes them
+    python3 tests/transcripts/make.py --check    says which files are not as they would be written; status 1 where one is not
 """
 import os
 import sys
 
 HERE = os.path.dirname(os.path.abspath(__file__))
-TESTS = os.path.dirname(HERE)
-sys.path[:0] = [TESTS, HERE]
+sys.path.insert(0, os.path.dirname(HERE))
 
-from cases import conflicts, edges, examples, filters, first_path, head_alone, purge_log, purges, queries, wire_edges  # noqa: E402
+from lib.checks import report  # noqa: E402
+from lib.programs import ROOT  # noqa: E402
+from transcripts.cases import conflicts, edges, examples, filters, first_path, head_alone, purge_log, purges, queries, wire_edges  # noqa: E402
 from reference import history, once  # noqa: E402
 
 # the cases of each folder
@@ -44,7 +43,7 @@ def files():
             path = os.path.join(HERE, folder, name)
             made[path + ".http"], made[path + ".expected"] = answers(requests)
     for name, requests in examples.CASES.items():
-        path = os.path.join(os.path.dirname(TESTS), "examples", name)
+        path = os.path.join(ROOT, "examples", name)
         made[path + ".http"], made[path + ".expected"] = answers(requests)
         made[path + ".dump"] = history.dump_of(b"".join(requests))
     return made
@@ -73,8 +72,7 @@ def main():
     if sys.argv[1:] == ["--check"]:
         for path in stale:
             print("not as it would be written: " + os.path.relpath(path))
-        print("%d passed, %d failed" % (len(made) - len(changed), len(stale)))
-        sys.exit(1 if stale else 0)
+        return report(len(made) - len(changed), len(stale))
     for path in stale:
         if path in made:
             os.makedirs(os.path.dirname(path), exist_ok=True)
@@ -83,6 +81,8 @@ def main():
         else:
             os.remove(path)
     print("%d files, %d written or removed" % (len(made), len(stale)))
+    return 0
 
 
-main()
+if __name__ == "__main__":
+    sys.exit(main())

@@ -4,7 +4,7 @@
 //! compactions that are made by slices, and `world` events of sessions, an updater and a compactor. Statements are
 //! with `;` between. `epochs` and `epoch_copies` are such rows in which `reopen` goes on over the end of a history, and
 //! `epoch_world` is a world of the epoch after some commands. `tests/rows` has the rows and what they must print.
-//! `steps` is a world whose events happen once more where they are refused memory: `tests/growths` refuses it.
+//! `steps` is a world whose events happen once more where they are refused memory: `tests/test_allocations.py` refuses it.
 #![tactic(auto)]
 
 mod answers;

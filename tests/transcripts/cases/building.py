@@ -2,7 +2,8 @@
 import hashlib
 from urllib.parse import quote
 
-from outside.requests import encoded, request
+from lib import requests
+from lib.requests import encoded, request
 
 
 def get(target, **more):
@@ -21,16 +22,14 @@ def delete(target, **more):
     return request("DELETE", target, **more)
 
 
+SENT_BY_CURL = ["Host: 127.0.0.1:5984", "User-Agent: curl/7.88.1", "Accept: */*"]
+FORM = "Content-Type: application/x-www-form-urlencoded"
+
+
 def curl(method, target, body=None, headers=()):
     """The bytes that curl sends for `curl -X METHOD -H HEADER -d BODY URL`."""
-    lines = ["%s %s HTTP/1.1" % (method, target), "Host: 127.0.0.1:5984", "User-Agent: curl/7.88.1", "Accept: */*"]
-    data = b"" if body is None else encoded(body)
-    lines += headers
-    if body is not None:
-        lines.append("Content-Length: %d" % len(data))
-        if not any(line.startswith("Content-Type") for line in headers):
-            lines.append("Content-Type: application/x-www-form-urlencoded")
-    return "".join(line + "\r\n" for line in lines).encode("utf-8") + b"\r\n" + data
+    is_form = body is not None and not any(line.startswith("Content-Type") for line in headers)
+    return request(method, target, body, [*SENT_BY_CURL, *headers], behind=[FORM] if is_form else [])
 
 
 JSON = ["Content-Type: application/json"]
@@ -62,7 +61,7 @@ def rev(generation, digit):
 
 
 def bulk(*documents, **members):
-    return post("/db/_bulk_docs", dict(docs=list(documents), **members))
+    return requests.bulk(list(documents), **members)
 
 
 def merge(*documents):

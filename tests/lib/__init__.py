@@ -1,0 +1,19 @@
+"""What the tests share. A script is run by its path, as `python3 tests/test_fuzz.py`, so `lib` and `reference` are found beside it.
+
+    checks         the count of what passed and failed
+    programs       the built programs, runs of them, and the arguments of a script
+    requests       requests as bytes
+    messages       responses and requests that come over a socket or a pipe
+    server         a running `couchd serve`, and connections to it
+    ends           ends of a replication: one that answers by a script, and a proxy in front of a server
+    audits         runs of `couchd dump`, `replay check` and `replay base`
+    transcripts    the stored requests and the responses to them
+    differential   the program and the second reading on the same requests
+    shims          libraries that are loaded in front of the C library
+    refusals       runs with requests for memory refused
+    refused_rows   rows of statements whose requests for memory are refused
+    based_dumps    dumps whose history begins from a base
+    crates         the crates, as crates.txt has them
+    generators     requests and bases at random
+    following      clients that follow some documents
+"""

@@ -1,0 +1,239 @@
+"""Runs the built programs with arguments of all kinds, and compares exit status, output and standard error with the texts of `clap`.
+
+    python3 tests/test_arguments.py [COUCHD REPLAY]
+
+Standard input holds a request each time, which only `couchd once` may answer, or a dump, which only `replay` may audit. Of streams
+that fail it compares what can still be written. `clap` is Rust's.
+"""
+import os
+import subprocess
+import sys
+
+from lib.checks import Checks
+from lib.programs import SECONDS, TESTS, arguments
+
+REQUEST = b"GET / HTTP/1.1\r\n\r\n"
+WELCOME = (
+    b"HTTP/1.1 200 OK\r\nContent-Type: application/json\r\nContent-Length: 21\r\nCouch-Place: 0\r\n\r\n"
+    b'{"couchdb":"Welcome"}'
+)
+
+DUMP = b'{"couch_history":1}\n'  # of the same request, which is no entry of a history
+
+SERVED, FAILED, UNREADABLE = 0, 1, 2
+NO_DUMP, UNREADABLE_OF_REPLAY = 3, 5
+
+HINT = "\nFor more information, try '--help'.\n"
+USAGE = "\nUsage: couchd <COMMAND>\n" + HINT
+USAGE_OF_ONCE = "\nUsage: couchd once\n" + HINT
+USAGE_OF_DUMP = "\nUsage: couchd dump\n" + HINT
+OPTIONS = "\nOptions:\n  -h, --help  Print help\n"
+
+USAGE_OF_SERVE = "\nUsage: couchd serve [OPTIONS]\n" + HINT
+NO_COMMAND = "error: 'couchd' requires a subcommand but one was not provided\n  [subcommands: once, dump, serve, replicate]\n" + USAGE
+NO_TEXT = "error: invalid UTF-8 was detected in one or more arguments\n" + USAGE
+ONCE = "Serves standard input to standard output"
+DUMPS = "Serves standard input, and writes the dump of its history at the end"
+SERVE = "Serves connections on a port of 127.0.0.1"
+REPLICATE = "Brings the changes of one database to another"
+COMMANDS = (
+    "\nCommands:\n  once       " + ONCE + "\n  dump       " + DUMPS + "\n  serve      " + SERVE + "\n  replicate  " + REPLICATE + "\n"
+)
+HELP = "A replicating document store\n\nUsage: couchd <COMMAND>\n" + COMMANDS + OPTIONS
+HELP_OF_DUMP = DUMPS + "\n\nUsage: couchd dump\n" + OPTIONS
+HELP_OF_ONCE = ONCE + "\n\nUsage: couchd once\n" + OPTIONS
+OPTIONS_OF_SERVE = (
+    "\nOptions:\n"
+    "      --port <PORT>                The port, or 0 for any that is free [default: 5984]\n"
+    "      --workers <WORKERS>          How many connections are served at a time [default: 4]\n"
+    "      --connections <CONNECTIONS>  How many connections each worker serves before it ends, or 0 for no end [default: 0]\n"
+    "  -h, --help                       Print help\n"
+)
+HELP_OF_SERVE = SERVE + "\n\nUsage: couchd serve [OPTIONS]\n" + OPTIONS_OF_SERVE
+REQUIRED_BY_REPLICATE = "--source <HOST:PORT> --target <HOST:PORT> --id <ID>\n"
+USAGE_OF_REPLICATE = "\nUsage: couchd replicate " + REQUIRED_BY_REPLICATE
+HELP_OF_REPLICATE = (
+    REPLICATE + "\n\nUsage: couchd replicate [OPTIONS] " + REQUIRED_BY_REPLICATE + "\nOptions:\n"
+    "      --source <HOST:PORT>  Where the changes come from; the host is a numeric address\n"
+    "      --target <HOST:PORT>  Where they are brought to\n"
+    "      --id <ID>             The id of the checkpoints, 1 to 512 bytes, not beginning with '_'\n"
+    "      --doc-ids <IDS>       Brings these documents alone: ids between commas, a comma or '%' in one escaped as in a path; an ID goes with one list\n"
+    "  -h, --help                Print help\n"
+)
+NO_SOURCE = "error: the source is no numeric address with a port\n" + USAGE
+NO_TARGET = "error: the target is no numeric address with a port\n" + USAGE
+NO_ID = "error: the id has not 1 to 512 bytes, or begins with '_'\n" + USAGE
+NO_LIST = "error: the list of documents has an id that is no text of 1 to 512 bytes\n" + USAGE
+
+
+def replication(source, target, id):
+    return ["replicate", "--source", source, "--target", target, "--id", id]
+
+
+def with_list(listed):
+    return replication("127.0.0.1:1", "[::1]:1", "r") + ["--doc-ids", listed]
+
+
+def unknown_command(name):
+    return "error: unrecognized subcommand '%s'\n" % name + USAGE
+
+
+def unexpected(argument, usage):
+    return "error: unexpected argument '%s' found\n" % argument + usage
+
+
+def out_of_range(value, option, least, most):
+    name = "--%s <%s>" % (option, option.upper())
+    return "error: invalid value '%s' for '%s': %s is not in %d..=%d\n" % (value, name, value, least, most) + HINT
+
+
+def no_number(value, option):
+    name = "--%s <%s>" % (option, option.upper())
+    return "error: invalid value '%s' for '%s': invalid digit found in string\n" % (value, name) + HINT
+
+
+# arguments that name no run, with the text that says so
+REFUSED = [
+    ([], NO_COMMAND),
+    (["twice"], unknown_command("twice")),
+    (["ONCE"], unknown_command("ONCE")),
+    (["help"], unknown_command("help")),
+    (["--port"], unexpected("--port", USAGE)),
+    (["once", "more"], unexpected("more", USAGE_OF_ONCE)),
+    (["once", "once"], unexpected("once", USAGE_OF_ONCE)),
+    (["dump", "more"], unexpected("more", USAGE_OF_DUMP)),
+    (["dump", "--help"], HELP_OF_DUMP),
+    (["--help"], HELP),
+    (["-h"], HELP),
+    (["once", "--help"], HELP_OF_ONCE),
+    (["once", "-h"], HELP_OF_ONCE),
+    (["serve", "--help"], HELP_OF_SERVE),
+    (["serve", "more"], unexpected("more", USAGE_OF_SERVE)),
+    (["serve", "--port", "65536"], out_of_range("65536", "port", 0, 65535)),
+    (["serve", "--port", "http"], no_number("http", "port")),
+    (["serve", "--workers", "0"], out_of_range("0", "workers", 1, 64)),
+    (["serve", "--workers=0"], out_of_range("0", "workers", 1, 64)),
+    (["serve", "--workers=65"], out_of_range("65", "workers", 1, 64)),
+    (["serve", "--connections", "4294967296"], out_of_range("4294967296", "connections", 0, 4294967295)),
+    (["serve", "--connections", "many"], no_number("many", "connections")),
+    (["serve", "--port"], "error: a value is required for '--port <PORT>' but none was supplied\n" + HINT),
+    (
+        ["serve", "--port", "1", "--port", "2"],
+        "error: the argument '--port <PORT>' cannot be used multiple times\n" + USAGE_OF_SERVE,
+    ),
+    (["replicate", "--help"], HELP_OF_REPLICATE),
+    (
+        ["replicate", "--source", "127.0.0.1:1"],
+        "error: the following required arguments were not provided:\n  --target <HOST:PORT>\n  --id <ID>\n" + USAGE_OF_REPLICATE + HINT,
+    ),
+    (
+        ["replicate", "--id", "r"],
+        "error: the following required arguments were not provided:\n  --source <HOST:PORT>\n  --target <HOST:PORT>\n" + USAGE_OF_REPLICATE + HINT,
+    ),
+    (replication("localhost:1", "127.0.0.1:1", "r"), NO_SOURCE),
+    (replication("localhost:1", "127.0.0.1", "_r"), NO_SOURCE),
+    (replication("127.0.0.1:1", "127.0.0.1", "r"), NO_TARGET),
+    (replication("127.0.0.1:1", "127.0.0.1:65536", "r"), NO_TARGET),
+    (replication("127.0.0.1:1", "[::1]:1", ""), NO_ID),
+    (replication("127.0.0.1:1", "[::1]:1", "r" * 513), NO_ID),
+    (replication("127.0.0.1:1", "[::1]:1", "_r"), NO_ID),
+    (replication("127.0.0.1:1", "[::1]:1", "_r") + ["--doc-ids", ""], NO_ID),
+    (with_list(""), NO_LIST),
+    (with_list(",a"), NO_LIST),
+    (with_list("a,,b"), NO_LIST),
+    (with_list("a,b,"), NO_LIST),
+    (with_list("a,%C3"), NO_LIST),
+    (with_list("%ff"), NO_LIST),
+    (with_list("a," + "b" * 513), NO_LIST),
+    ([b"\xff"], NO_TEXT),
+    (["once", b"\xc3"], NO_TEXT),
+    ([b"once\xff"], NO_TEXT),
+]
+
+USAGE_OF_REPLAY = "\nUsage: replay <COMMAND>\n" + HINT
+USAGE_OF_CHECK = "\nUsage: replay check\n" + HINT
+USAGE_OF_BASE = "\nUsage: replay base\n" + HINT
+CHECK = "Tells whether standard input is the dump of a legal history"
+BASE = "Writes the first line of the next history's dump, if standard input is the dump of a legal one"
+NO_COMMAND_OF_REPLAY = (
+    "error: 'replay' requires a subcommand but one was not provided\n  [subcommands: check, base]\n" + USAGE_OF_REPLAY
+)
+HELP_OF_REPLAY = (
+    "An audit of the histories of a document store\n\nUsage: replay <COMMAND>\n\n"
+    "Commands:\n  check  " + CHECK + "\n  base   " + BASE + "\n" + OPTIONS
+)
+
+# arguments of `replay base` that name no run
+REFUSED_OF_BASE = [
+    (["base", "--help"], BASE + "\n\nUsage: replay base\n" + OPTIONS),
+    (["base", "-h"], BASE + "\n\nUsage: replay base\n" + OPTIONS),
+    (["base", "more"], unexpected("more", USAGE_OF_BASE)),
+    (["base", "base"], unexpected("base", USAGE_OF_BASE)),
+    (["base", "check"], unexpected("check", USAGE_OF_BASE)),
+    (["base", "--port"], unexpected("--port", USAGE_OF_BASE)),
+    (["check", "base"], unexpected("base", USAGE_OF_CHECK)),
+    (["BASE"], "error: unrecognized subcommand 'BASE'\n" + USAGE_OF_REPLAY),
+    ([b"base\xff"], "error: invalid UTF-8 was detected in one or more arguments\n" + USAGE_OF_REPLAY),
+    (["base", b"\xff"], "error: invalid UTF-8 was detected in one or more arguments\n" + USAGE_OF_REPLAY),
+]
+
+# arguments of `replay` that name no run, with the text that says so
+REFUSED_BY_REPLAY = [
+    ([], NO_COMMAND_OF_REPLAY),
+    (["dump"], "error: unrecognized subcommand 'dump'\n" + USAGE_OF_REPLAY),
+    (["help"], "error: unrecognized subcommand 'help'\n" + USAGE_OF_REPLAY),
+    (["--help"], HELP_OF_REPLAY),
+    (["check", "--help"], CHECK + "\n\nUsage: replay check\n" + OPTIONS),
+    (["check", "more"], unexpected("more", USAGE_OF_CHECK)),
+    ([b"check\xff"], "error: invalid UTF-8 was detected in one or more arguments\n" + USAGE_OF_REPLAY),
+    *REFUSED_OF_BASE,
+]
+
+
+def run(program, given, source=None, out=subprocess.PIPE):
+    """The status, the output and the standard error of the program with these arguments."""
+    stdin = {"input": REQUEST} if source is None else {"stdin": source}
+    ended = subprocess.run([program, *given], stdout=out, stderr=subprocess.PIPE, timeout=SECONDS, **stdin)
+    return ended.returncode, ended.stdout, ended.stderr.decode()
+
+
+def outcomes(couchd, replay):
+    """Of each run its name, what became of it, and what must become of it."""
+    for given, text in REFUSED:
+        yield "couchd %s" % given, run(couchd, given), (UNREADABLE, b"", text)
+    for given, text in REFUSED_BY_REPLAY:
+        yield "replay %s" % given, run(replay, given), (UNREADABLE_OF_REPLAY, b"", text)
+    with open(os.devnull, "rb") as nothing:
+        for program, word, full, empty in [
+            (couchd, "once", (SERVED, WELCOME, ""), (SERVED, b"", "")),
+            (couchd, "dump", (SERVED, DUMP, ""), (SERVED, DUMP, "")),
+            (replay, "check", (NO_DUMP, b"unreadable line 1\n", ""), (NO_DUMP, b"unreadable line 1\n", "")),
+            (replay, "base", (NO_DUMP, b"unreadable line 1\n", ""), (NO_DUMP, b"unreadable line 1\n", "")),
+        ]:
+            yield word, run(program, [word]), full
+            yield "no input of " + word, run(program, [word], nothing), empty
+            yield "output of %s that can't be written" % word, run_full(program, word), FAILED
+    folder = os.open(TESTS, os.O_RDONLY)
+    yield "input of once that can't be read", run(couchd, ["once"], folder)[:2], (FAILED, b"")
+    yield "input of dump that can't be read", run(couchd, ["dump"], folder)[:2], (FAILED, DUMP)
+    yield "input of check that can't be read", run(replay, ["check"], folder)[:2], (FAILED, b"")
+    yield "input of base that can't be read", run(replay, ["base"], folder)[:2], (FAILED, b"")
+    os.close(folder)
+
+
+def run_full(program, word):
+    """The status of a run whose output has no room."""
+    with open("/dev/full", "wb") as full:
+        return run(program, [word], None, full)[0]
+
+
+def main():
+    given = arguments(__doc__, "couchd", "replay").parse_args()
+    checks = Checks()
+    for name, found, wanted in outcomes(given.couchd, given.replay):
+        checks.check(found == wanted, "%s\n  wanted %r\n  found  %r", name, wanted, found)
+    return checks.report()
+
+
+if __name__ == "__main__":
+    sys.exit(main())

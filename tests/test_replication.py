@@ -1,0 +1,513 @@
+"""Runs `couchd replicate` between two servers, with ends that fail or lie and without memory, and looks at what both hold afterwards.
+
+    python3 tests/test_replication.py [--seeds N] [--pairs N] [COUCHD]
+
+First a worked row: two conflicting leaves come to an empty target, both ends have one checkpoint, and a second run writes
+nothing. Then an end that nobody listens at, and ends that fail or lie, by a proxy between the program and a server: the
+target takes the documents and the connection is cut; the source's checkpoint is cut; the source leaves a revision out; the
+target lists a refusal, or answers a bulk by what is no list, or no JSON. After each failure a run without it brings all.
+Then a run whose standard error is a terminal, which reports each batch. Then replications of listed documents: a worked
+row, ids that have to be escaped, lists that are none, and a source that answers with a document that isn't on the list, or
+with no page of changes; and 100 pairs of databases, each edited at random, between which replications of disjoint lists
+bring together what one without a list brings, each what it lists alone, as the reference puts two databases together. Then
+databases that conflicting writers edit at random, replicated in both directions until neither has news for the other: each
+write is taken, some documents have conflicts, and both hold the same leaves and the same winners. At last each request for
+memory of a replication is refused in turn, for all documents and for a list. It needs a C compiler.
+"""
+import itertools
+import json
+import os
+import pty
+import random
+import re
+import socket
+import subprocess
+import sys
+from urllib.parse import quote
+
+from lib.checks import Checks
+from lib.ends import Proxy, replicate, replication
+from lib.programs import SECONDS, arguments
+from lib.refusals import refuser, was_refused
+from lib.requests import encoded
+from lib.server import Connection, Server
+from reference import bodies, queries
+from reference.database import Database, Refused
+
+BATCH = 100  # changes that a replication reads at once
+DOCUMENTS = 6  # that the writers of one seed share
+EDITS = 12  # of each database before the two meet, and after
+LISTS = 4  # at most, of disjoint documents, between the two of one pair
+
+A, B, C = [digit * 32 for digit in "abc"]  # hashes of revisions
+
+# what is reported of a replication of two revisions that is refused memory
+OUT_OF_MEMORY = re.compile(r"documents read [0-2], written [0-2]: out of memory\n")
+
+# what is reported of a replication that is done
+DONE = re.compile(r"documents read (\d+), written (\d+): done\n")
+
+CHECKS = Checks()
+check = CHECKS.check
+
+
+class End(Server):
+    """A running server, and one connection to it."""
+
+    def __init__(self, program):
+        super().__init__(program, "--workers", "3")
+        self.connection = Connection(self.port)
+
+    def stop(self):
+        self.connection.close()
+        super().stop()
+
+    def ask(self, method, target, body=None):
+        """The status and the value of the response to a request."""
+        return self.connection.ask(method, target, body)
+
+    def place(self):
+        """How many entries the history has."""
+        self.ask("GET", "/db")
+        return self.connection.place
+
+    def leaves(self, id):
+        """Each leaf with its path, whether it is deleted, and its body; and the winner."""
+        leaves = self.ask("GET", "/db/%s?open_revs=all&revs=true" % id)[1]
+        winner = self.ask("GET", "/db/%s" % id)[1]
+        return sorted(json.dumps(leaf, sort_keys=True) for leaf in leaves), winner.get("_rev", winner.get("reason"))
+
+    def live(self, id):
+        """The revisions of the leaves that are not deleted."""
+        _, leaves = self.ask("GET", "/db/%s?open_revs=all" % id)
+        return [leaf["ok"]["_rev"] for leaf in leaves if isinstance(leaf, dict) and "ok" in leaf and "_deleted" not in leaf["ok"]]
+
+
+def reported(read, written, ending):
+    return "documents read %d, written %d: %s\n" % (read, written, ending)
+
+
+def document(id, *path):
+    """A document with its path, as it goes to a replica."""
+    start = int(path[0].split("-")[0])
+    return {"_id": id, "_revisions": {"start": start, "ids": [rev.split("-")[1] for rev in path]}}
+
+
+def conflict(server, id="d"):
+    """Two leaves over one parent."""
+    one, other = document(id, "2-" + B, "1-" + A), document(id, "2-" + C, "1-" + A)
+    check(server.ask("POST", "/db/_bulk_docs", {"docs": [one, other], "new_edits": False}) == (201, []), "no conflict is made")
+
+
+def has_conflict(server, id="d"):
+    leaves, winner = server.leaves(id)
+    wanted = [
+        {"ok": {"_id": id, "_rev": "2-" + hash, "_revisions": {"ids": [hash, A], "start": 2}}} for hash in (B, C)
+    ]
+    check(leaves == sorted(json.dumps(leaf, sort_keys=True) for leaf in wanted), "leaves %r", leaves)
+    check(winner == "2-" + C, "the winner is %r", winner)
+
+
+def checkpoint(server, id):
+    """The revision and the number of a checkpoint, if there is one."""
+    status, value = server.ask("GET", "/db/_local/" + id)
+    return None if status == 404 else (value["_rev"], value["last_seq"])
+
+
+def checkpoints_are(source, target, id, of_source, of_target):
+    check(checkpoint(source, id) == of_source, "the source's checkpoint is %r", checkpoint(source, id))
+    check(checkpoint(target, id) == of_target, "the target's checkpoint is %r", checkpoint(target, id))
+
+
+def ran_as(ran, status, text):
+    check(ran[:2] == (status, text), "status %d, %r in place of %d, %r", ran.status, ran.output, status, text)
+    check(ran.errors == "", "standard error %r", ran.errors)
+
+
+def worked(program):
+    """A conflict comes to an empty target, once."""
+    with End(program) as source, End(program) as target:
+        conflict(source)
+        ran_as(replicate(program, source.port, target.port, "r"), 0, reported(2, 2, "done"))
+        has_conflict(target)
+        checkpoints_are(source, target, "r", ("0-1", 2), ("0-1", 2))
+        places = source.place(), target.place()
+        ran_as(replicate(program, source.port, target.port, "r"), 0, reported(0, 0, "done"))
+        check((source.place(), target.place()) == places, "a second run writes")
+
+
+def unreachable(program):
+    """An end that nobody listens at."""
+    with socket.socket() as closed, End(program) as end:
+        closed.bind(("127.0.0.1", 0))  # so that nobody else takes its port
+        port = closed.getsockname()[1]
+        for source, target, name in (port, port, "source"), (port, end.port, "source"), (end.port, port, "target"):
+            ran = replicate(program, source, target, "r")
+            wanted = 1, "", "couchd: cannot reach the %s at 127.0.0.1:%d\n" % (name, port)
+            check(ran == wanted, "%r where nobody listens as %s", ran, name)
+
+
+def is_of(request, method, path):
+    return request.startswith(b"%s /db/%s" % (method, path))
+
+
+def cut_after_bulk(request, answer):
+    return None if answer and is_of(request, b"POST", b"_bulk_docs") else answer
+
+
+def cut_before_checkpoint(request, answer):
+    return None if is_of(request, b"PUT", b"_local/") else answer
+
+
+def leave_out(request, answer):
+    if not answer or b"open_revs=" not in request.split(b"\r\n", 1)[0]:
+        return answer
+    return json.dumps([leaf for leaf in json.loads(answer) if leaf["ok"]["_rev"] != "2-" + B]).encode()
+
+
+REFUSAL = b'[{"error":"forbidden","id":"d","reason":"no"}]'
+
+
+def answers_bulk(text):
+    """Answers a bulk by this text."""
+    return lambda request, answer: text if answer and is_of(request, b"POST", b"_bulk_docs") else answer
+
+
+def failing(program):
+    """Each end fails or lies once; then a run without it brings all."""
+    rows = [
+        ("target", cut_after_bulk, 1, reported(2, 0, "the target failed"), None, None, reported(0, 0, "done"), ("0-1", 2), ("0-1", 2)),
+        ("source", cut_before_checkpoint, 1, reported(2, 2, "the source failed"), None, ("0-1", 2), reported(0, 0, "done"), ("0-1", 2), ("0-2", 2)),
+        ("source", leave_out, 3, reported(1, 0, "an answer can't be read"), None, None, reported(2, 2, "done"), ("0-1", 2), ("0-1", 2)),
+        ("target", answers_bulk(REFUSAL), 3, reported(2, 0, "a write was refused"), None, None, reported(0, 0, "done"), ("0-1", 2), ("0-1", 2)),
+        ("target", answers_bulk(b"{}"), 3, reported(2, 0, "a write was refused"), None, None, reported(0, 0, "done"), ("0-1", 2), ("0-1", 2)),
+        ("target", answers_bulk(b"["), 3, reported(2, 0, "an answer can't be read"), None, None, reported(0, 0, "done"), ("0-1", 2), ("0-1", 2)),
+    ]
+    for end, change, status, text, at_source, at_target, again, last_source, last_target in rows:
+        with End(program) as source, End(program) as target:
+            conflict(source)
+            proxy = Proxy(source.port if end == "source" else target.port, change)
+            ports = (proxy.port, target.port) if end == "source" else (source.port, proxy.port)
+            ran_as(replicate(program, *ports, "r"), status, text)
+            proxy.join()
+            checkpoints_are(source, target, "r", at_source, at_target)
+            ran_as(replicate(program, source.port, target.port, "r"), 0, again)
+            has_conflict(target)
+            checkpoints_are(source, target, "r", last_source, last_target)
+
+
+def read_terminal(terminal):
+    """All that was written to a terminal that nobody has open any more."""
+    text = b""
+    while True:
+        try:
+            piece = os.read(terminal, 65536)
+        except OSError:
+            return text
+        if not piece:
+            return text
+        text += piece
+
+
+def progress(program):
+    """Each batch of 100 changes is a line on standard error, where that is a terminal, and else nothing."""
+    with End(program) as source, End(program) as target:
+        docs = [{"_id": "d%d" % number} for number in range(BATCH + 1)]
+        check(source.ask("POST", "/db/_bulk_docs", {"docs": docs})[0] == 201, "no documents are made")
+        terminal, errors = pty.openpty()
+        words = replication(program, source.port, target.port, "t")
+        ran = subprocess.run(words, stdin=subprocess.DEVNULL, stdout=subprocess.PIPE, stderr=errors, timeout=SECONDS)
+        os.close(errors)
+        lines = read_terminal(terminal).decode()
+        os.close(terminal)
+        found = ran.returncode, ran.stdout.decode()
+        wanted = 0, reported(BATCH + 1, BATCH + 1, "done")
+        check(found == wanted, "%r on a terminal in place of %r", found, wanted)
+        has_documents(target, *(doc["_id"] for doc in docs))
+        wanted = "".join("checkpoint %d: documents read %d\r\n" % (last, last) for last in (BATCH, BATCH + 1))
+        check(lines == wanted, "%r on the terminal in place of %r", lines, wanted)
+        ran_as(replicate(program, source.port, target.port, "u"), 0, reported(0, 0, "done"))
+
+
+# ---- listed documents
+
+
+def as_list(ids):
+    """The ids as the program takes a list of them."""
+    return ",".join(quote(id, safe="") for id in ids)
+
+
+def put(server, *ids):
+    for id in ids:
+        check(server.ask("PUT", "/db/" + quote(id, safe=""), {})[0] == 201, "%s isn't made", id)
+
+
+def has_documents(server, *ids):
+    _, listed = server.ask("GET", "/db/_all_docs")
+    found = [row["id"] for row in listed["rows"]]
+    check(found == sorted(ids, key=str.encode), "the documents %r in place of %r", found, ids)
+
+
+def listed_documents(program):
+    """A document comes alone to an empty target, once, and later its next revision."""
+    with End(program) as source, End(program) as target:
+        put(source, "a", "b", "c")
+        ran_as(replicate(program, source.port, target.port, "r", "b"), 0, reported(1, 1, "done"))
+        has_documents(target, "b")
+        checkpoints_are(source, target, "r", ("0-1", 3), ("0-1", 3))
+        places = source.place(), target.place()
+        ran_as(replicate(program, source.port, target.port, "r", "b"), 0, reported(0, 0, "done"))
+        check((source.place(), target.place()) == places, "a second run writes")
+        for id in "b", "a":
+            rev = source.ask("GET", "/db/" + id)[1]["_rev"]
+            check(source.ask("PUT", "/db/%s?rev=%s" % (id, rev), {"n": 1})[0] == 201, "%s isn't changed", id)
+        ran_as(replicate(program, source.port, target.port, "r", "b"), 0, reported(1, 1, "done"))
+        has_documents(target, "b")
+        check(source.leaves("b") == target.leaves("b"), "other leaves of b")
+        checkpoints_are(source, target, "r", ("0-2", 5), ("0-2", 5))
+
+
+def lists(program):
+    """Ids that are escaped, that come twice, and that no document has; and lists that are none."""
+    with End(program) as source, End(program) as target:
+        put(source, "x,y", "100%", "é", "other")
+        ids = ["é", "100%", "zz", "x,y", "100%"]
+        ran_as(replicate(program, source.port, target.port, "r", as_list(ids)), 0, reported(3, 3, "done"))
+        has_documents(target, "x,y", "100%", "é")
+        ran_as(replicate(program, source.port, target.port, "none", "zz"), 0, reported(0, 0, "done"))
+        for listed in "", "a,", ",a", "a,,b", "%ff", "x" * 513:
+            status, text, errors = replicate(program, source.port, target.port, "r", listed)
+            wanted = "error: the list of documents has an id that is no text of 1 to 512 bytes\n"
+            check((status, text) == (2, ""), "status %d, %r for the list %r", status, text, listed)
+            check(errors.startswith(wanted), "%r for the list %r", errors, listed)
+
+
+def is_list_of_changes(request):
+    return is_of(request, b"POST", b"_changes?")
+
+
+def other_row(request, answer):
+    """Answers for a list with a document that isn't on it."""
+    if not answer or not is_list_of_changes(request):
+        return answer
+    page = json.loads(answer)
+    page["results"] = [{**row, "id": "a"} for row in page["results"]]
+    return json.dumps(page).encode()
+
+
+def no_page(request, answer):
+    """Answers for a list with what is no page of changes."""
+    return b'{"results":"b"}' if answer and is_list_of_changes(request) else answer
+
+
+def lying_lists(program):
+    """A source answers with another document, or with no page; nothing is written, and a run without it brings the list."""
+    for change in other_row, no_page:
+        with End(program) as source, End(program) as target:
+            put(source, "a", "b")
+            proxy = Proxy(source.port, change)
+            ran_as(replicate(program, proxy.port, target.port, "r", "b"), 3, reported(0, 0, "an answer can't be read"))
+            proxy.join()
+            has_documents(target)
+            checkpoints_are(source, target, "r", None, None)
+            ran_as(replicate(program, source.port, target.port, "r", "b"), 0, reported(1, 1, "done"))
+            has_documents(target, "b")
+
+
+def dealt(dice, ids):
+    """The ids, each on one of a few lists, beside one that no document has."""
+    lists = [[] for _ in range(dice.randrange(1, LISTS + 1))]
+    for id in ids:
+        dice.choice(lists).append(id)
+    for number, listed in enumerate(lists):
+        listed.insert(dice.randrange(len(listed) + 1), "none-%d" % number)
+    return lists
+
+
+def counts(ran):
+    """How many documents a run that is done read and wrote."""
+    done = DONE.fullmatch(ran[1]) if ran[0] == 0 else None
+    check(done is not None, "a replication ends with %r", ran)
+    return [int(count) for count in done.groups()] if done else [0, 0]
+
+
+def together(id, *servers):
+    """What `leaves` gives for a document where all that the servers have of it is in one database, by the reference."""
+    database = Database()
+    for server in servers:
+        _, leaves = server.ask("GET", "/db/%s?open_revs=all&revs=true" % id)
+        merges, _ = bodies.bulk_changes(encoded({"docs": [leaf["ok"] for leaf in leaves], "new_edits": False}))
+        check(not any(isinstance(reply, Refused) for reply in database.bulk(merges)), "the leaves of %s contradict one another", id)
+    leaves = queries.open_revs(database, id, None, queries.Options(revs=True))
+    try:
+        winner = queries.get(database, id, None, queries.Options())["_rev"]
+    except Refused as refusal:
+        winner = refusal.kind
+    return sorted(json.dumps(leaf, sort_keys=True) for leaf in leaves), winner
+
+
+def by_lists(program, source, target, lists, order, pair):
+    """Replicates each list in turn, and gives the counts of each run. Behind each run the documents that were listed are those of both
+    databases together, and the others are as they were."""
+    ids = [id for listed in lists for id in listed]
+    held = {id: target.leaves(id) for id in ids}
+    parts = []
+    for number in order:
+        for id in lists[number]:
+            held[id] = together(id, target, source)
+        parts.append(counts(replicate(program, source.port, target.port, "list-%d" % number, as_list(lists[number]))))
+        for id in ids:
+            found = target.leaves(id)
+            check(found == held[id], "%s of pair %d: %r behind list %d, in place of %r", id, pair, found, number, held[id])
+    return parts
+
+
+def disjoint_lists(program, pairs):
+    """What replications of disjoint lists bring together is what one without a list brings to a database that was the same."""
+    brought = 0
+    for pair in range(pairs):
+        dice = random.Random("pair %d" % pair)
+        ids = ["p%d" % number for number in range(DOCUMENTS)]
+        with End(program) as source, End(program) as some, End(program) as whole:
+            for _ in range(dice.randrange(EDITS)):
+                edit(whole, dice, ids)
+            counts(replicate(program, whole.port, some.port, "before"))
+            lists = dealt(dice, ids)
+            for _ in range(2):
+                for _ in range(EDITS):
+                    edit(source, dice, ids)
+                order = dice.sample(range(len(lists)), len(lists))
+                parts = by_lists(program, source, some, lists, order, pair)
+                at_once = counts(replicate(program, source.port, whole.port, "whole"))
+                sums = [sum(column) for column in zip(*parts)]
+                check(sums == at_once, "pair %d: %r by lists, %r at once", pair, sums, at_once)
+                for id in ids:
+                    listed, without = some.leaves(id), whole.leaves(id)
+                    check(listed == without, "%s of pair %d: %r by lists, %r at once", id, pair, listed, without)
+                brought += at_once[1]
+    print("disjoint lists: %d documents brought" % brought)
+    check(brought > 0 or pairs == 0, "nothing was brought")
+
+
+# ---- databases that are edited at random
+
+
+def edit(server, dice, ids):
+    """One write: a new document, a change of the winner or of a conflict, a deletion, or a conflict more. Nobody else writes to
+    the server meanwhile, so each must succeed."""
+    id = dice.choice(ids)
+    live = server.live(id)
+    parent = dice.choice(live) if live else None
+    kind = dice.random()
+    if kind < 0.15 and parent is not None:
+        status, value = server.ask("DELETE", "/db/%s?rev=%s" % (id, parent))
+        check(status == 200, "%d, %r for a deletion", status, value)
+    elif kind < 0.35:
+        rev = "%d-%032x" % (dice.randrange(1, 4), dice.getrandbits(128))
+        document = {"_id": id, "_rev": rev, "n": dice.random().hex()}
+        status, value = server.ask("POST", "/db/_bulk_docs", {"docs": [document], "new_edits": False})
+        check((status, value) == (201, []), "%d, %r for a merge", status, value)
+    else:
+        target = "/db/%s" % id + ("?rev=" + parent if parent else "")
+        status, value = server.ask("PUT", target, {"n": dice.random().hex()})
+        check(status == 201, "%d, %r for a PUT", status, value)
+
+
+def settle(program, one, other, seed):
+    """Replicates in both directions until neither writes."""
+    for _ in range(4):
+        there = replicate(program, one.port, other.port, "there")
+        back = replicate(program, other.port, one.port, "back")
+        if (there[0], back[0]) != (0, 0):
+            check(False, "a replication ends with %r, %r", there, back)
+            return
+        if there[1] == back[1] == reported(0, 0, "done"):
+            return
+    check(False, "replications of seed %d don't come to an end", seed)
+
+
+def random_edits(program, seeds):
+    conflicts = 0  # documents with more than one leaf that is not deleted
+    with End(program) as one, End(program) as other:
+        for seed in range(seeds):
+            dice = random.Random(seed)
+            ids = ["s%d-%d" % (seed, number) for number in range(DOCUMENTS)]
+            for _ in range(2):
+                for server in (one, other):
+                    for _ in range(EDITS):
+                        edit(server, dice, ids)
+                settle(program, one, other, seed)
+            for id in ids:
+                here, there = one.leaves(id), other.leaves(id)
+                check(here == there, "%s of seed %d: %r here, %r there", id, seed, here, there)
+                conflicts += len(one.live(id)) > 1
+    print("edits at random: %d documents with a conflict" % conflicts)
+    check(conflicts > 0 or seeds == 0, "no document has a conflict")
+
+
+# ---- memory
+
+
+def is_out_of_memory(ran):
+    return ran.status == 1 and OUT_OF_MEMORY.fullmatch(ran.output) is not None
+
+
+def check_refused(program, source, target, what, id, ran, listed):
+    """What a run reports that was refused memory, and what a run with memory then leaves."""
+    is_done = ran[:2] == (0, reported(2, 2, "done"))
+    is_right = is_done or is_out_of_memory(ran) or ran[:2] == (1, "")
+    check(is_right, "%s refused: status %d, %r, %r", what, *ran)
+    again = replicate(program, source.port, target.port, id, listed)
+    check(again.status == 0, "after %s: %r", what, again)
+    has_conflict(target)
+    last = checkpoint(target, id)
+    check(last in (("0-1", 2), ("0-2", 2)), "after %s: the target's checkpoint is %r", what, last)
+    last = checkpoint(source, id)
+    check(last == ("0-1", 2), "after %s: the source's checkpoint is %r", what, last)
+
+
+def refused(program, runs, name, listed=None):
+    """Each request for memory of one replication is refused; a run with memory then comes to the same end. A refusal may be made
+    good; else it is reported, or nothing is where it comes before the first request to a server. The servers have all their memory."""
+    numbers = itertools.count(1)
+    with End(program) as source:
+        conflict(source)
+
+        def attempt(env):
+            number = next(numbers)
+            id = "m%d" % number
+            with End(program) as target:
+                ran = replicate(program, source.port, target.port, id, listed, env)
+                if was_refused(ran):
+                    check_refused(program, source, target, "request %d of %s" % (number, name), id, ran, listed)
+            return ran
+
+        *found, _ample = runs.in_turn(attempt)
+    reports = sum(map(is_out_of_memory, found))
+    print("%s: %d requests for memory, of which %d are reported as out of memory" % (name, len(found), reports))
+    check(reports > 0, "no request of %s that was refused is reported as out of memory", name)
+
+
+def main():
+    reader = arguments(__doc__, "couchd")
+    reader.add_argument("--seeds", type=int, default=200)
+    reader.add_argument("--pairs", type=int, default=100)
+    given = reader.parse_args()
+    program = given.couchd
+    worked(program)
+    unreachable(program)
+    failing(program)
+    progress(program)
+    listed_documents(program)
+    lists(program)
+    lying_lists(program)
+    disjoint_lists(program, given.pairs)
+    random_edits(program, given.seeds)
+    with refuser() as runs:
+        refused(program, runs, "a replication")
+        refused(program, runs, "a replication of a list", "none,d%2c,d")
+    return CHECKS.report()
+
+
+if __name__ == "__main__":
+    sys.exit(main())

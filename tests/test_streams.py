@@ -1,0 +1,124 @@
+"""Runs the built program on an input and an output that fail behind each byte, and on an output that takes a byte at a time.
+
+    python3 tests/test_streams.py [COUCHD]
+
+An input of two requests fails behind each of its bytes: `couchd once` must have answered those that came whole, `couchd dump` have
+them in its history, and both end with status 1. The output fails behind each of its bytes too, and answers are written a byte at a
+time. What must be written is the reference's. `couchd serve` fails to write the response to a write behind its tenth byte: the entry
+is there on the next connection. It needs a C compiler.
+"""
+import hashlib
+import resource
+import socket
+import subprocess
+import sys
+import tempfile
+
+from lib import shims
+from lib.checks import Checks
+from lib.programs import SECONDS, arguments
+from lib.requests import request
+from lib.server import Connection, Server
+from reference import once
+from reference.history import dump_of
+
+SERVED, FAILED = 0, 1
+
+PUT = request("PUT", "/db/a", "{}")
+INPUTS = [PUT, PUT + PUT, PUT + request("GET", "/db/a")]
+
+CHECKS = Checks()
+
+
+def failing_input(data):
+    """A socket that these bytes come from, and then a failure: its other end was closed with a byte unread."""
+    near, far = socket.socketpair()
+    near.send(b"?")
+    far.sendall(data)
+    far.close()
+    return near
+
+
+def run_on_failing_input(program, word, data):
+    """The status and the output."""
+    with failing_input(data) as source:
+        ran = subprocess.run([program, word], stdin=source, stdout=subprocess.PIPE, timeout=SECONDS)
+    return ran.returncode, ran.stdout
+
+
+def reads_that_fail(program):
+    data = PUT + PUT
+    for length in range(len(data)):
+        begun = data[:length]
+        for word, wanted in ("once", once.run(begun)[0]), ("dump", dump_of(begun)):
+            found = run_on_failing_input(program, word, begun)
+            CHECKS.check(found == (FAILED, wanted), "%s of %d bytes and a failure: %r in place of %r", word, length, found, wanted)
+
+
+def run_with_room(program, data, room):
+    """The status and the output, of which so many bytes can be written."""
+    with tempfile.TemporaryFile() as output:
+        # a write past the limit is a failure, since Python ignores the signal, and so does the program
+        ran = subprocess.run(
+            [program, "once"], input=data, stdout=output, timeout=SECONDS, restore_signals=False,
+            preexec_fn=lambda: resource.setrlimit(resource.RLIMIT_FSIZE, (room, room)),
+        )
+        output.seek(0)
+        return ran.returncode, output.read()
+
+
+def writes_that_fail(program):
+    for data in INPUTS:
+        wanted = once.run(data)[0]
+        for room in range(len(wanted) + 1):
+            found = run_with_room(program, data, room)
+            status = SERVED if room == len(wanted) else FAILED
+            CHECKS.check(found == (status, wanted[:room]), "%r, of whose output %d bytes can be written: %r", data, room, found)
+
+
+def written_pieces(words, data, env):
+    """The status, and what each write wrote."""
+    near, far = socket.socketpair(socket.AF_UNIX, socket.SOCK_SEQPACKET)
+    with subprocess.Popen(words, stdin=subprocess.PIPE, stdout=near, env=env) as process:
+        near.close()
+        process.stdin.write(data)
+        process.stdin.close()
+        pieces = list(iter(lambda: far.recv(65536), b""))
+        far.close()
+        return process.wait(SECONDS), pieces
+
+
+def writes_of_a_byte(program):
+    with shims.environment("pieces") as env:
+        for data in INPUTS:
+            for word, wanted in ("once", once.run(data)[0]), ("dump", dump_of(data)):
+                status, written = written_pieces([program, word], data, env)
+                found = status, b"".join(written)
+                CHECKS.check(found == (SERVED, wanted), "%s, a byte at a time: %r in place of %r", word, found, wanted)
+                CHECKS.check(all(len(piece) == 1 for piece in written), "%s: pieces of more than a byte", word)
+
+
+def entry_of_a_cut_response(program):
+    with shims.environment("cut") as env, Server(program, "--workers", "1", env=env) as server:
+        writer = Connection(server.port)
+        writer.socket.sendall(PUT)
+        while writer.more():
+            pass
+        CHECKS.check(writer.rest == b"HTTP/1.1 2", "of the response to a write comes %r", writer.rest)
+        reader = Connection(server.port)
+        found = reader.ask("GET", "/db/a")
+        wanted = 200, {"_id": "a", "_rev": "1-" + hashlib.md5(b"0,,{}").hexdigest()}
+        CHECKS.check((found, reader.place) == (wanted, 1), "behind a response that was cut there is %r at place %d", found, reader.place)
+
+
+def main():
+    program = arguments(__doc__, "couchd").parse_args().couchd
+    reads_that_fail(program)
+    writes_that_fail(program)
+    writes_of_a_byte(program)
+    entry_of_a_cut_response(program)
+    return CHECKS.report()
+
+
+if __name__ == "__main__":
+    sys.exit(main())
