@@ -102,8 +102,8 @@ impl<W: Write> Sink for Stream<W> {
     }
 }
 
-/// Reads, again where a signal interrupts the read.
-fn read_uninterrupted<R: Read>(reader: &mut R, buf: &mut [u8]) -> io::Result<usize>
+/// Reads, again where a signal interrupts the read, up to [`MAX_TRIES`] times in all.
+pub fn read_uninterrupted<R: Read>(reader: &mut R, buf: &mut [u8]) -> io::Result<usize>
     ensures within { IfOk result (λ n. n ≤ length buf.new) }
     ensures bytes { ReadConsumes (R.remaining reader.old) (R.remaining reader.new) result buf.new }
 {
@@ -116,8 +116,8 @@ fn read_uninterrupted<R: Read>(reader: &mut R, buf: &mut [u8]) -> io::Result<usi
     reader.read(buf)
 }
 
-/// Writes, again where a signal interrupts the write.
-fn write_uninterrupted<W: Write>(writer: &mut W, buf: &[u8]) -> io::Result<usize>
+/// Writes, again where a signal interrupts the write, up to [`MAX_TRIES`] times in all.
+pub fn write_uninterrupted<W: Write>(writer: &mut W, buf: &[u8]) -> io::Result<usize>
     ensures within { IfOk result (λ n. n ≤ length buf.now) }
     ensures bytes { WriteAppends (W.contents writer.old) (W.contents writer.new) result buf.now }
 {

@@ -11,8 +11,8 @@ mod sockets;
 mod traits;
 mod writes;
 
-pub use counted::Stream;
+pub use counted::{Stream, read_uninterrupted, write_uninterrupted};
 pub use ends::end_with;
 pub use sockets::set_up;
 pub use traits::{Failed, Sink, Source};
-pub use writes::{write_all, write_both};
+pub use writes::{write_all, write_both, write_next};

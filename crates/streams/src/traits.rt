@@ -38,6 +38,15 @@ pub trait Source {
     fn failures(&self) -> u64
         ensures { result ≡ failed_reads self.now };
 
+    /// Says that reads are for a next request, and whether some of it has come. A source that gives up
+    /// a peer in time counts the time from here. What is read before the first call is for a request of
+    /// which nothing has come.
+    fn awaits(&mut self, _begun: bool)
+        ensures left { left self.new ≡ left self.old }
+        ensures failures { failed_reads self.new ≡ failed_reads self.old }
+        ensures budget { budget self.new ≡ budget self.old }
+    {}
+
     /// So few bytes come that 64 bits count them.
     ghost is_countable: { (source : Self) → budget source < 2 ^ 64 };
 }
@@ -65,4 +74,11 @@ pub trait Sink {
     /// How many writes have failed, or 2^64 - 1 where more have.
     fn failures(&self) -> u64
         ensures { result ≡ failed_writes self.now };
+
+    /// Says that a next text is written, as a response or a piece of a feed. A sink that gives up a peer
+    /// in time counts the time from its first write.
+    fn begins(&mut self)
+        ensures taken { taken self.new ≡ taken self.old }
+        ensures failures { failed_writes self.new ≡ failed_writes self.old }
+    {}
 }

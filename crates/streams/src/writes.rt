@@ -26,6 +26,20 @@ pub fn write_all<W: Sink>(writer: &mut W, bytes: &[u8]) -> Result<(), Failed>
     Ok(())
 }
 
+/// Writes all the bytes as a next text.
+///
+/// # Errors
+///
+/// A write failed. A beginning of the bytes, not all, may have been written.
+pub fn write_next<W: Sink>(writer: &mut W, bytes: &[u8]) -> Result<(), Failed>
+    ensures written { Writes (W.taken writer.old) (W.taken writer.new) result bytes.now }
+    ensures failures { CountsFailure (W.failed_writes writer.old)
+        (W.failed_writes writer.new) result }
+{
+    writer.begins();
+    write_all(writer, bytes)
+}
+
 /// Writes a head and what is behind it as one text: in one write where both are short, as most
 /// responses are.
 ///
