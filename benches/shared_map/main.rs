@@ -1,7 +1,7 @@
-//! The shared map beside Rust's `BTreeMap`: how long its calls take, and how often they grow.
+//! The shared map beside Rust's `BTreeMap`: how long its calls take, and how often they allocate.
 //!
 //! The library takes its memory by `rattle_alloc` and `rattle_dealloc` below, so this program
-//! counts its growths.
+//! counts its allocations.
 
 #[path = "../clock.rs"]
 mod clock;
@@ -29,7 +29,7 @@ unsafe extern "C" {
     fn free(block: *mut c_void);
 }
 
-static GROWTHS: AtomicU64 = AtomicU64::new(0);
+static ALLOCATIONS: AtomicU64 = AtomicU64::new(0);
 
 /// Whether the library got a block, and which.
 #[repr(C)]
@@ -40,7 +40,7 @@ pub struct Grown {
 
 #[unsafe(no_mangle)]
 pub extern "C" fn rattle_alloc(size: usize, _align: usize) -> Grown {
-    GROWTHS.store(GROWTHS.load(Relaxed) + 1, Relaxed);
+    ALLOCATIONS.store(ALLOCATIONS.load(Relaxed) + 1, Relaxed);
     let block = NonNull::new(unsafe { malloc(size) });
     Grown {
         ok: block.is_some(),
@@ -55,11 +55,11 @@ pub unsafe extern "C" fn rattle_dealloc(block: *mut c_void) {
     unsafe { free(block) }
 }
 
-/// A run that inserts the keys: the height of the map, and how often it grew.
+/// A run that inserts the keys: the height of the map, and how often it allocated.
 fn insert(keys: &[u64]) -> (u64, u64) {
-    GROWTHS.store(0, Relaxed);
+    ALLOCATIONS.store(0, Relaxed);
     let height = unsafe { shared_map_insert(keys.as_ptr(), keys.len()) };
-    (height, GROWTHS.load(Relaxed))
+    (height, ALLOCATIONS.load(Relaxed))
 }
 
 /// The keys 0 to `len - 1` in an order that looks random.
@@ -178,10 +178,10 @@ fn times_at(len: u64) {
     );
     println!();
     for (keys, order) in [(&keys, "in no order"), (&in_order, "in their order")] {
-        let (height, growths) = self::insert(keys);
+        let (height, allocations) = self::insert(keys);
         println!(
-            "keys {order}: height {height}, growths for each insertion {:.1}",
-            growths as f64 / each
+            "keys {order}: height {height}, allocations for each insertion {:.1}",
+            allocations as f64 / each
         );
     }
 }

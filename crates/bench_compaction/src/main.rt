@@ -1,4 +1,4 @@
-//! A compaction of many documents by slices, for the program in `benches/compaction`.
+//! A compaction of many documents by slices, for the program in `benches/bench_compaction.py`.
 //!
 //! `bench_compaction N` writes N thousand documents of 10 revisions each, copies them by slices of
 //! 1,000, and lets the copy catch up with later writes and take their place. After each step it

@@ -1,4 +1,4 @@
-//! Whole runs on a shared map, for the program in `benches/shared_map`.
+//! Whole runs on a shared map, for the program in `benches/bench_shared_map.py`.
 #![tactic(auto)]
 
 use cow_index::CowMap;

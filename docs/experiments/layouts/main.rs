@@ -6,7 +6,7 @@
 //! copied and whose other parts are shared by counts of owners. Nothing is inserted or removed, so each
 //! does less than a real map would. The last is Rust's `BTreeMap`, which keeps no older version.
 
-#[path = "../clock.rs"]
+#[path = "../../../benches/clock.rs"]
 mod clock;
 
 use clock::used;

@@ -1,19 +1,17 @@
-#!/usr/bin/env python3
 """Times `couchd serve` under many connections that stay open, beside nginx where it is installed.
 
-    benches/serve/run [--seconds N] [--rounds N] [--only WORD] [--preload LIBRARY]... [PROGRAM]...
+    python3 benches/bench_serve.py [--seconds N] [--rounds N] [--only NAME] [--preload LIBRARY]... [--store] [COUCHD]...
 
-A PROGRAM is crates/couchd/out/couchd where none is given. Needs wrk. For GET of a document, PUT of a new one, a bulk of 100 and
+It needs wrk. For GET of a document, PUT of a new one, a bulk of 100 and
 `_changes` of 100 rows, at 1, 4, 16 and 64 connections: requests a second, the latency that half and 99 of 100 requests stay under,
 and the server's processor time a request. Each program runs once more with each LIBRARY in front of the C library, as another
 heap. nginx answers the GET alone, with `return 200` and as many bytes.
 
 All that a row of ratios compares is measured in turns, so often as there are rounds, and the best of each counts. A server is
-started for each measurement, with 10,000 documents, so that no run is slowed by what another one wrote.
+started for each measurement, with 10,000 documents, so that no run is slowed by what another one wrote. The ratios are of the
+rates over 16 connections to those over one, and of a GET to nginx.
 """
-import argparse
 import contextlib
-import json
 import os
 import re
 import shutil
@@ -23,10 +21,14 @@ import sys
 import tempfile
 import time
 
-HERE = os.path.dirname(os.path.abspath(__file__))
-PROGRAM = os.path.join(HERE, "..", "..", "crates", "couchd", "out", "couchd")
+from shared import machine
+from shared.ratios import Ratios, with_store
+
+from lib.programs import arguments, built, existing
+from lib.server import Connection, Server
+
 CONNECTIONS = [1, 4, 16, 64]
-TICKS = os.sysconf("SC_CLK_TCK")
+COMPARED = 16  # connections of the ratios that are stored
 LENGTH = 89  # of the body that answers the GET
 
 # each thread of wrk has ids of its own
@@ -61,25 +63,6 @@ OPERATIONS = {
 }
 
 
-def ask(port, method, target, body=b""):
-    with socket.create_connection(("127.0.0.1", port)) as connection:
-        connection.sendall(b"%s %s HTTP/1.1\r\nConnection: close\r\nContent-Length: %d\r\n\r\n%s" % (method, target, len(body), body))
-        data = b""
-        while piece := connection.recv(65536):
-            data += piece
-    return data.split(b"\r\n\r\n", 1)
-
-
-def processor_seconds(processes):
-    """The time that the processes and their threads had."""
-    total = 0
-    for process in processes:
-        with open("/proc/%d/stat" % process) as file:
-            fields = file.read().rsplit(")", 1)[1].split()
-        total += (int(fields[11]) + int(fields[12])) / TICKS
-    return total
-
-
 def milliseconds(text):
     number, unit = re.fullmatch(r"([0-9.]+)(us|ms|s)", text).groups()
     return float(number) * {"us": 0.001, "ms": 1, "s": 1000}[unit]
@@ -98,15 +81,14 @@ class Couchd:
 
     @contextlib.contextmanager
     def running(self, _folder):
-        around = dict(os.environ, LD_PRELOAD=self.preload) if self.preload else None
-        words = [self.program, "serve", "--port", "0", "--workers", "64"]
-        with subprocess.Popen(words, stdout=subprocess.PIPE, env=around) as server:
-            port = int(server.stdout.readline().decode().rsplit(":", 1)[1])
+        env = dict(os.environ, LD_PRELOAD=self.preload) if self.preload else None
+        with Server(self.program, "--workers", "64", env=env) as server:
             docs = [{"_id": "doc%05d" % at, "n": at, "text": "some words"} for at in range(10_000)]
+            client = Connection(server.port)
             for at in range(0, len(docs), 1000):
-                ask(port, b"POST", b"/db/_bulk_docs", json.dumps({"docs": docs[at : at + 1000]}).encode())
-            yield port, [server.pid]
-            server.kill()
+                client.ask("POST", "/db/_bulk_docs", {"docs": docs[at : at + 1000]})
+            client.close()
+            yield server.port, [server.process.pid]
 
 
 class Nginx:
@@ -139,10 +121,10 @@ http { access_log off; keepalive_requests 1000000000; server { listen 127.0.0.1:
 
 def load(url, connections, seconds, script):
     """Requests, requests a second, p50 and p99 in milliseconds, failures."""
-    words = ["wrk", "-t", str(min(connections, 2)), "-c", str(connections), "-d", "%ds" % seconds, "--latency"]
+    command = ["wrk", "-t", str(min(connections, 2)), "-c", str(connections), "-d", "%ds" % seconds, "--latency"]
     if script:
-        words += ["-s", script]
-    text = subprocess.run([*words, url], capture_output=True, text=True, check=True).stdout
+        command += ["-s", script]
+    text = subprocess.run([*command, url], capture_output=True, text=True, check=True).stdout
     requests = int(re.search(r"(\d+) requests in", text)[1])
     rate = float(re.search(r"Requests/sec:\s+([0-9.]+)", text)[1])
     half, most = (milliseconds(re.search(r"\s%s%%\s+(\S+)" % part, text)[1]) for part in (50, 99))
@@ -157,11 +139,11 @@ def measure(server, operation, connections, seconds, folder):
     with open(script, "w") as file:
         file.write(text or "")
     with server.running(folder) as (port, processes):
-        before = processor_seconds(processes)
+        before = sum(map(machine.processor_seconds, processes))
         requests, rate, half, most, failed = load(
             "http://127.0.0.1:%d%s" % (port, target), connections, seconds, text and script
         )
-        spent = processor_seconds(processes) - before
+        spent = sum(map(machine.processor_seconds, processes)) - before
     return rate, half, most, spent / max(requests, 1) * 1e6, failed
 
 
@@ -171,7 +153,7 @@ def best(measured):
     return max(rates), min(halves), min(mosts), min(spent), sum(failed)
 
 
-def ratios(server, operation, connections, found):
+def ratios_of(server, connections, found):
     """What the rate is of others' that were measured in the same turns."""
     rate = found[server, connections][0]
     yield "%.2f of one connection" % (rate / found[server, CONNECTIONS[0]][0])
@@ -181,7 +163,7 @@ def ratios(server, operation, connections, found):
 
 
 def compare(servers, operation, seconds, rounds, folder):
-    """Measures the servers at all counts of connections in turns, and prints a line for each."""
+    """Measures the servers at all counts of connections in turns, prints a line for each, and gives the rates."""
     measured = {(server, count): [] for count in CONNECTIONS for server in servers if server.answers(operation)}
     for _ in range(rounds):
         for (server, count), results in measured.items():
@@ -190,30 +172,42 @@ def compare(servers, operation, seconds, rounds, folder):
     for (server, count), (rate, half, most, spent, failed) in found.items():
         print(
             "%-22s %3d connections %9.0f/s   p50 %7.3f ms   p99 %7.3f ms   %7.2f us of processor time   %s: %s%s"
-            % (operation, count, rate, half, most, spent, server.name, ", ".join(ratios(server, operation, count, found)), "   %d FAILED" % failed if failed else ""),
+            % (operation, count, rate, half, most, spent, server.name, ", ".join(ratios_of(server, count, found)), "   %d FAILED" % failed if failed else ""),
             flush=True,
         )
+    return {key: measured[0] for key, measured in found.items()}
+
+
+def add(ratios, operation, rates, server):
+    """The ratios of one server's rates, to its own and to nginx's."""
+    many, one = rates[server, COMPARED], rates[server, CONNECTIONS[0]]
+    ratios.add("%s over %d connections, of one" % (operation, COMPARED), many / one, more_is_better=True)
+    for (other, count), rate in rates.items():
+        if isinstance(other, Nginx) and count == CONNECTIONS[0]:
+            ratios.add("%s over one connection, of nginx" % operation, one / rate, more_is_better=True)
 
 
 def main():
-    reader = argparse.ArgumentParser(description=__doc__, formatter_class=argparse.RawDescriptionHelpFormatter)
+    reader = with_store(arguments(__doc__))
     reader.add_argument("--seconds", type=int, default=1)
     reader.add_argument("--rounds", type=int, default=5)
     reader.add_argument("--only", default="", help="operations with this in their name")
     reader.add_argument("--preload", action="append", default=[], metavar="LIBRARY")
-    reader.add_argument("programs", nargs="*", default=[PROGRAM], metavar="PROGRAM")
+    reader.add_argument("programs", nargs="*", type=existing, default=[built("couchd")], metavar="COUCHD")
     given = reader.parse_args()
     if not shutil.which("wrk"):
         sys.exit("wrk is not installed")
     servers = [Couchd(program, preload) for program in given.programs for preload in [None, *given.preload]]
     if shutil.which("nginx"):
         servers.append(Nginx())
+    ratios = Ratios("serve", given)
     with tempfile.TemporaryDirectory() as folder:
         for operation in OPERATIONS:
             if given.only in operation:
-                compare(servers, operation, given.seconds, given.rounds, folder)
-    print("load %s" % " ".join("%.1f" % load for load in os.getloadavg()))
+                add(ratios, operation, compare(servers, operation, given.seconds, given.rounds, folder), servers[0])
+    print(machine.load())
+    return ratios.report()
 
 
 if __name__ == "__main__":
-    main()
+    sys.exit(main())

@@ -1,62 +1,38 @@
-#!/usr/bin/env python3
-"""Times looks and writes of `couchd serve` while nothing else is done, and beside compactions, and prints a table.
+"""Times reads and writes of `couchd serve` while nothing else is done, and beside compactions, and prints a table.
 
-    benches/serve/compaction [--thousands N] [--rounds N] [--seconds N] [PROGRAM]
+    python3 benches/bench_beside_compaction.py [--thousands N] [--rounds N] [--seconds N] [--store] [COUCHD]
 
-PROGRAM is crates/couchd/out/couchd where none is given. There are so many thousand documents of 10 revisions each, 100 where
+There are so many thousand documents of 10 revisions each, 100 where
 no number is given. One connection reads documents, and in other times puts new ones, each request after the response before.
 In each round it does either for so many seconds alone, and then for as long while another connection compacts again and again;
 so both kinds of time are spread alike over what else the machine does. For each, the latencies that 50, 99 and 99.9 of 100
-requests stay under, in milliseconds, and what the p99 beside compactions is of the p99 alone. Then how many compactions there
-were, how long they took, and the machine's load.
+requests stay under, in milliseconds, and what the p99 beside compactions is of the p99 alone, which are the ratios. Then how many
+compactions there were, how long they took, and the machine's load.
 """
-import argparse
 import json
-import os
 import random
-import socket
-import subprocess
 import sys
 import threading
 import time
 
-HERE = os.path.dirname(os.path.abspath(__file__))
-PROGRAM = os.path.join(HERE, "..", "..", "crates", "couchd", "out", "couchd")
+from shared import machine
+from shared.ratios import Ratios, with_store
+
+from lib import server as served_by
+from lib.programs import arguments
+from lib.requests import bulk, request
+
 BULK = 1000
 REVISIONS = 10
-LENGTH = b"content-length:"
 
 
-class Connection:
-    """A connection that stays open."""
+class Connection(served_by.Connection):
+    """A connection whose requests are made beforehand."""
 
-    def __init__(self, port):
-        self.socket = socket.create_connection(("127.0.0.1", port))
-        self.socket.setsockopt(socket.IPPROTO_TCP, socket.TCP_NODELAY, 1)
-
-    def ask(self, request):
-        """The response's status and its body."""
-        self.socket.sendall(request)
-        data = self.socket.recv(1 << 16)
-        while (end := data.find(b"\r\n\r\n")) < 0:
-            data += self.more()
-        head = data[:end].lower()
-        at = head.index(LENGTH) + len(LENGTH)
-        whole = end + 4 + int(head[at:].split(b"\r\n", 1)[0])
-        while len(data) < whole:
-            data += self.more()
-        return int(data[9:12]), data[end + 4 :]
-
-    def more(self):
-        data = self.socket.recv(1 << 20)
-        if not data:
-            sys.exit("the server closed a connection")
-        return data
-
-
-def request(method, target, body=None):
-    text = b"" if body is None else json.dumps(body, separators=(",", ":")).encode()
-    return b"%s %s HTTP/1.1\r\nContent-Length: %d\r\n\r\n%s" % (method, target, len(text), text)
+    def answered(self, data):
+        """The status of the response, and its body."""
+        self.socket.sendall(data)
+        return self.next_response()
 
 
 def wanted(answer, status):
@@ -80,8 +56,8 @@ def load(connection, thousands):
                 if generation:
                     doc["_rev"] = revs[number]
                 docs.append(doc)
-            told = wanted(connection.ask(request(b"POST", b"/db/_bulk_docs", {"docs": docs})), 201)
-            revs[first : first + BULK] = [row["rev"] for row in json.loads(told)]
+            written = wanted(connection.answered(bulk(docs)), 201)
+            revs[first : first + BULK] = [row["rev"] for row in json.loads(written)]
 
 
 class Compactions:
@@ -93,7 +69,7 @@ class Compactions:
 
     def once(self):
         began = time.perf_counter()
-        status, body = self.connection.ask(request(b"POST", b"/db/_compact", {}))
+        status, body = self.connection.answered(request("POST", "/db/_compact", {}))
         if status == 202:
             self.seconds.append(time.perf_counter() - began)
         elif status == 503:
@@ -129,7 +105,7 @@ class Requests:
         while began < end:
             data = self.made()
             began = time.perf_counter()
-            answer = self.connection.ask(data)
+            answer = self.connection.answered(data)
             taken.append(time.perf_counter() - began)
             wanted(answer, self.status)
         return taken
@@ -144,14 +120,15 @@ def print_row(kind, alone, beside):
     cells = ["%.3f / %.3f" % (percentile(alone, part), percentile(beside, part)) for part in parts]
     ratio = percentile(beside, 0.99) / percentile(alone, 0.99)
     print("| %s | %d / %d | %s | %.2f |" % (kind, len(alone), len(beside), " | ".join(cells), ratio), flush=True)
+    return ratio
 
 
-def measure(port, given):
+def measure(port, given, ratios):
     load(Connection(port), given.thousands)
     source = random.Random(1)
     count = iter(range(1 << 60))
-    reads = lambda: request(b"GET", b"/db/" + name(source.randrange(given.thousands * BULK)).encode())
-    puts = lambda: request(b"PUT", b"/db/new-%d" % next(count), {"kind": "note", "text": "a small document"})
+    reads = lambda: request("GET", "/db/" + name(source.randrange(given.thousands * BULK)), b"")
+    puts = lambda: request("PUT", "/db/new-%d" % next(count), {"kind": "note", "text": "a small document"})
     compactions = Compactions(port)
     compactions.once()
     print("| Request | how many, alone / beside compactions | p50 | p99 | p99.9 | p99, beside to alone |")
@@ -163,27 +140,24 @@ def measure(port, given):
         for _ in range(given.rounds):
             alone += requests.work()
             beside += compactions.beside(requests.work)
-        print_row(kind, alone, beside)
+        ratios.add("p99 of %s beside a compaction, of the same alone" % kind, print_row(kind, alone, beside))
     seconds = compactions.seconds
     text = "%d compactions took %.2f to %.2f seconds, %d were refused"
     print(text % (len(seconds), min(seconds), max(seconds), compactions.refused))
 
 
 def main():
-    reader = argparse.ArgumentParser(description=__doc__, formatter_class=argparse.RawDescriptionHelpFormatter)
+    reader = with_store(arguments(__doc__, "couchd"))
     reader.add_argument("--thousands", type=int, default=100)
     reader.add_argument("--rounds", type=int, default=5)
     reader.add_argument("--seconds", type=float, default=3)
-    reader.add_argument("program", nargs="?", default=PROGRAM)
     given = reader.parse_args()
-    words = [os.path.abspath(given.program), "serve", "--port", "0", "--workers", "8"]
-    server = subprocess.Popen(words, stdout=subprocess.PIPE)
-    try:
-        measure(int(server.stdout.readline().decode().rsplit(":", 1)[1]), given)
-    finally:
-        server.kill()
-    print("load %s" % " ".join("%.1f" % load for load in os.getloadavg()))
+    ratios = Ratios("beside_compaction", given)
+    with served_by.Server(given.couchd, "--workers", "8") as server:
+        measure(server.port, given, ratios)
+    print(machine.load())
+    return ratios.report()
 
 
 if __name__ == "__main__":
-    main()
+    sys.exit(main())

@@ -1,23 +1,24 @@
-#!/usr/bin/env python3
 """Times the dump of histories and their audit, and what begins and reads the next epoch, and prints two tables.
 
-    benches/dumps/run [COUCHD REPLAY]
+    python3 benches/bench_dumps.py [--store] [COUCHD REPLAY]
 
 Each history of the first table has so many PUTs of new documents. Of serving them, of dumping their history and of its audit the table
 has the processor time, the least of five runs, and the most memory that was held, behind it what that is of the dump. Each history of
 the second has so many documents of ten revisions, a merge of a path each, in bulks of 1,000. Of serving them, of the audit of their
-dump, of `replay base` over it and of the audit of the line that this writes the table has the same. Where no programs are given, they
-are crates/couchd/out/couchd and crates/replay/out/replay, as the gate built them.
+dump, of `replay base` over it and of the audit of the line that this writes the table has the same. The ratios are of an audit to
+serving and dumping, of its memory to the dump, and of the largest history to the smallest.
 """
 import hashlib
-import json
 import os
 import subprocess
 import sys
 import tempfile
 
-HERE = os.path.dirname(os.path.abspath(__file__))
-PROGRAMS = [os.path.join(HERE, "..", "..", "crates", name, "out", name) for name in ("couchd", "replay")]
+from shared.ratios import Ratios, with_store
+
+from lib.programs import arguments
+from lib.requests import merge, request
+
 COUNTS = [25000, 50000, 100000, 200000]
 DOCUMENTS = [25000, 50000, 100000]
 REVISIONS = 10
@@ -26,7 +27,7 @@ RUNS = 5
 
 
 def puts(count):
-    return b"".join(b'PUT /db/d%d HTTP/1.1\r\nContent-Length: 9\r\n\r\n{"n":%03d}' % (i, i % 900 + 100) for i in range(count))
+    return b"".join(request("PUT", "/db/d%d" % i, {"n": i % 900 + 100}) for i in range(count))
 
 
 def run(words, data):
@@ -51,8 +52,7 @@ def merges(count):
     requests = []
     for first in range(0, count, BULK):
         documents = [{"_id": "d%d" % i, "_revisions": path(i), "n": i} for i in range(first, min(first + BULK, count))]
-        body = json.dumps({"docs": documents, "new_edits": False}, separators=(",", ":")).encode()
-        requests.append(b"POST /db/_bulk_docs HTTP/1.1\r\nContent-Length: %d\r\n\r\n" % len(body) + body)
+        requests.append(merge(documents))
     return b"".join(requests)
 
 
@@ -62,7 +62,8 @@ def path(number):
     return {"start": REVISIONS, "ids": [hashlib.md5(b"%d %d" % (number, generation)).hexdigest() for generation in generations]}
 
 
-def print_audits(couchd, replay):
+def print_audits(couchd, replay, ratios):
+    each = []  # the seconds of an entry's audit
     print("| Entries | Dump (MB) | `couchd once` (s) | `couchd dump` (s) | `replay check` (s) | memory of the audit (MB), of the dump |")
     print("|---|---|---|---|---|---|")
     for count in COUNTS:
@@ -72,10 +73,14 @@ def print_audits(couchd, replay):
         said, checking, held = least([replay, "check"], dump)
         assert said == b"legal %d\n" % count, said
         size = len(dump) / 2**20
+        each.append(checking / count)
         print("| %d | %.1f | %.2f | %.2f | %.2f | %.0f / %.1f |" % (count, size, once, dumping, checking, held, held / size), flush=True)
+    ratios.add("audit of %d entries, of serving and dumping them" % count, checking / dumping)
+    ratios.add("memory of that audit, of the dump", held / size)
+    ratios.add("audit of an entry of %d, of one of %d" % (COUNTS[-1], COUNTS[0]), each[-1] / each[0])
 
 
-def print_epochs(couchd, replay):
+def print_epochs(couchd, replay, ratios):
     print("| Documents | Dump, line (MB) | `couchd once` (s) | `replay check` (s) | `replay base` (s) | `replay check` of the line (s) "
           "| memory of `replay base` (MB), of the dump | of the line's audit (MB), of the line |")
     print("|---|---|---|---|---|---|---|---|")
@@ -90,13 +95,18 @@ def print_epochs(couchd, replay):
         size, width = len(dump) / 2**20, len(line) / 2**20
         print("| %d | %.1f, %.1f | %.2f | %.2f | %.2f | %.2f | %.0f / %.1f | %.0f / %.1f |"
               % (count, size, width, once, checking, making, reading, held, held / size, read, read / width), flush=True)
+    ratios.add("the line of a base of %d documents read, of serving them" % count, reading / once)
+    ratios.add("memory of that reading, of the line", read / width)
 
 
 def main():
-    programs = sys.argv[1:] or PROGRAMS
-    print_audits(*programs)
+    given = with_store(arguments(__doc__, "couchd", "replay")).parse_args()
+    ratios = Ratios("dumps", given)
+    print_audits(given.couchd, given.replay, ratios)
     print()
-    print_epochs(*programs)
+    print_epochs(given.couchd, given.replay, ratios)
+    return ratios.report()
 
 
-main()
+if __name__ == "__main__":
+    sys.exit(main())

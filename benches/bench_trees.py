@@ -1,40 +1,30 @@
-#!/usr/bin/env python3
 """Times builds of `couchd once` on large revision trees, side by side, and prints a table.
 
-    benches/trees [--conflicts N] [PROGRAM ...]    crates/couchd/out/couchd where none is given
+    python3 benches/bench_trees.py [--conflicts N] [--store] [COUCHD ...]
 
 A figure is the processor time of the program for one operation, in microseconds, or of one bulk in milliseconds; of several
-programs they stand behind one another, with the ratio of the last to the first. The requests of a row are cut into pieces, which go
+programs they are behind one another, with the ratio of the last to the first. The requests of a row are cut into pieces, which go
 to each program in turn, and a figure is that of the best piece; the bulks of N conflicts, 18,700 where none is given, are one
-request each. Every program runs on the last processor.
+request each. Every program runs on the last processor. The ratios are those of PUTs over long histories to one over a short one.
 """
-import argparse
 import hashlib
-import importlib.machinery
-import importlib.util
 import json
-import os
+import sys
 import urllib.parse
 
-HERE = os.path.dirname(os.path.abspath(__file__))
-PROGRAM = os.path.join(HERE, "..", "crates", "couchd", "out", "couchd")
+from shared.pipe import Program, compared, least
+from shared.ratios import Ratios, with_store
+
+from lib.programs import arguments, built, existing
+from lib.requests import bulk, merge, request
+
 DOCUMENTS = 20  # of each history, and so the requests of a piece
 PIECES = 10
 CONFLICTS = 100  # of a document that gets them in one bulk, and in one GET of many
 CHAIN = 999  # revisions one behind another, below many leaves
 LEAVES = 16000  # of that document
 ASKED = 380  # revisions of the chain in one GET, which a head has just room for
-
-
-def load(name):
-    """The bench of that name, without running it."""
-    loader = importlib.machinery.SourceFileLoader(name, os.path.join(HERE, name))
-    module = importlib.util.module_from_spec(importlib.util.spec_from_loader(name, loader))
-    loader.exec_module(module)
-    return module
-
-
-speed = load("speed")
+SHORT, LONG, FULL = "PUT over 10 to 20 revisions", "PUT over 980 to 990 revisions, below the limit", "PUT over 1,000 revisions, at the limit"
 
 
 class Histories:
@@ -45,7 +35,7 @@ class Histories:
         self.revs = [""] * DOCUMENTS
 
     def next_edit(self, number):
-        """The revision that stands, and a next body."""
+        """The revision that is there, and a next body."""
         rev = self.revs[number]
         body = {"over": rev}
         text = json.dumps(body, separators=(",", ":"))
@@ -53,23 +43,23 @@ class Histories:
         self.revs[number] = "%d-%s" % (int(rev.split("-")[0] or 0) + 1 if rev else 1, digest)
         return rev, body
 
-    def bulk(self):
+    def edits(self):
         """A bulk of one edit of each document."""
-        edits = []
+        made = []
         for number, name in enumerate(self.ids):
             rev, body = self.next_edit(number)
-            edits.append(dict(body, _id=name, **({"_rev": rev} if rev else {})))
-        return speed.post_bulk(edits)
+            made.append(dict(body, _id=name, **({"_rev": rev} if rev else {})))
+        return bulk(made)
 
     def grown(self, revisions):
-        return [self.bulk() for _ in range(revisions)]
+        return [self.edits() for _ in range(revisions)]
 
     def puts(self):
         """A PUT of each document."""
         made = []
         for number, name in enumerate(self.ids):
             rev, body = self.next_edit(number)
-            made.append(speed.request("PUT", "/db/%s?rev=%s" % (name, rev), body))
+            made.append(request("PUT", "/db/%s?rev=%s" % (name, rev), body))
         return made
 
 
@@ -79,13 +69,13 @@ def conflict(at):
 
 def conflicts(name, number):
     """A bulk of so many conflicts of a new document."""
-    return speed.post_bulk([{"_id": name, "_rev": conflict(at)} for at in range(number)], new_edits=False)
+    return merge([{"_id": name, "_rev": conflict(at)} for at in range(number)])
 
 
 def opened(name, first):
     """A GET of some of these conflicts, as a replication asks for them."""
     revs = json.dumps([conflict(at) for at in range(first, first + CONFLICTS)])
-    return speed.request("GET", "/db/%s?revs=true&latest=true&open_revs=%s" % (name, urllib.parse.quote(revs)))
+    return request("GET", "/db/%s?revs=true&latest=true&open_revs=%s" % (name, urllib.parse.quote(revs)))
 
 
 def link(generation):
@@ -100,31 +90,31 @@ def spread(name):
     for first in range(0, LEAVES, 4000):
         above = [{"start": CHAIN + 1, "ids": ["%032x" % (at + 1), link(CHAIN)]} for at in range(first, first + 4000)]
         bulks.append([{"_id": name, "_revisions": revisions} for revisions in above])
-    return [speed.post_bulk(bulk, new_edits=False) for bulk in bulks]
+    return [merge(documents) for documents in bulks]
 
 
 def latest(name):
     """A GET of the latest over the chain's oldest revision."""
-    return speed.request("GET", "/db/%s?latest=true&rev=1-%s" % (name, link(1)))
+    return request("GET", "/db/%s?latest=true&rev=1-%s" % (name, link(1)))
 
 
 def opened_latest(name):
     """A GET of the latest over many revisions of the chain."""
     revs = json.dumps(["%d-%s" % (generation, link(generation)) for generation in range(1, ASKED + 1)], separators=(",", ":"))
-    return speed.request("GET", "/db/%s?latest=true&open_revs=%s" % (name, urllib.parse.quote(revs, safe="[],\"")))
+    return request("GET", "/db/%s?latest=true&open_revs=%s" % (name, urllib.parse.quote(revs, safe="[],\"")))
 
 
 def rows(many):
     """Each measurement: its name, what is sent before, its pieces, their status, the operations of a piece, and its unit."""
     short, long, full = Histories("short"), Histories("long"), Histories("full")
-    yield "PUT over 10 to 20 revisions", short.grown(10), [short.puts() for _ in range(PIECES)], 201, DOCUMENTS, 1e6
-    yield "PUT over 980 to 990 revisions, below the limit", long.grown(980), [long.puts() for _ in range(PIECES)], 201, DOCUMENTS, 1e6
-    yield "PUT over 1,000 revisions, at the limit", full.grown(1000), [full.puts() for _ in range(PIECES)], 201, DOCUMENTS, 1e6
+    yield SHORT, short.grown(10), [short.puts() for _ in range(PIECES)], 201, DOCUMENTS, 1e6
+    yield LONG, long.grown(980), [long.puts() for _ in range(PIECES)], 201, DOCUMENTS, 1e6
+    yield FULL, full.grown(1000), [full.puts() for _ in range(PIECES)], 201, DOCUMENTS, 1e6
     wide = [[conflicts("wide-%d" % at, CONFLICTS)] for at in range(PIECES)]
     yield "merge of %d conflicts of one document, for each" % CONFLICTS, [], wide, 201, CONFLICTS, 1e6
-    bulk = conflicts("w", many)
-    yield "bulk of {:,} conflicts, milliseconds".format(many), [], [[bulk]], 201, 1, 1e3
-    yield "the same bulk again, milliseconds", [], [[bulk]], 201, 1, 1e3
+    brought = conflicts("w", many)
+    yield "bulk of {:,} conflicts, milliseconds".format(many), [], [[brought]], 201, 1, 1e3
+    yield "the same bulk again, milliseconds", [], [[brought]], 201, 1, 1e3
     gets = [[opened("w", at * CONFLICTS)] for at in range(PIECES)]
     yield "`open_revs` of %d of them with `latest`, for each" % CONFLICTS, [], gets, 200, CONFLICTS, 1e6
     over = "over {:,} leaves on a chain, milliseconds".format(LEAVES)
@@ -133,22 +123,26 @@ def rows(many):
 
 
 def main():
-    words = argparse.ArgumentParser(description=__doc__, formatter_class=argparse.RawDescriptionHelpFormatter)
-    words.add_argument("--conflicts", type=int, default=18700)
-    words.add_argument("programs", nargs="*", default=[PROGRAM])
-    given = words.parse_args()
-    programs = [speed.Program(path) for path in given.programs]
+    reader = with_store(arguments(__doc__))
+    reader.add_argument("--conflicts", type=int, default=18700)
+    reader.add_argument("programs", nargs="*", type=existing, default=[built("couchd")])
+    given = reader.parse_args()
+    programs = [Program(path) for path in given.programs]
     print("| Operation | %s |\n|---|---|" % " / ".join(given.programs))
+    figures = {}
     for name, before, pieces, status, operations, unit in rows(given.conflicts):
         for program in programs:
             program.answer(before, 201)
-        least = [float("inf")] * len(programs)
-        for piece in pieces:
-            for at, program in enumerate(programs):
-                least[at] = min(least[at], program.answer(piece, status) * unit / operations)
-        print("| %s | %s |" % (name, speed.compared(least, speed.figure)), flush=True)
+        found = [seconds * unit for seconds in least(programs, [(piece, operations) for piece in pieces], status)]
+        figures[name] = found[-1]
+        print("| %s | %s |" % (name, compared(found)), flush=True)
     for program in programs:
         program.close()
+    ratios = Ratios("trees", given)
+    for name in LONG, FULL:
+        ratios.add("%s, of %s" % (name, SHORT), figures[name] / figures[SHORT])
+    return ratios.report()
 
 
-main()
+if __name__ == "__main__":
+    sys.exit(main())

@@ -1,7 +1,7 @@
-//! As many threads clone an `Arc` so often each, and let the clone go.
+//! As many threads clone an `Arc` so often each, and drop the clone.
 //!
 //! `plain shared THREADS TIMES` clones one `Arc` under an `RwLock`, and `plain own THREADS TIMES` has each
-//! thread clone an `Arc` of its own, which tells what the machine gives to threads that share nothing.
+//! thread clone an `Arc` of its own, which shows what the machine gives to threads that share nothing.
 use std::env::args;
 use std::hint::black_box;
 use std::sync::{Arc, RwLock};

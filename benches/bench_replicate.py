@@ -1,25 +1,21 @@
-#!/usr/bin/env python3
 """Replicates small documents from one server to another, and the same by a plain loop of this script.
 
-    benches/replicate/run [--documents N] [PROGRAM]     PROGRAM is crates/couchd/out/couchd where none is given
+    python3 benches/bench_replicate.py [--documents N] [--store] [COUCHD]
 
 The loop sends the requests that `couchd replicate` sends, in their order, each after the answer before it, and reads JSON
-by Python's library. It prints documents a second of both, and how many requests a document takes.
+by Python's library. It prints documents a second of both, and how many requests a document takes. The ratio is of the two rates.
 """
-import argparse
 import json
-import os
 import socket
-import subprocess
 import sys
 import time
 
-HERE = os.path.dirname(os.path.abspath(__file__))
-PROGRAM = os.path.join(HERE, "..", "..", "crates", "couchd", "out", "couchd")
-sys.path.insert(0, os.path.join(HERE, "..", "..", "tests"))
+from shared.ratios import Ratios, with_store
 
-from outside.requests import request  # noqa: E402
-from outside.server import Messages, Server  # noqa: E402
+from lib.ends import replicate
+from lib.programs import arguments
+from lib.requests import request
+from lib.server import Exchange, Server
 
 BATCH = 100
 HEADERS = ["Host: db", "Accept: application/json"]
@@ -29,12 +25,11 @@ def served(program):
     return Server(program, "--workers", "2")
 
 
-class Client(Messages):
+class Client(Exchange):
     """A connection, which counts its requests."""
 
     def __init__(self, port):
         super().__init__(socket.create_connection(("127.0.0.1", port)))
-        self.socket.setsockopt(socket.IPPROTO_TCP, socket.TCP_NODELAY, 1)
         self.requests = 0
 
     def ask(self, method, target, body=""):
@@ -86,24 +81,29 @@ def loop(source, target):
     return source.requests + target.requests
 
 
+def seconds(work, *given):
+    """How long the work takes, and what it gives."""
+    start = time.monotonic()
+    found = work(*given)
+    return time.monotonic() - start, found
+
+
 def main():
-    reader = argparse.ArgumentParser(description=__doc__, formatter_class=argparse.RawDescriptionHelpFormatter)
+    reader = with_store(arguments(__doc__, "couchd"))
     reader.add_argument("--documents", type=int, default=10_000)
-    reader.add_argument("program", nargs="?", default=PROGRAM)
     given = reader.parse_args()
-    with served(given.program) as source, served(given.program) as by_program, served(given.program) as by_loop:
+    with served(given.couchd) as source, served(given.couchd) as by_program, served(given.couchd) as by_loop:
         fill(source.port, given.documents)
-        words = [given.program, "replicate", "--id", "program"]
-        words += ["--source", "127.0.0.1:%d" % source.port, "--target", "127.0.0.1:%d" % by_program.port]
-        start = time.monotonic()
-        told = subprocess.run(words, capture_output=True, check=True).stdout.decode().strip()
-        program = time.monotonic() - start
-        start = time.monotonic()
-        requests = loop(Client(source.port), Client(by_loop.port))
-        plain = time.monotonic() - start
-        print("couchd replicate: %s; %.0f documents a second" % (told, given.documents / program))
-        print("the loop: %.0f documents a second, %.2f requests a document" % (given.documents / plain, requests / given.documents))
+        program, ran = seconds(replicate, given.couchd, source.port, by_program.port, "program")
+        if ran.status:
+            sys.exit(ran.errors or ran.output)
+        plain, requests = seconds(loop, Client(source.port), Client(by_loop.port))
+    print("couchd replicate: %s; %.0f documents a second" % (ran.output.strip(), given.documents / program))
+    print("the loop: %.0f documents a second, %.2f requests a document" % (given.documents / plain, requests / given.documents))
+    ratios = Ratios("replicate", given)
+    ratios.add("documents a second, of the loop's", plain / program, more_is_better=True)
+    return ratios.report()
 
 
 if __name__ == "__main__":
-    main()
+    sys.exit(main())

@@ -1,0 +1,31 @@
+"""What processes have used, as the system counts it."""
+import os
+import re
+
+TICKS = os.sysconf("SC_CLK_TCK")
+
+
+def read(process, name):
+    with open("/proc/%d/%s" % (process, name)) as file:
+        return file.read()
+
+
+def processor_seconds(process):
+    """The processor time of a process and of its threads so far, by the system's ticks."""
+    user, system = read(process, "stat").rsplit(")", 1)[1].split()[11:13]
+    return (int(user) + int(system)) / TICKS
+
+
+def thread_seconds(process):
+    """The processor time of the first thread of a process so far, to the nanosecond."""
+    return int(read(process, "schedstat").split()[0]) / 1e9
+
+
+def megabytes(process, name):
+    """What it holds (`VmRSS`), or the most that it has held (`VmHWM`)."""
+    return int(re.search(r"^%s:\s+(\d+)" % name, read(process, "status"), re.M).group(1)) / 1024
+
+
+def load():
+    """The load of the machine over the last 1, 5 and 15 minutes."""
+    return "load " + " ".join("%.1f" % one for one in os.getloadavg())
