@@ -9,10 +9,11 @@ The documents are README.md, CONTRIBUTING.md, CHANGELOG.md, tests/README.md and 
   programs on the path. Two servers are started for the document: 127.0.0.1:5984 and 127.0.0.1:5985 stand for their ports. Standard
   error counts as output, and `curl`, which has to be there, ends each answer with a line feed.
 - Links: a link to a file of the repository leads to one, and to a heading of it where it names one.
-- Crates: the table has a row for each crate that the programs or the proofs stand on, in the order of crates.txt, whose second column
-  is the first sentence of the crate's `//!`.
+- Crates: the table of docs/PROOFS.md has a row for each crate that the programs or the proofs depend on, in the order of crates.txt,
+  whose second column is the first sentence of the crate's `//!`. The tables of docs/ARCHITECTURE.md name the same crates.
 - Steps: the table of tests/README.md has a row for each step of tests/all, in order, with its command and the first sentence of the
   docstring of its script.
+- Diffs: a line that a block fenced as `diff` adds, under `+++ FILE`, is a line of that file.
 - Sizes: README.md has at most 900 words, CONTRIBUTING.md at most 150 lines.
 """
 import ast
@@ -37,6 +38,7 @@ CURL = 'silent\nshow-error\nwrite-out = "\\n"\nnoproxy = "*"\n'
 BLOCK = re.compile(r"^```(\w*)\n(.*?)^```$|^#+ ([^\n]*)$", re.S | re.M)
 LINK = re.compile(r"\[[^\]]*\]\(([^)\s]+)\)")
 STEP = re.compile(r"^\| `(\w+)` \| `([^`]+)` \| (.*?) \| ", re.M)
+NAMES = re.compile(r"^\| ((?:`\w+`(?:, )?)+) \|[^|]*\|[^|]*\|$", re.M)
 ROW = re.compile(r"^\| `(\w+)` \| (.*?) \| ", re.M)
 
 
@@ -139,6 +141,19 @@ def check_links(checks, name):
         checks.check(there and (not heading or heading in anchors(content(target))), "%s: nothing is at %s", name, link)
 
 
+# ---- diffs
+
+
+def check_diffs(checks, name):
+    for block in [block for language, block, _ in BLOCK.findall(content(name)) if language == "diff"]:
+        lines = []
+        for line in block.splitlines():
+            if line.startswith("+++ "):
+                lines = content(line[4:]).splitlines()
+            else:
+                checks.check(line[1:] in lines, "%s adds a line that isn't there: %s", name, line)
+
+
 # ---- the table of crates
 
 
@@ -157,6 +172,8 @@ def check_table(checks):
     names = [crate for crate, _ in rows]
     crates = list(depends_on())
     checks.check(names == crates, "docs/PROOFS.md has rows of\n  %s\nand crates.txt\n  %s", names, crates)
+    named = [name for cell in NAMES.findall(content("docs/ARCHITECTURE.md")) for name in re.findall(r"\w+", cell)]
+    checks.check(sorted(named) == sorted(crates), "docs/ARCHITECTURE.md has tables of\n  %s\nand crates.txt\n  %s", named, crates)
     for crate, what in rows:
         wanted = first_sentence(crate)
         checks.check(what == wanted, "docs/PROOFS.md says of %s\n  %s\nand its //!\n  %s", crate, what, wanted)
@@ -200,6 +217,7 @@ def main():
     for name in documents():
         check_commands(checks, name, (given.couchd, given.replay))
         check_links(checks, name)
+        check_diffs(checks, name)
     check_table(checks)
     check_steps(checks)
     check_sizes(checks)
