@@ -30,20 +30,20 @@ def puts(count):
     return b"".join(request("PUT", "/db/d%d" % i, {"n": i % 900 + 100}) for i in range(count))
 
 
-def run(words, data):
+def run(command, data):
     """What a run prints, its processor time in seconds, and the most megabytes that it held."""
     with tempfile.TemporaryFile() as source, tempfile.TemporaryFile() as out:
         source.write(data)
         source.seek(0)
-        process = subprocess.Popen(words, stdin=source, stdout=out)
+        process = subprocess.Popen(command, stdin=source, stdout=out)
         _, status, used = os.wait4(process.pid, 0)
         process.returncode = os.waitstatus_to_exitcode(status)
         out.seek(0)
         return out.read(), used.ru_utime + used.ru_stime, used.ru_maxrss / 1024
 
 
-def least(words, data):
-    runs = [run(words, data) for _ in range(RUNS)]
+def least(command, data):
+    runs = [run(command, data) for _ in range(RUNS)]
     return runs[0][0], min(seconds for _, seconds, _ in runs), max(held for _, _, held in runs)
 
 

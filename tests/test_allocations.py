@@ -72,14 +72,14 @@ class Runs:
         self.checks = Checks()
         self.check = self.checks.check
 
-    def count(self, program, *words, **told):
+    def count(self, program, *arguments, **orders):
         """The status, the output, and how many requests for memory were made."""
-        ran, requests = self.refuser.count([built(program), *map(str, words)], "", **told)
+        ran, requests = self.refuser.count([built(program), *map(str, arguments)], "", **orders)
         return ran.status, ran.output, requests
 
-    def answers(self, program, *words):
+    def answers(self, program, *arguments):
         """What each run of the program prints with one request for memory refused, in turn, and last the one that has all memory."""
-        return [(ran.status, ran.output) for ran in self.refuser.each([built(program), *map(str, words)], "")]
+        return [(ran.status, ran.output) for ran in self.refuser.each([built(program), *map(str, arguments)], "")]
 
     # ---- the shared map
 

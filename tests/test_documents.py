@@ -6,7 +6,7 @@ The documents are README.md, CONTRIBUTING.md, CHANGELOG.md, tests/README.md and 
 
 - Commands: a block fenced as `sh` is run where a block with no language follows it under the same heading, which is its output.
   The blocks of a document run in order, each in a shell of its own, in a new folder with the repository's `examples` in it and the
-  programs on the path. Two servers are started for the document: 127.0.0.1:5984 and 127.0.0.1:5985 stand for their ports. Standard
+  programs on the path. Two servers are started for the document: 127.0.0.1:5984 and 127.0.0.1:5985 mean their ports. Standard
   error counts as output, and `curl`, which has to be there, ends each answer with a line feed.
 - Links: a link to a file of the repository leads to one, and to a heading of it where it names one.
 - Crates: the table of docs/PROOFS.md has a row for each crate that the programs or the proofs depend on, in the order of crates.txt,

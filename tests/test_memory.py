@@ -236,9 +236,9 @@ class Refusals:
         self.refuser = refuser
         self.checks = Checks()
 
-    def run(self, name, words, data, is_right):
+    def run(self, name, command, data, is_right):
         """What the run prints with ample memory."""
-        *refused, ample = self.refuser.each(words, data)
+        *refused, ample = self.refuser.each(command, data)
         for number, ran in enumerate(refused, 1):
             self.checks.check(
                 is_right(ran, ample.output), "%s, request %d refused: status %d, %r", name, number, ran.status, ran.output[-400:]

@@ -690,14 +690,14 @@ def broken():
 
 
 def literal():
-    """The first request and its response, as they stand in the description of the program."""
+    """The first request and its response, as they are in the description of the program."""
     asked = b"PUT /db/a HTTP/1.1\r\nContent-Length: 2\r\n\r\n{}"
-    told = (
+    response = (
         b"HTTP/1.1 201 Created\r\nContent-Type: application/json\r\nContent-Length: 63\r\nCouch-Place: 1\r\n\r\n"
         b'{"id":"a","ok":true,"rev":"' + A1.encode() + b'"}'
     )
     yield "the first request", stored("first-path/put-once", ".http") == asked and len(asked) == 43
-    yield "the first response", once.run(asked) == (told, 0)
+    yield "the first response", once.run(asked) == (response, 0)
     for cut in range(1, 44):
         yield "without its last %d bytes" % cut, once.run(asked[: 43 - cut]) == (b"", 0)
     yield "a body that is not whole", once.run(asked.replace(b": 2", b": 3")) == (b"", 0)

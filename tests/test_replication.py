@@ -215,8 +215,8 @@ def progress(program):
         docs = [{"_id": "d%d" % number} for number in range(BATCH + 1)]
         check(source.ask("POST", "/db/_bulk_docs", {"docs": docs})[0] == 201, "no documents are made")
         terminal, errors = pty.openpty()
-        words = replication(program, source.port, target.port, "t")
-        ran = subprocess.run(words, stdin=subprocess.DEVNULL, stdout=subprocess.PIPE, stderr=errors, timeout=SECONDS)
+        command = replication(program, source.port, target.port, "t")
+        ran = subprocess.run(command, stdin=subprocess.DEVNULL, stdout=subprocess.PIPE, stderr=errors, timeout=SECONDS)
         os.close(errors)
         lines = read_terminal(terminal).decode()
         os.close(terminal)

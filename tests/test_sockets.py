@@ -42,8 +42,8 @@ check = CHECKS.check
 class Server(served_by.Server):
     """A running `couchd serve`. It checks the line that names the port."""
 
-    def __init__(self, program, *words):
-        super().__init__(program, *words)
+    def __init__(self, program, *options):
+        super().__init__(program, *options)
         check(self.line == "listening 127.0.0.1:%d\n" % self.port, "the first line is %r", self.line)
 
 

@@ -76,10 +76,10 @@ def writes_that_fail(program):
             CHECKS.check(found == (status, wanted[:room]), "%r, of whose output %d bytes can be written: %r", data, room, found)
 
 
-def written_pieces(words, data, env):
+def written_pieces(command, data, env):
     """The status, and what each write wrote."""
     near, far = socket.socketpair(socket.AF_UNIX, socket.SOCK_SEQPACKET)
-    with subprocess.Popen(words, stdin=subprocess.PIPE, stdout=near, env=env) as process:
+    with subprocess.Popen(command, stdin=subprocess.PIPE, stdout=near, env=env) as process:
         near.close()
         process.stdin.write(data)
         process.stdin.close()

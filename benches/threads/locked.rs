@@ -21,8 +21,8 @@ fn clone_own(times: u64) {
 }
 
 fn main() {
-    let words: Vec<String> = args().skip(1).collect();
-    let [kind, threads, times] = &words[..] else {
+    let arguments: Vec<String> = args().skip(1).collect();
+    let [kind, threads, times] = &arguments[..] else {
         panic!("plain KIND THREADS TIMES");
     };
     let threads: u64 = threads.parse().expect("a number");

@@ -95,9 +95,9 @@ class Proxy(Listener):
 
 
 def replication(program, source, target, id, listed=None):
-    """The words of a replication from one port to another, of all documents or of those on a list."""
-    words = [program, "replicate", "--source", "127.0.0.1:%d" % source, "--target", "127.0.0.1:%d" % target, "--id", id]
-    return words + ([] if listed is None else ["--doc-ids", listed])
+    """The command of a replication from one port to another, of all documents or of those on a list."""
+    command = [program, "replicate", "--source", "127.0.0.1:%d" % source, "--target", "127.0.0.1:%d" % target, "--id", id]
+    return command + ([] if listed is None else ["--doc-ids", listed])
 
 
 def replicate(program, source, target, id, listed=None, env=None):

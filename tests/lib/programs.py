@@ -52,10 +52,10 @@ class Ran(NamedTuple):
     errors: str
 
 
-def run(words, data=b"", env=None, seconds=SECONDS):
+def run(command, data=b"", env=None, seconds=SECONDS):
     """A run of a program on an input. Its output is a string where the input is one."""
     as_text = isinstance(data, str)
-    done = subprocess.run(words, input=data.encode() if as_text else data, capture_output=True, timeout=seconds, env=env)
+    done = subprocess.run(command, input=data.encode() if as_text else data, capture_output=True, timeout=seconds, env=env)
     return Ran(done.returncode, done.stdout.decode() if as_text else done.stdout, done.stderr.decode())
 
 

@@ -20,25 +20,25 @@ class Refuser:
     def __init__(self, env):
         self.env = env
 
-    def environment(self, **told):
+    def environment(self, **orders):
         """The environment of a run, with what the shim is to do: REFUSE the request of this number, or all from it to LAST; COUNT."""
-        return {**self.env, **{name: str(number) for name, number in told.items()}}
+        return {**self.env, **{name: str(number) for name, number in orders.items()}}
 
-    def run(self, words, data=b"", **told):
+    def run(self, command, data=b"", **orders):
         """A run on an input, and what the shim is to do in it."""
-        return run(words, data, self.environment(**told))
+        return run(command, data, self.environment(**orders))
 
-    def count(self, words, data=b"", **told):
+    def count(self, command, data=b"", **orders):
         """A run, and how many requests for memory it made."""
-        ran = self.run(words, data, COUNT=1, **told)
+        ran = self.run(command, data, COUNT=1, **orders)
         return ran, int(re.search(r"^requests (\d+)$", ran.errors, re.M).group(1))
 
-    def each(self, words, data=b""):
+    def each(self, command, data=b""):
         """The runs on an input with each request refused in turn; the last one has all of its memory.
 
         A program with threads ends at once, so its requests can't be counted at its end.
         """
-        return self.in_turn(lambda env: run(words, data, env))
+        return self.in_turn(lambda env: run(command, data, env))
 
     def in_turn(self, attempt):
         """The same of any run that is given its environment."""

@@ -13,7 +13,7 @@ from reference import rows
 from .programs import TESTS, built
 
 ANSWERS = os.path.join(TESTS, "rows", "store", "answers")
-QUERIED = ["a path that grew at its root is told", "every query of one document, of whose path two revisions have no body"]
+QUERIED = ["a path that grew at its root is answered", "every query of one document, of whose path two revisions have no body"]
 
 EDITS = """\
 ask 0 edit a - {}

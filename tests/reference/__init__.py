@@ -2,7 +2,7 @@
 
 It is written from CouchDB's documentation and this project's profile of it, in the order in which a reader meets the
 rules, and shares nothing with the program: `once.run(data)` gives the bytes that `couchd once` must write for
-these bytes of input, and its exit status. Speed is no aim: sets, whole lists and sorting stand where the program has
+these bytes of input, and its exit status. Speed is no aim: it has sets, whole lists and sorting where the program has
 indexes.
 
     json_profile   JSON values, bodies, their compact texts

@@ -15,7 +15,7 @@ IGNORED = {"_local_seq", "_revs_info", "_conflicts", "_deleted_conflicts"}
 class Rules:
     """What the document objects of a request may be."""
 
-    special: set  # the special members that may stand there
+    special: set  # the special members that may be there
     parse: object = revisions.parse
     id: Optional[str] = None  # the identity that a member `_id` must repeat; None: each object has one of its own
     named: Optional[tuple] = None  # the revision of the parameter, which a member `_rev` must repeat

@@ -1,4 +1,4 @@
-"""What maps, lists and trees tell of what is done to them."""
+"""What comes of what is done to maps, lists and trees."""
 from . import revisions, trees
 from .json_profile import EMPTY
 from .versions import names
@@ -25,7 +25,7 @@ def numbers(words):
 # ---- maps: dictionaries from numbers to themselves
 
 
-def map_told(statements):
+def map_results(statements):
     maps, nodes = Kept({}), 0
     for statement in statements:
         name, *words = statement.split()
@@ -44,7 +44,7 @@ def map_told(statements):
         elif name == "nodes_made":
             yield str(nodes)
         else:
-            yield told_map(maps.value, name, *words)
+            yield map_text(maps.value, name, *words)
 
 
 def changed(entries, name, key):
@@ -61,7 +61,7 @@ def nodes_of(entries, name, key):
     return len(entries) + 1 if len(entries) < 2 and key not in entries else None
 
 
-def told_map(entries, name, *words):
+def map_text(entries, name, *words):
     keys = sorted(entries)
     above = keys if not words else [key for key in keys if key >= int(words[0])]
     if name == "size":
@@ -81,7 +81,7 @@ def truth(holds):
 # ---- lists of numbers
 
 
-def list_told(statements):
+def list_results(statements):
     lists = Kept([])
     for statement in statements:
         name, *words = statement.split()
@@ -95,10 +95,10 @@ def list_told(statements):
             lists.value = [*lists.value, *numbers(words)]
             yield "%d nodes" % (2 * len(numbers(words)))
         else:
-            yield told_list(lists.value, name, *words)
+            yield list_text(lists.value, name, *words)
 
 
-def told_list(values, name, *words):
+def list_text(values, name, *words):
     if name == "size":
         return "%d values, empty %s" % (len(values), truth(not values))
     if name == "get":
@@ -110,20 +110,20 @@ def told_list(values, name, *words):
 # ---- trees of revisions
 
 
-def tree_told(statements):
+def tree_results(statements):
     kept = Kept({})
     for statement in statements:
         name, *words = statement.split()
         if name == "keep":
             kept.keep()
-            yield told_nodes(kept.value)
+            yield nodes_text(kept.value)
         elif name == "is_same":
             yield truth(kept.value == kept.kept)
         elif name in CHANGES:
             said, kept.value = CHANGES[name](kept.value, *words)
-            yield said + told_nodes(kept.value)
+            yield said + nodes_text(kept.value)
         else:
-            yield told_tree(kept.value, name, *words)
+            yield tree_text(kept.value, name, *words)
 
 
 def grafted(tree, words, deleted=False, limit=None):
@@ -150,11 +150,11 @@ CHANGES = {
 }
 
 
-def told_nodes(tree):
-    return "".join("[%s]" % " ".join(told_revision(tree, rev)) for rev in sorted(tree)) or "no tree"
+def nodes_text(tree):
+    return "".join("[%s]" % " ".join(revision_text(tree, rev)) for rev in sorted(tree)) or "no tree"
 
 
-def told_revision(tree, rev):
+def revision_text(tree, rev):
     found = tree[rev]
     yield revisions.text(rev)
     if found.parent is not None:
@@ -165,7 +165,7 @@ def told_revision(tree, rev):
         yield "body"
 
 
-def told_tree(tree, name, *words):
+def tree_text(tree, name, *words):
     rev = revisions.parse(words[0]) if words else None
     if not tree:
         return "no tree"
@@ -179,10 +179,10 @@ def told_tree(tree, name, *words):
         best = trees.winner(tree)
         return revisions.text(best) + (" deleted" if tree[best].deleted else "")
     assert name == "revision"
-    return " ".join(told_known(tree, rev))
+    return " ".join(known_text(tree, rev))
 
 
-def told_known(tree, rev):
+def known_text(tree, rev):
     if rev in tree:
         yield "known"
         if tree[rev].parent is not None:

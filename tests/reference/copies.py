@@ -1,7 +1,7 @@
-"""What compactions that are made by slices tell, beside commands.
+"""What comes of compactions that are made by slices, beside commands.
 
 A copy has no records here: it is what is left to be sliced and the marks up to which it has come, and its end is a compaction in
-one step. So what stands after it is right whatever fell between its slices.
+one step. So what it leaves is right whatever fell between its slices.
 """
 from .versions import History, content, touched
 
@@ -20,7 +20,7 @@ class Copy:
         return stripped
 
     def touched(self, database):
-        """What is to be taken over: None where the log no longer tells it."""
+        """What is to be taken over: None where the log no longer has it."""
         return touched(database, self.update_mark, self.purge_mark)
 
     def pass_first(self, n, purges, updates):
@@ -40,7 +40,7 @@ class Copies:
         self.history = history
         self.copies = {"first": (1, Copy(history.database)), "second": (2, Copy(history.database))}
 
-    def told(self, statement):
+    def result(self, statement):
         name, *words = statement.split()
         if name == "reopen":
             return self.history.reopen()
@@ -72,12 +72,12 @@ class Copies:
         return "place %d, %d visited" % (self.history.place(), sum(map(len, found)))
 
 
-def told(statements):
-    """What each statement tells, and what stands at the end. Both copies begin at the bar."""
+def results(statements):
+    """What comes of each statement, and what there is at the end. Both copies begin at the bar."""
     history, bar = History(), statements.index("|")
     for statement in statements[:bar]:
         yield history.write(0, statement.split())
     copies = Copies(history)
     for statement in statements[bar + 1 :]:
-        yield copies.told(statement)
+        yield copies.result(statement)
     yield content(history.database)

@@ -1,7 +1,7 @@
 """Rows of dumps whose history begins from a base: of each the dump, and what is said of it.
 
-A statement gives a member of the base, as a text that is put into the line as it stands; what is not given is as in an empty base.
-In a text `␠` is a space, `␉` a tab, `␊` a line feed, and `␀` stands for what is not UTF-8.
+A statement gives a member of the base, as a string that is put into the line as it is; what is not given is as in an empty base.
+In a text `␠` is a space, `␉` a tab, `␊` a line feed, and `␀` what is not UTF-8.
 
     NAME TEXT     the member of the base; a name with `next` in front, of what the next base must be, where that is another one
     first TEXT    the first line, in place of the one that the members make
@@ -9,7 +9,7 @@ In a text `␠` is a space, `␉` a tab, `␊` a line feed, and `␀` stands for
     cut N         without its last bytes
     check         what `replay check` says
     base          what `replay base` says: `same` for the first line of the dump, `next` for the one of the next base
-    reason        why the first line is none, which no program tells
+    reason        why the first line is none, which no program reports
 """
 from .bases import WrongBase, read_first_line
 from .history import cut, next_base, verdict
@@ -84,7 +84,7 @@ def reason(data):
         return fault.reason
 
 
-def told(statements):
+def results(statements):
     """What the second reading says to each question."""
     dump = Dump(statements)
     for statement in statements:

@@ -1,4 +1,4 @@
-"""The forms of the values that stand in a line of a dump, and their ranges."""
+"""The forms of the values in a line of a dump, and their ranges."""
 from . import revisions
 from .json_profile import MAX_BODY_NESTING, is_number, nesting
 

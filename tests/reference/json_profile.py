@@ -115,14 +115,14 @@ class Reader:
         return False
 
     def separated(self, bracket):
-        """After a value: whether the bracket closes, else a comma stands there."""
+        """After a value: whether the bracket closes, else a comma is there."""
         self.skip()
         sign = self.next()
         self.expect(sign in (bracket, ","))
         return sign == bracket
 
     def string(self):
-        """After the opening quote. A surrogate stands only in a pair of escapes."""
+        """After the opening quote. A surrogate comes only in a pair of escapes."""
         pieces = []
         while True:
             plain = PLAIN.match(self.text, self.at)

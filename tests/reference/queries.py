@@ -1,4 +1,4 @@
-"""What each query answers, over a database as it stands. The answers are JSON values."""
+"""What each query answers, over a database as it is. The answers are JSON values."""
 from dataclasses import dataclass
 
 from . import revisions, trees

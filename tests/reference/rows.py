@@ -1,7 +1,7 @@
-"""The rows of `tests/rows`: what is done, and what is told of it.
+"""The rows of `tests/rows`: what is done, and what comes of it.
 
-A row is a block of lines: its kind, and then statements with what each must tell behind `->`, pieces with `;` between. A name of
-a revision stands for its text, and `(TEXT)*N` for the text N times, `#` in it for the number from 0, in as many digits.
+A row is a block of lines: its kind, and then statements, each with what must come of it behind `->`, pieces with `;` between. A name of
+a revision means its text, and `(TEXT)*N` for the text N times, `#` in it for the number from 0, in as many digits.
 """
 import re
 from dataclasses import dataclass
@@ -25,17 +25,17 @@ NAME = re.compile(r"\b(?:%s|([1-9][0-9]*)-([0-9a-f]))\b" % "|".join(NAMES))
 REPEATED = re.compile(r"\(([^()]*)\)\*([0-9]+)")
 
 KINDS = {
-    "database": versions.told,
-    "copies": copies.told,
-    "world": worlds.told,
-    "map": containers.map_told,
-    "list": containers.list_told,
-    "tree": containers.tree_told,
+    "database": versions.results,
+    "copies": copies.results,
+    "world": worlds.results,
+    "map": containers.map_results,
+    "list": containers.list_results,
+    "tree": containers.tree_results,
     # those that go on over the end of a history
-    "epochs": versions.told,
-    "epoch_copies": copies.told,
-    "epoch_world": worlds.told_after,
-    "dump": dump_rows.told,
+    "epochs": versions.results,
+    "epoch_copies": copies.results,
+    "epoch_world": worlds.results_after,
+    "dump": dump_rows.results,
 }
 
 
@@ -51,7 +51,7 @@ class Row:
         return "%s %s" % (self.kind, "; ".join(self.statements).replace("; |; ", " | "))
 
     def second_reading(self):
-        """The pieces that the reference tells."""
+        """The pieces that the reference gives."""
         return [plain(piece) for piece in KINDS[self.kind](self.statements)]
 
 
@@ -67,11 +67,11 @@ def read(name, content):
 def row(name, kind, *lines):
     statements, wanted = [], []
     for line in lines:
-        statement, arrow, told = line.partition("->")
+        statement, arrow, result = line.partition("->")
         if statement.strip():
             statements.append(written_out(statement.strip()))
         if arrow:
-            wanted += pieces(written_out(told))
+            wanted += pieces(written_out(result))
     return Row(name, kind, statements, wanted)
 
 
@@ -92,7 +92,7 @@ def revision(found):
 
 
 def pieces(line):
-    """What a program tells of each statement, or what it must tell."""
+    """What a program prints of each statement, or what it must print."""
     return [plain(piece) for piece in line.removesuffix(";").split(";")]
 
 

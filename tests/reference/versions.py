@@ -1,7 +1,7 @@
-"""What the commands, the queries and the follower of a row tell."""
+"""What comes of the commands, the queries and the follower of a row."""
 import copy
 
-from . import queries, revisions, trees
+from . import queries, revisions
 from .bases import NoSuccessor, successor
 from .database import Database, Edit, Merge, Refused
 from .json_profile import EMPTY, body_of, read, text
@@ -23,14 +23,14 @@ class History:
         return sum(of == session for of, _ in self.seats) + 1
 
     def write(self, session, words):
-        """Does a command, and tells its reply."""
+        """Does a command, and gives its reply."""
         self.before = copy.copy(self)
         self.database, self.seats = copy.deepcopy(self.database), [*self.seats, (session, self.next_call(session))]
         self.reply = reply_to(self.database, words)
         return self.reply
 
     def reopen(self):
-        """Goes on as the next history, and tells what that begins from; the one that ended stands as `before`."""
+        """Goes on as the next history, and gives what that begins from; the one that ended is kept as `before`."""
         try:
             database = successor(self.database)
         except NoSuccessor:
@@ -58,7 +58,7 @@ def asked(words):
 
 
 def reply_to(database, words):
-    """What the database answers to the command of these words, as a text; the database goes on."""
+    """What the database answers to the command that these words are, as a string; the database goes on."""
     name, *words = words
     if name == "put_local" or name == "delete_local":
         return local_reply(database, *words)
@@ -136,13 +136,13 @@ def touched(database, update_mark, purge_mark):
     return logged(database, purge_mark), changed_since(database, update_mark)
 
 
-def told_touched(database, update_mark, purge_mark):
+def touched_text(database, update_mark, purge_mark):
     found = touched(database, update_mark, purge_mark)
     count = "overrun" if found is None else "%d" % sum(map(len, found))
     return "%s, %d logged" % (count, len(logged(database, purge_mark)))
 
 
-def told_read(history, name, *words):
+def read_text(history, name, *words):
     numbers = [int(word) for word in words]
     if name == "content":
         return content(history.database)
@@ -155,14 +155,14 @@ def told_read(history, name, *words):
     if name == "changed_since":
         rows = changed_since(history.database, *numbers)
         return "%d " % len(rows) + "".join("[%d %s]" % row for row in rows)
-    return {"touched_since": told_touched}[name](history.database, *numbers)
+    return {"touched_since": touched_text}[name](history.database, *numbers)
 
 
 # ---- queries
 
 
-def told_query(database, name, *words):
-    """What the database answers to the query of these words, as a text."""
+def query_text(database, name, *words):
+    """What the database answers to the query that these words are, as a string."""
     try:
         return QUERIES[name](database, *words)
     except Refused as refusal:
@@ -173,7 +173,7 @@ def options(words):
     return queries.Options(**{word: True for word in words})
 
 
-def told_document(found):
+def document_text(found):
     """An answer's document: its id and revision, what is special, and its members if it has any."""
     found = dict(found)
     parts = [found.pop("_id"), found.pop("_rev")]
@@ -194,63 +194,63 @@ def told_document(found):
     return " ".join(parts)
 
 
-def told_get(database, id, rev, *words):
-    return told_document(queries.get(database, id, optional(rev, revisions.parse), options(words)))
+def get_text(database, id, rev, *words):
+    return document_text(queries.get(database, id, optional(rev, revisions.parse), options(words)))
 
 
-def told_opened(database, id, revs, *words):
+def opened_text(database, id, revs, *words):
     listed = None if revs == "all" else [revisions.parse(rev) for rev in revs.split(",")]
     answers = queries.open_revs(database, id, listed, options(words))
-    return "".join("[%s]" % (told_document(one["ok"]) if "ok" in one else "missing " + one["missing"]) for one in answers)
+    return "".join("[%s]" % (document_text(one["ok"]) if "ok" in one else "missing " + one["missing"]) for one in answers)
 
 
-def told_differences(database, *words):
-    return "".join("[%s]" % " ".join(told_difference(id, found)) for id, found in queries.revs_diff(database, asked(words)).items())
+def differences_text(database, *words):
+    return "".join("[%s]" % " ".join(difference_text(id, found)) for id, found in queries.revs_diff(database, asked(words)).items())
 
 
-def told_difference(id, found):
+def difference_text(id, found):
     yield from [id, "missing", *found["missing"]]
     if "possible_ancestors" in found:
         yield from ["ancestors", *found["possible_ancestors"]]
 
 
-def told_row(row):
+def row_text(row):
     revs = [change["rev"] for change in row["changes"]]
     return "[%s]" % " ".join([str(row["seq"]), row["id"], *revs, *(["deleted"] if row.get("deleted") else [])])
 
 
-def told_page(database, since, limit, style, ids=None):
+def page_text(database, since, limit, style, ids=None):
     page = queries.changes(database, int(since), optional(limit, int), is_all(style), ids)
-    return "".join(map(told_row, page["results"])) + "[last %(last_seq)d pending %(pending)d]" % page
+    return "".join(map(row_text, page["results"])) + "[last %(last_seq)d pending %(pending)d]" % page
 
 
 def is_all(style):
     return {"main_only": False, "all_docs": True}[style]
 
 
-def told_all(database):
+def all_text(database):
     return "".join("[%s %s]" % (row["id"], row["value"]["rev"]) for row in queries.all_docs(database)["rows"])
 
 
-def told_counts(database):
+def counts_text(database):
     return "live %(doc_count)d deleted %(doc_del_count)d update %(update_seq)d purge %(purge_seq)d" % queries.info(database)
 
 
-def told_local(database, id):
+def local_text(database, id):
     found = queries.local_get(database, id)
     number, members = found["_rev"], {name: value for name, value in found.items() if not name.startswith("_")}
     return " ".join([number.removeprefix("0-"), *([text(members)] if members else [])])
 
 
 QUERIES = {
-    "get": told_get,
-    "open_revs": told_opened,
-    "revs_diff": told_differences,
-    "changes": told_page,
-    "changes_of": lambda database, texts, *words: told_page(database, *words, ids=texts.split(",")),
-    "all_docs": told_all,
-    "info": told_counts,
-    "get_local": told_local,
+    "get": get_text,
+    "open_revs": opened_text,
+    "revs_diff": differences_text,
+    "changes": page_text,
+    "changes_of": lambda database, texts, *words: page_text(database, *words, ids=texts.split(",")),
+    "all_docs": all_text,
+    "info": counts_text,
+    "get_local": local_text,
     "revs_limit": lambda database: str(database.revs_limit),
     "purged_infos_limit": lambda database: str(database.purged_infos_limit),
 }
@@ -259,8 +259,8 @@ QUERIES = {
 # ---- rows
 
 
-def told(statements):
-    """What each statement tells."""
+def results(statements):
+    """What comes of each statement."""
     history, follower = History(), None
     for statement in statements:
         name, *words = statement.split()
@@ -274,18 +274,18 @@ def told(statements):
             yield str(len(queries.changes(history.database, follower.cursor, None, False, follower.ids)["results"]))
         elif name == "next":
             rows = follower.next(history.database, int(words[0]))
-            yield "%s at %d" % ("".join(map(told_row, rows)), follower.cursor)
+            yield "%s at %d" % ("".join(map(row_text, rows)), follower.cursor)
         else:
-            yield told_statement(history, name, words)
+            yield statement_text(history, name, words)
 
 
-def told_statement(history, name, words):
+def statement_text(history, name, words):
     if name == "?":
-        return told_query(history.database, *words)
+        return query_text(history.database, *words)
     if name == "now":
-        return told_read(history, *words)
+        return read_text(history, *words)
     if name == "before":
-        return told_read(history.before, *words)
+        return read_text(history.before, *words)
     if name == "by":
         return history.write(int(words[0]), words[1:])
     if name == "reopen":

@@ -150,8 +150,8 @@ def asked(connection, method, target, body=None):
     text = b"" if body is None else json.dumps(body).encode()
     head = "%s %s HTTP/1.1\r\nHost: db\r\nAccept: application/json\r\nContent-Length: %d\r\n\r\n" % (method, target, len(text))
     [answer] = connection.responses(head.encode() + text)
-    told, body = answer.split(b"\r\n\r\n", 1)
-    return int(told.split(b" ")[1]), json.loads(body)
+    head, body = answer.split(b"\r\n\r\n", 1)
+    return int(head.split(b" ")[1]), json.loads(body)
 
 
 def replicate(source, target, ids):

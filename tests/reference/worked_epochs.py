@@ -9,7 +9,7 @@ from .epochs import Chronicle, extends, follows, is_right
 from .history import Recorder, next_base, verdict
 from .json_profile import Body
 from .worked import A1, filled, finished, outcome, purge, put
-from .worlds import told_after
+from .worlds import results_after
 
 PUT = b"PUT /db/%s HTTP/1.1\r\nContent-Length: 2\r\n\r\n{}"
 CREATED = (
@@ -47,7 +47,7 @@ def second_history():
     yield "under the number 0", verdict(second.dump().replace(b'"update_seq":1', b'"update_seq":0')) == ("unreadable line 1", 3)
     yield "the base from the dump", next_base(closed) == (FIRST, 0)
     yield "the base after no entry", next_base(FIRST) == (FIRST, 0)
-    world = told_after(["edit a - {}", "edit a - {}", "|", "look 0", "read 0 info"])
+    world = results_after(["edit a - {}", "edit a - {}", "|", "look 0", "read 0 info"])
     yield "a world from there", world[2:] == ["0 at 0 live 1 deleted 0 update 1 purge 0", "place 0", "update 1 purge 0 [a 1 %s]" % A1]
 
 
@@ -102,7 +102,7 @@ def goes_on():
     yield "documents", sorted(base.docs) == ["a", "b", "d", "s"] and len(base.docs["s"].tree) == 1
     for next_step in [lambda: put(base, "e"), lambda: base.compact(), lambda: purge(base, "e"), lambda: base.set_purged_infos_limit(1)]:
         next_step()
-        yield "the one that ended stands", is_same(database, like)
+        yield "the one that ended stays", is_same(database, like)
     yield "and the next went on", (base.update_seq, base.purge_seq, len(base.purged_infos)) == (11, 4, 1)
 
 
@@ -142,12 +142,12 @@ def largest():
         database = large(update_seq, purge_seq)
         found = outcome_of(successor, database)
         yield "the %s number past the most" % name, isinstance(found, NoSuccessor)
-        yield "and it stands as it was", is_same(database, large(update_seq, purge_seq))
+        yield "and it is as it was", is_same(database, large(update_seq, purge_seq))
         yield "a line of it is none", verdict(first_line(database)) == ("unreadable line 1", 3)
     line, entry = first_line(large(LARGEST, 1)), ENTRY.replace(b'"id":"b"', b'"id":"c"')
     yield "a write past the most is legal", verdict(line + entry) == ("legal 1", 0)
     yield "and has no next history", next_base(line + entry) == (b"no successor\n", 6)
-    yield "what is wrong is told first", next_base(line + entry + entry) == (b"wrong at 2\n", 2)
+    yield "what is wrong is reported first", next_base(line + entry + entry) == (b"wrong at 2\n", 2)
     yield "what is unreadable too", next_base(line + entry + entry[:-1]) == (b"unreadable line 3\n", 3)
 
 

@@ -4,7 +4,7 @@ An event whose condition fails, or whose session there is not, does nothing.
 """
 from .bases import successor
 from .copies import Copy
-from .versions import History, content, told_query
+from .versions import History, content, query_text
 
 SESSIONS, QUEUE, GATHER, SLACK, MAX_PLACES = 3, 4, 4, 0, 100
 
@@ -73,7 +73,7 @@ class World:
         session = int(session)
         if self.is_free(session):
             place = self.views[session]
-            self.completed.append("%d at %d %s" % (session, place, told_query(self.databases[place], *words)))
+            self.completed.append("%d at %d %s" % (session, place, query_text(self.databases[place], *words)))
 
     # ---- a compaction
 
@@ -88,7 +88,7 @@ class World:
             self.copy.slice(int(n))
 
     def touched(self):
-        """What the sliced copy is to take over; where the log no longer tells it, the compaction ends."""
+        """What the sliced copy is to take over; where the log no longer has it, the compaction ends."""
         if self.copy is None or self.copy.left > 0:
             return None
         found = self.copy.touched(self.history.database)
@@ -114,20 +114,20 @@ class World:
             self.copy = None
 
 
-def told(statements):
-    """The completed calls, how many entries there are, and what stands."""
-    return told_of(World(), statements)
+def results(statements):
+    """The completed calls, how many entries there are, and what the database has."""
+    return results_of(World(), statements)
 
 
-def told_after(statements):
-    """What each command in front of the bar tells, and then what the events behind it do in a world that begins from the successor
+def results_after(statements):
+    """What each command in front of the bar is answered, and then what the events behind it do in a world that begins from the successor
     of what the commands leave."""
     history, bar = History(), statements.index("|")
-    told = [history.write(0, statement.split()) for statement in statements[:bar]]
-    return told + told_of(World(successor(history.database)), statements[bar + 1 :])
+    replies = [history.write(0, statement.split()) for statement in statements[:bar]]
+    return replies + results_of(World(successor(history.database)), statements[bar + 1 :])
 
 
-def told_of(world, statements):
+def results_of(world, statements):
     for statement in statements:
         name, *words = statement.split()
         getattr(world, name)(*words)

@@ -271,7 +271,7 @@ fn print<M: Layout>(name: &str) {
 }
 
 fn main() {
-    println!("microseconds, by documents      1,000  10,000 100,000   growth");
+    println!("microseconds, by documents      1,000  10,000 100,000    ratio");
     print::<Binary<Arc<Pair>>>("binary, entries shared");
     print::<Binary<Pair>>("binary, entries in nodes");
     print::<Wide>("nodes of 12");

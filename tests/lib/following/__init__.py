@@ -1,4 +1,4 @@
-"""Clients that follow the changes of some documents beside the one who writes, and what they must be told.
+"""Clients that follow the changes of some documents beside the one who writes, and what they must get.
 
     plan      the writes, made up before they are sent, and the rows and pages at each place
     clients   the writer, those who follow by long polls, and those who follow by feeds that go on

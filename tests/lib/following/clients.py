@@ -22,7 +22,7 @@ class Following:
 
     def __init__(self, plan, connect, check):
         self.plan, self.connect, self.check = plan, connect, check
-        self.begun = self.told = 0  # writes that were sent, and that were answered
+        self.begun = self.answered = 0  # writes that were sent, and that were answered
         self.polls = self.feeds = 0  # that were answered
         self.ended = 0  # clients that came to the end
         self.lock = threading.Lock()
@@ -40,7 +40,7 @@ class Following:
             self.begun = number
             reply = connection.ask(*self.plan.requests[number])
             self.check(reply == self.plan.reply(number), "write %d is answered %r", number, reply)
-            self.told = number
+            self.answered = number
         connection.close()
 
     # ---- long polls
@@ -49,13 +49,13 @@ class Following:
         """Follows the listed documents by long polls, each answered with the page at its place, which has a row."""
         wanted, connection = set(listed), self.connect()
         while since == "now" or since < self.plan.last:
-            told = self.told
+            answered = self.answered
             status, page = connection.ask("POST", target("longpoll", since, limit), {"doc_ids": listed})
             place = connection.place
             asked = "a poll of %s above %s, at most %s" % (shown(listed), since, limit)
-            self.check(told <= place <= self.begun, "%s is answered at %d, after %d writes were", asked, place, told)
+            self.check(answered <= place <= self.begun, "%s is answered at %d, after %d writes were", asked, place, answered)
             is_page = status == 200 and any(
-                page == self.plan.page(wanted, number, limit, place) for number in self.places_of(since, told, place)
+                page == self.plan.page(wanted, number, limit, place) for number in self.places_of(since, answered, place)
             )
             self.check(is_page, "%s is answered %d, %r at %d", asked, status, page, place)
             self.check(page["results"], "%s is answered at %d with no row", asked, place)
@@ -64,9 +64,9 @@ class Following:
         connection.close()
         self.count("ended")
 
-    def places_of(self, since, told, place):
-        """The numbers that `since` may stand for: `now` is that of what the request saw first."""
-        return range(told, place + 1) if since == "now" else [since]
+    def places_of(self, since, answered, place):
+        """The numbers that `since` may mean: `now` is that of what the request saw first."""
+        return range(answered, place + 1) if since == "now" else [since]
 
     # ---- feeds that go on
 
@@ -74,11 +74,11 @@ class Following:
         """Follows the listed documents by feeds, each of which ends behind so many rows, or is given up behind the last write."""
         wanted = set(listed)
         while since < self.plan.last:
-            told, connection = self.told, self.connect()
+            answered, connection = self.answered, self.connect()
             connection.send("POST", target("continuous", since, limit), {"doc_ids": listed})
             status, headers = connection.head()
             self.check((status, headers.get("Connection")) == (200, "close"), "%d, %r for a feed", status, headers)
-            self.check(told <= connection.place <= self.begun, "a feed begins at %d, after %d writes were answered", connection.place, told)
+            self.check(answered <= connection.place <= self.begun, "a feed begins at %d, after %d writes were answered", connection.place, answered)
             since = self.take_rows(connection, wanted, since, limit)
             connection.close()
             self.count("feeds")
@@ -104,7 +104,7 @@ class Following:
         return since
 
     def last_line(self, connection, line, wanted, since, least):
-        """A feed that gave as many rows as it was asked for tells where it stands and how many rows are left, and ends."""
+        """A feed that gave as many rows as it was asked for says where it is and how many rows are left, and ends."""
         left = {len(self.plan.above(wanted, since, place)) for place in range(least, self.begun + 1)}
         is_last = line is not None and set(line) == {"last_seq", "pending"} and line["last_seq"] == since and line["pending"] in left
         self.check(is_last, "a feed ends behind row %d with %r, where %r may be left", since, line, sorted(left))

@@ -1,6 +1,6 @@
-"""The writes of one client, and what is told of some documents at each place of the history.
+"""The writes of one client, and what is answered of some documents at each position of the history.
 
-Nobody else writes, and each write succeeds, so the update number of what stands at a place is that place.
+Nobody else writes, and each write succeeds, so the update number at a position is that position.
 """
 from bisect import bisect_right
 
@@ -54,7 +54,7 @@ class Plan:
         return numbers[at] if at < len(numbers) else self.last + 1
 
     def above(self, wanted, since, place):
-        """The numbers of the wanted documents above `since`, as they stand at a place."""
+        """The numbers of the wanted documents above `since`, as they are at a position."""
         return sorted(number for number in (self.number_at(id, place) for id in wanted) if number > since)
 
     def page(self, wanted, since, limit, place):

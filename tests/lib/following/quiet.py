@@ -5,7 +5,7 @@ from .clients import target
 
 OTHERS = 300  # documents that are written meanwhile
 IDLE = 1.5  # seconds in which nothing is written
-SOON = 0.2  # seconds in which one would be told
+SOON = 0.2  # seconds in which a change would come
 
 
 class Quiet:
@@ -28,7 +28,7 @@ class Quiet:
         return dict(row, deleted=True) if method == "DELETE" else row
 
     def asked(self, feed, since, *ids):
-        """A connection that asked to be told of these documents, or of any, and waits."""
+        """A connection that asked for changes of these documents, or of any, and waits."""
         connection = self.connect()
         if ids:
             connection.send("POST", target(feed, since, None), {"doc_ids": list(ids)})
@@ -40,10 +40,10 @@ class Quiet:
         self.waiting.append(connection)
         return connection
 
-    def nobody_is_told(self, seconds, text):
+    def nothing_comes(self, seconds, text):
         ready, _, _ = select.select([connection.socket for connection in self.waiting], [], [], seconds)
         early = any(connection.rest for connection in self.waiting)
-        self.check(not ready and not early, "%d of %d who wait for others are told of something when %s", len(ready), len(self.waiting), text)
+        self.check(not ready and not early, "%d of %d who wait for others get something when %s", len(ready), len(self.waiting), text)
 
     def run(self):
         """A poll and a feed wait for a document, one of each for none that is there, and a poll for any."""
@@ -53,14 +53,14 @@ class Quiet:
         poll, feed = self.asked("longpoll", 3, "b", "zz", "b"), self.asked("continuous", 3, "zz", "b")
         self.asked("longpoll", "now", "zz", "x" * 513, "")
         self.asked("continuous", "now", "zz")
-        self.nobody_is_told(IDLE, "nothing is written")
+        self.nothing_comes(IDLE, "nothing is written")
         self.ends(first, self.write("first"))
         for number in range(OTHERS):
             self.write("other-%d" % number)
         for id in "ac":
             self.write(id)
-        self.nobody_is_told(SOON, "others are written")
-        self.is_told(poll, feed)
+        self.nothing_comes(SOON, "others are written")
+        self.change_comes(poll, feed)
         for connection in self.waiting + [first, poll, self.writer]:
             connection.close()
 
@@ -71,14 +71,14 @@ class Quiet:
         wanted = {"last_seq": row["seq"], "pending": 0, "results": [row]}
         self.check((status, page, poll.place) == (200, wanted, row["seq"]), "a poll is answered %d, %r at %d", status, page, poll.place)
 
-    def is_told(self, poll, feed):
-        """What is written of the document is told at once, to a poll once."""
+    def change_comes(self, poll, feed):
+        """What is written of the document comes at once, to a poll once."""
         row = self.write("b")
         self.ends(poll, row)
         line = feed.line()
-        self.check(line == row, "a feed tells %r in place of %r", line, row)
+        self.check(line == row, "a feed has %r in place of %r", line, row)
         self.write("c")
-        self.nobody_is_told(SOON, "another one is written")
+        self.nothing_comes(SOON, "another one is written")
         row, line = self.write("b", "DELETE"), feed.line()
-        self.check(line == row, "a feed tells %r in place of %r", line, row)
-        self.nobody_is_told(SOON, "all is told")
+        self.check(line == row, "a feed has %r in place of %r", line, row)
+        self.nothing_comes(SOON, "all has come")

@@ -31,7 +31,7 @@ def some_requests(random, recorder, count):
 
 
 def database(random):
-    """What some requests leave; its numbers and counters may be moved up, together with those that stand below them."""
+    """What some requests leave; its numbers and counters may be moved up, together with those that are below them."""
     recorder = Recorder()
     some_requests(random, recorder, random.randint(0, 25))
     found = recorder.database

@@ -1,4 +1,4 @@
-"""Faults: in the parts of a request that are told apart by a refusal, and in the bytes of a head."""
+"""Faults: in the parts of a request that refusals distinguish, and in the bytes of a head."""
 import json
 
 from lib.requests import encoded, request

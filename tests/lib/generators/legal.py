@@ -1,4 +1,4 @@
-"""Requests that make sense over the database as it stands: identities, revisions and numbers that it has, mostly."""
+"""Requests that make sense over the database as it is by then: identities, revisions and numbers that it has, mostly."""
 import json
 from urllib.parse import quote
 

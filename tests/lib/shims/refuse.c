@@ -1,5 +1,5 @@
 /* Counts requests for memory and refuses some: those whose numbers, from 1, are from REFUSE to LAST, or REFUSE alone where
-   there is no LAST. Where COUNT stands, the number of all requests is told at the end. Loaded before the C library. */
+   there is no LAST. With COUNT, the number of all requests is written at the end. Loaded before the C library. */
 #define _GNU_SOURCE
 #include <errno.h>
 #include <stdio.h>
@@ -7,7 +7,7 @@
 #include <string.h>
 #include <unistd.h>
 
-static unsigned long made, first_refused, last_refused, told;
+static unsigned long made, first_refused, last_refused, has_orders;
 
 static unsigned long number(const char *name) {
     const char *text = getenv(name);
@@ -15,14 +15,14 @@ static unsigned long number(const char *name) {
 }
 
 static void start(void) {
-    if (!told) {
+    if (!has_orders) {
         first_refused = number("REFUSE");
         last_refused = getenv("LAST") ? number("LAST") : first_refused;
-        told = 1;
+        has_orders = 1;
     }
 }
 
-static void tell(const char *line) {
+static void report(const char *line) {
     if (write(2, line, strlen(line)) < 0)
         _exit(99);
 }
@@ -34,7 +34,7 @@ static int refuses(void) {
         return 0;
     /* the tester reads this line to know that a request was refused */
     if (made == first_refused)
-        tell("refused\n");
+        report("refused\n");
     errno = ENOMEM;
     return 1;
 }
@@ -43,7 +43,7 @@ __attribute__((destructor)) static void end(void) {
     char line[64];
     if (getenv("COUNT")) {
         snprintf(line, sizeof line, "requests %lu\n", made);
-        tell(line);
+        report(line);
     }
 }
 
