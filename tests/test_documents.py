@@ -7,7 +7,9 @@ The documents are README.md, CONTRIBUTING.md, CHANGELOG.md, tests/README.md and 
 - Commands: a block fenced as `sh` is run where a block with no language follows it under the same heading, which is its output.
   The blocks of a document run in order, each in a shell of its own, in a new folder with the repository's `examples` in it and the
   programs on the path. Two servers are started for the document: 127.0.0.1:5984 and 127.0.0.1:5985 mean their ports. Standard
-  error counts as output, and `curl`, which has to be there, ends each answer with a line feed.
+  error counts as output, and `curl`, which has to be there, ends each answer with a line feed. A block without output that starts
+  servers is run too, on free ports: after a second each of them must be running, and have written nothing but its port. Blocks without
+  output that build or test (`rt`, `tests/all`) are not run.
 - Links: a link to a file of the repository leads to one, and to a heading of it where it names one.
 - Crates: the table of docs/PROOFS.md has a row for each crate that the programs or the proofs depend on, in the order of crates.txt,
   whose second column is the first sentence of the crate's `//!`. The tables of docs/ARCHITECTURE.md name the same crates.
@@ -57,15 +59,20 @@ def documents():
 
 
 def shown(text):
-    """The commands of a document that have an output, each with it, in order."""
+    """The commands of a document, each with its output or with None, in order."""
     commands = None
-    for language, block, heading in BLOCK.findall(text):
-        if language == "sh":
-            commands = block
-        else:
-            if not (heading or language or commands is None):
-                yield commands, block
-            commands = None
+    for language, block, heading in [*BLOCK.findall(text), ("", "", "end")]:
+        if commands is not None:
+            yield commands, None if heading or language else block
+        commands = block if language == "sh" else None
+
+
+def started(commands):
+    """The commands with each server that they start on a free port, in the background, and ended after a second; or None."""
+    if "couchd serve" not in commands:
+        return None
+    servers = re.sub(r"(couchd serve\b[^>&\n]*?)(?: --port \d+)?([^&\n]*?)(?: &)?$", r"\1 --port 0\2 &", commands, flags=re.M)
+    return servers + "sleep 1\nfor job in $(jobs -p); do kill $job || exit 1; done\necho ended\n"
 
 
 class Room:
@@ -111,12 +118,22 @@ class Room:
         return output
 
 
+def check_started(checks, name, room, commands):
+    servers = started(commands)
+    if servers is not None:
+        found = room.run(servers)
+        checks.check(re.fullmatch(r"(listening 127\.0\.0\.1:\d+\n)*ended\n", found), "%s:\n%s  prints\n%s", name, commands, found)
+
+
 def check_commands(checks, name, programs):
     blocks = list(shown(content(name)))
     if not blocks:
         return
     with Room(*programs) as room:
         for commands, wanted in blocks:
+            if wanted is None:
+                check_started(checks, name, room, commands)
+                continue
             found = room.run(commands)
             checks.check(found.rstrip("\n") == wanted.rstrip("\n"), "%s:\n%s  wanted\n%s  found\n%s", name, commands, wanted, found)
 
