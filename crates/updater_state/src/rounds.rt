@@ -115,7 +115,7 @@ impl<R: Wait + Drop, J: Opening> Core<R, J> {
     pub fn tell(&mut self, queue: &Queue<J>, session: u16) -> Option<Told<J>>
         ensures taken { self.new ≡ after_taking self.old session }
         ensures outcome { IfSome result (λ told. outcome_of self.old.outcomes session ≡ Some told.outcome) }
-        ensures taken { IfSome result (λ told. told.taken_count ≡ record { number = session; gone = count session self.new.popped }) }
+        ensures taken_count { IfSome result (λ told. told.taken_count ≡ record { number = session; gone = count session self.new.popped }) }
     {
         if !self.has_outcome(session) {
             return None;
@@ -140,7 +140,7 @@ impl<R: Wait + Drop, J: Opening> Core<R, J> {
     ) -> Option<Told<J>>
         ensures goes { Serves J.base J.config session self.old self.new }
         ensures own { IfSome result (λ told. Takes J.base J.config session self.old self.new told.outcome) }
-        ensures taken { IfSome result (λ told. told.taken_count ≡ record { number = session; gone = count session self.new.popped }) }
+        ensures taken_count { IfSome result (λ told. told.taken_count ≡ record { number = session; gone = count session self.new.popped }) }
     {
         for _ in 0..most {
             if self.has_outcome(session) {
