@@ -28,7 +28,12 @@ def keeps(ratio, bound):
 
 
 def bound_text(bound):
-    return "at most %.2f" % bound["at_most"] if "at_most" in bound else "at least %.2f" % bound["at_least"]
+    return "at most %.4g" % bound["at_most"] if "at_most" in bound else "at least %.4g" % bound["at_least"]
+
+
+def short(ratio):
+    """The ratio with three digits that count."""
+    return float("%.3g" % ratio)
 
 
 class Ratios:
@@ -52,16 +57,16 @@ class Ratios:
             bound = known.get(name)
             is_right = bound is not None and keeps(ratio, bound)
             failed += not is_right
-            text = "no stored ratio" if bound is None else "stored %.2f, %s" % (bound["stored"], bound_text(bound))
-            print("%s%s: %.2f (%s)" % ("" if is_right else "FAILED: ", name, ratio, text))
+            text = "no stored ratio" if bound is None else "stored %.4g, %s" % (bound["stored"], bound_text(bound))
+            print("%s%s: %.4g (%s)" % ("" if is_right else "FAILED: ", name, ratio, text))
         return report(len(self.found) - failed, failed)
 
     def store(self):
         everything = stored()
         known = everything.setdefault(self.bench, {})
         for name, (ratio, more_is_better) in self.found.items():
-            bound = {"at_least": round(ratio / ROOM, 3)} if more_is_better else {"at_most": round(ratio * ROOM, 3)}
-            known[name] = {**bound, **known.get(name, {}), "stored": round(ratio, 3)}
+            bound = {"at_least": short(ratio / ROOM)} if more_is_better else {"at_most": short(ratio * ROOM)}
+            known[name] = {**bound, **known.get(name, {}), "stored": short(ratio)}
         with open(PATH, "w", encoding="utf-8") as file:
             json.dump(everything, file, indent=4, sort_keys=True)
             file.write("\n")

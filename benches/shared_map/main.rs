@@ -139,7 +139,7 @@ fn times_at(len: u64) {
     );
     let row = |call: &str, shared: f64, tree: f64| {
         println!(
-            "| {call} | {shared:.0} | {tree:.0} | {:.2} |",
+            "| {call} | {shared:.0} | {tree:.0} | {:.4} |",
             shared / tree
         );
     };
