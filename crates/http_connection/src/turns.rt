@@ -11,7 +11,9 @@ use streams::{Sink, Source};
 /// other connections before.
 ///
 /// Whatever has come is answered before more is read. Nothing is read after a response that closes
-/// the connection. It takes no memory but what the service takes.
+/// the connection. It takes no memory but what the service takes. The reader is told when a next request is
+/// awaited, so that it may give up a peer in time: that ends the input where nothing of the request has come, and else is a
+/// failed read.
 pub fn serve<C, R: Source, W: Sink, S: Service<C>>(
     window: &mut Window,
     reader: &mut R,
@@ -38,6 +40,7 @@ pub fn serve<C, R: Source, W: Sink, S: Service<C>>(
                 if closes {
                     return Ended::after(answered, Cause::Closed);
                 }
+                reader.awaits(!window.bytes().is_empty());
             }
             Front::Refused(fault) => {
                 let Ok(()) = service.refuse(context, fault, writer) else {

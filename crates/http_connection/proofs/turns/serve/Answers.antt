@@ -23,13 +23,13 @@ returns-then-closes g c =
     rw c.after-then-closes.ensures
     (served-closed rest c.turns.invariant.1 turn.1 begins (sym turn.4 ∙ c.if-closes.true) turn.3 refl refl turn.2.0 c.in-Ok.ensures.failures.0)
 
-pub turns-preserved-else-closes : goal.turns-preserved-else-closes
-turns-preserved-else-closes g c =
+pub turns-preserved-in-Request : goal.turns-preserved-in-Request
+turns-preserved-in-Request g c =
     let begins = begins-request c.turns.window.bytes c.take.new.self.bytes c.bytes.ensures c.bytes-in-Request.ensures c.in-Request.ensures c.request-request.ensures (c.take.ensures ∙ ap (λ (n : ℕ). drop n c.turns.window.bytes) c.taken.ensures) in
     let turn = c.in-Ok.ensures.turn in (
       c.turns.invariant.0 ++ turn.0 ∷ [],
-      going-on c.turns.invariant.1 turn.1 begins (sym turn.4 ∙ c.if-closes.false) turn.3 refl refl turn.2.0 c.in-Ok.ensures.failures.0,
-      omega (arith, length-after _ _ _ begins, c.turns.invariant.2),
+      going-on c.turns.invariant.1 turn.1 begins (sym turn.4 ∙ c.if-closes.false) turn.3 c.awaits.ensures.left c.awaits.ensures.failures turn.2.0 c.in-Ok.ensures.failures.0,
+      omega (arith, length-after _ _ _ begins, c.awaits.ensures.budget, c.turns.invariant.2),
     )
 
 pub returns-in_default-refuse : goal.returns-in_default-refuse
