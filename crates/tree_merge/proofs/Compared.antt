@@ -8,9 +8,9 @@ use Rattle.std.proofs.lemmas.Bool.{and_right, true≢false}
 use Rattle.model.specs.Body.{Body, same_body}
 use Rattle.model.specs.Map.{entries}
 use Rattle.model.specs.Revision.{Rev}
-use Rattle.model.specs.Tree.{Tree, Revision}
+use Rattle.model.specs.Tree.{Tree, Revision, knows}
 use Rattle.model.specs.Database.{same_tree, same_entry}
-use Rattle.model.proofs.SameLaws.{same_body-equal}
+use Rattle.model.proofs.SameLaws.{same_body-equal, same_tree-equal}
 use Rattle.revision_tree.specs.declared.node.Node.{Node}
 use Rattle.revision_tree.specs.Nodes.{IsListOf, entry_of, entries_of}
 
@@ -35,6 +35,14 @@ counted_apart s t a b most e f h = long (entries s) (entries t) (λ k. h (e ∙ 
     long (x ∷ xs) [] h = refl
     long (x ∷ xs) (y ∷ ys) h = and_right (same_entry x y) (pointwise same_entry xs ys) (long xs ys (λ e. h (omega (arith, e))))
 
+-- trees of which one alone has a revision
+pub known_in_one : (s t : Tree) (r : Rev) → knows s r ≡ true → knows t r ≡ false → same_tree s t ≡ false
+known_in_one s t r known unknown = untrue (same_tree s t) (λ e. true≢false (sym known ∙ ap (λ u. knows u r) ((same_tree-equal s t).0 e) ∙ unknown))
+  where
+    untrue : (b : Bool) → (b ≡ true → ⊥) → b ≡ false
+    untrue true h = absurd (h refl)
+    untrue false h = refl
+
 pub alike_next : (xs ys ms ns : List Node) (m n : Node) → xs ≡ m ∷ ms → ys ≡ n ∷ ns → Alike xs ys ≡ (same_entry (entry_of m) (entry_of n) && Alike ms ns)
 alike_next xs ys ms ns m n e f = λ i. Alike (e i) (f i)
 
@@ -47,7 +55,7 @@ alike_ends xs ys e f = λ i. Alike (e i) (f i)
 pub alike_longer : (xs ys ns : List Node) (n : Node) → xs ≡ [] → ys ≡ n ∷ ns → Alike xs ys ≡ false
 alike_longer xs ys ns n e f = λ i. Alike (e i) (f i)
 
-other_of : (b : Bool) → true ≡ not b → b ≡ false
+pub other_of : (b : Bool) → true ≡ not b → b ≡ false
 other_of true e = absurd (true≢false e)
 other_of false e = refl
 

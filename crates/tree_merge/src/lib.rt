@@ -15,7 +15,7 @@ mod written;
 
 pub use fault::MergeFault;
 pub use grafts::graft;
-pub use matches::is_same;
+pub use matches::{has_alone, is_same};
 pub use removed::removed_leaves;
 pub use stems::{cut_leaves, stem};
 pub use strips::strip;

@@ -1,5 +1,5 @@
 //! Whether two trees are one.
-ghost use Rattle.std.specs.Prelude.{◌≡◌, option_map};
+ghost use Rattle.std.specs.Prelude.{◌≡◌, true, false, option_map};
 ghost use Rattle.std.specs.Arc.{arc_value};
 ghost use Rattle.std.specs.Option.{option_eq};
 ghost use Rattle.model.specs.Body.{same_body};
@@ -7,8 +7,16 @@ ghost use Rattle.model.specs.Database.{same_tree, same_entry};
 ghost use Rattle.revision_tree.specs.Nodes.{entry_of};
 
 use json_profile::Body;
+use revision_id::RevId;
 use revision_tree::{Node, RevTree};
 use std::sync::Arc;
+
+/// Whether the first tree has a revision that the second has not: then they are not the same. Costs two look-ups, and takes no memory.
+pub fn has_alone(one: &RevTree, other: &RevTree, rev: RevId) -> bool
+    ensures { result ≡ true → same_tree one.now other.now ≡ false }
+{
+    one.knows(rev) && !other.knows(rev)
+}
 
 /// Whether the two have the same revisions, parents, flags and bodies. Takes no memory.
 pub fn is_same(one: &RevTree, other: &RevTree) -> bool

@@ -14,7 +14,7 @@ use revision_id::RevId;
 use revision_tree::RevTree;
 use std::alloc::AllocError;
 use std::mem;
-use tree_merge::is_same;
+use tree_merge::{has_alone, is_same};
 
 impl Database {
     pub(super) fn tree(&self, id: &DocId) -> Option<&RevTree>
@@ -23,11 +23,12 @@ impl Database {
         self.documents.get(id).map(Record::tree)
     }
 
-    fn holds(&self, id: &DocId, tree: &RevTree) -> bool
+    /// Whether the document has this tree, into which the revision was written.
+    fn holds(&self, id: &DocId, tree: &RevTree, rev: RevId) -> bool
         ensures { result ≡ unwrap_or (option_map (same_tree tree.now) (tree_at self.now id.now)) false }
     {
         match self.tree(id) {
-            Some(held) => is_same(tree, held),
+            Some(held) => !has_alone(tree, held, rev) && is_same(tree, held),
             None => false,
         }
     }
@@ -43,13 +44,13 @@ impl Database {
         Ok(())
     }
 
-    /// The same, unless the document has this tree already.
+    /// The same, unless the document has this tree already, into which the revision was written.
     #[tactic(auto, unfolding(model::specs::Database::store))]
-    fn store(&mut self, id: &DocId, tree: RevTree) -> Result<(), AllocError>
+    fn store(&mut self, id: &DocId, tree: RevTree, rev: RevId) -> Result<(), AllocError>
         requires room { self.old.update_seq + 1 < u64.MAX }
         ensures stored { IfOk result (λ _. self.new ≡ model.store self.old id.now tree) }
     {
-        if self.holds(id, &tree) {
+        if self.holds(id, &tree, rev) {
             return Ok(());
         }
         self.update(id, tree)
@@ -67,7 +68,7 @@ impl Database {
     {
         match outcome {
             Ok(written) => {
-                self.store(id, written.tree)?;
+                self.store(id, written.tree, written.rev)?;
                 Ok(Ok(written.rev))
             }
             Err(refusal) => Ok(Err(refusal)),
