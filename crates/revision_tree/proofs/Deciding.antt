@@ -1,5 +1,5 @@
 -- Which lists of nodes are those of a tree.
-use Rattle.std.specs.Prelude.{◌≡◌, ◌↔◌, ◌+◌, ◌<◌, Bool, true, false, ◌&&◌, ◌||◌, T, List, [], ◌∷◌, All, Contains, length, Option, Some, None, IfSome, is_some, option_and_then, option_map, refl}
+use Rattle.std.specs.Prelude.{◌≡◌, ◌↔◌, ◌+◌, ◌<◌, Bool, true, false, ◌||◌, T, List, [], ◌∷◌, All, Contains, length, Option, Some, None, IfSome, is_some, option_and_then, option_map, refl}
 use Rattle.std.specs.Arc.{arc_value}
 use Rattle.std.specs.declared.cmp.Ordering.{Ordering}
 use Rattle.std.specs.declared.cmp.Ordering.TheVariants.{Less}
@@ -8,8 +8,7 @@ use Rattle.std.specs.FinMap.Entries.{below_all}
 use Rattle.std.proofs.Common.{sym, ap, subst, ◌∙◌, arith}
 use Rattle.std.proofs.lemmas.List.Elements.{All-contains}
 use Rattle.model.specs.Truth.{both}
-use Rattle.model.specs.Map.{get}
-use Rattle.model.specs.Body.{Body, IsBody}
+use Rattle.model.specs.Body.{IsBody}
 use Rattle.model.specs.Revision.{Rev, IsRev, rev_cmp, rev_total}
 use Rattle.model.specs.Tree.{Tree, Revision, IsTree, IsInRange, knows, parent_of, body_of, has_child}
 use Rattle.model.proofs.ListLaws.{by_cases, Contains-head}

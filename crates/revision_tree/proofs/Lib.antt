@@ -15,3 +15,6 @@ pub mod Ends
 pub mod Shortened
 pub mod Kept
 pub mod Deciding
+pub mod Depth
+pub mod Trimmed
+pub mod Forked

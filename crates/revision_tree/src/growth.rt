@@ -109,7 +109,7 @@ fn has_next(parent: Option<RevId>, older: &[RevId]) -> bool
     has_parent(parent, *next)
 }
 
-fn has_parent(parent: Option<RevId>, next: RevId) -> bool
+pub(crate) fn has_parent(parent: Option<RevId>, next: RevId) -> bool
     ensures { result ≡ is_at parent next }
 {
     let Some(parent) = parent else {

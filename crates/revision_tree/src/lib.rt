@@ -2,6 +2,7 @@
 #![tactic(auto)]
 
 mod decide;
+mod fork;
 mod growth;
 mod leaf;
 mod marks;
@@ -13,6 +14,7 @@ mod search;
 mod shorten;
 mod strip;
 mod tree;
+mod trim;
 mod walk;
 mod whole;
 

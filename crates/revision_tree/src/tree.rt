@@ -1,25 +1,28 @@
 //! The tree.
-ghost use Rattle.std.specs.Prelude.{◌≡◌, ◌↔◌, ◌<◌, ◌≤◌, Some, true, IfOk, All, length, min, option_map, option_copied, unwrap_or};
+ghost use Rattle.std.specs.Prelude.{◌≡◌, ◌↔◌, ◌⊎◌, ◌<◌, ◌≤◌, Some, true, IfOk, IfSome, All, length, min, option_map, option_copied, unwrap_or};
 ghost use Rattle.std.specs.Arc.{arc_value};
 ghost use Rattle.model.specs.Map.{empty, entries};
 ghost use Rattle.model.specs.Body.{IsBody};
 ghost use Rattle.model.specs.Revision.{Rev, IsRev};
-ghost use Rattle.model.specs.Tree.{Tree, IsTree, IsInRange, knows as is_known, parent_of as known_parent, is_leaf as is_known_leaf, among, body_of as kept_body, is_deleted as is_known_deleted, path_of as path_to, leaves as ranked, winner as winning, revs_of};
+ghost use Rattle.model.specs.Tree.{Tree, IsTree, IsInRange, knows as is_known, IsNear, ancestor, has_child as has_known_child, parent_of as known_parent, is_leaf as is_known_leaf, among, body_of as kept_body, is_deleted as is_known_deleted, path_of as path_to, leaves as ranked, winner as winning, revs_of};
 ghost use Rattle.model.specs.TreeChange.{IsPath, agrees as is_agreed, grafted as grafting, stem as stemming, strip as stripping};
 ghost use Rattle.revision_tree.specs.Nodes.{IsListOf, IsNodes, entries_of, tree_of};
 ghost use Rattle.revision_tree.specs.Growth.{AreGround};
+ghost use Rattle.revision_tree.specs.Kept.{IsUnforked};
 ghost use Rattle.revision_tree.specs.Rows.{AreFilled, lists_of, nodes_of};
 ghost use Rattle.revision_tree.specs.Walk.{left_of};
 
 use crate::decide::mark_tree;
+use crate::fork::forks_with;
 use crate::growth::grow;
 use crate::leaf::{Leaf, has_one_leaf, leaves_of, winner_of};
 use crate::marks::mark;
 use crate::node::Node;
 use crate::rows::Rows;
-use crate::search::{node_of, parent_in, path_from};
+use crate::search::{forebear_of, is_parent, node_of, parent_in, path_from};
 use crate::shorten::{above, are_level};
 use crate::strip::stripped;
+use crate::trim::without;
 use crate::walk::Nodes;
 use crate::whole::{all, count, first, last, pieces_of};
 use json_profile::Body;
@@ -33,13 +36,22 @@ pub struct RevTree {
     rows: Rows,
     /// Whether it is known to have no leaf but the newest revision.
     one_leaf: bool,
+    /// Each revision is known to be fewer steps than this above some leaf: a stem at this limit, or a higher one, keeps all.
+    depth: u32,
+    /// No revision of a generation above this is known to have two children.
+    forks: u32,
 }
+
+/// More steps than a path can have, and the highest generation.
+const ANY: u32 = u32::MAX;
 
 impl Drop for RevTree {
     fn drop(self) {
         let RevTree {
             rows: _,
             one_leaf: _,
+            depth: _,
+            forks: _,
         } = self;
     }
 }
@@ -57,7 +69,7 @@ impl Model for RevTree {
 
     ghost view = { λ t. tree_of (nodes_of t.rows) };
 
-    ghost invariant = { λ t. IsKept t.rows t.one_leaf };
+    ghost invariant = { λ t. IsKept t.rows t.one_leaf t.depth t.forks };
 }
 
 impl RevTree {
@@ -67,8 +79,8 @@ impl RevTree {
         ensures { (t : Tree) → entries t ≡ entries_of nodes.items → IfOk result (λ made. made ≡ t) }
     {
         let mut nodes = nodes;
-        mark(&mut nodes);
-        RevTree::from_marked(alloc, nodes)
+        let forks = mark(&mut nodes);
+        RevTree::from_marked(alloc, nodes, forks)
     }
 
     /// The tree of a list, where it is one that a tree has: the revisions ascend, the parent of each that has one is
@@ -80,18 +92,21 @@ impl RevTree {
         if !mark_tree(&mut nodes) {
             return Ok(None);
         }
-        Ok(Some(RevTree::from_marked(alloc, nodes)?))
+        Ok(Some(RevTree::from_marked(alloc, nodes, ANY)?))
     }
 
     /// The tree of nodes of which the parents are marked.
-    fn from_marked(alloc: Global, nodes: Vec<Node>) -> Result<RevTree, AllocError>
-        requires { IsNodes nodes.items }
+    fn from_marked(alloc: Global, nodes: Vec<Node>, forks: u32) -> Result<RevTree, AllocError>
+        requires nodes { IsNodes nodes.items }
+        requires forks { IsUnforked forks (tree_of nodes.items) }
         ensures { IfOk result (λ made. made ≡ tree_of nodes.items) }
     {
         let one_leaf = has_one_leaf(&nodes);
         Ok(RevTree {
             rows: pieces_of(alloc, nodes)?,
             one_leaf,
+            depth: ANY,
+            forks,
         })
     }
 
@@ -111,9 +126,15 @@ impl RevTree {
         ensures { IfOk result (λ t. t ≡ grafting path.now (arc_value body) deleted (unwrap_or (option_copied tree.entry) empty)) }
     {
         let one_leaf = goes_through_leaves(tree, path);
+        let forks = forks_with(tree, path);
         let mut rows = ground(alloc, tree)?;
         grow(alloc, &mut rows, path, body, deleted)?;
-        Ok(RevTree { rows, one_leaf })
+        Ok(RevTree {
+            rows,
+            one_leaf,
+            depth: ANY,
+            forks,
+        })
     }
 
     /// The tree with the bodies of its leaves alone.
@@ -123,6 +144,8 @@ impl RevTree {
         Ok(RevTree {
             rows: stripped(alloc, &self.rows)?,
             one_leaf: self.one_leaf,
+            depth: self.depth,
+            forks: self.forks,
         })
     }
 
@@ -140,13 +163,102 @@ impl RevTree {
         requires level { (l r : Rev) → is_known_leaf self l ≡ true → is_known self r ≡ true → r.generation ≤ l.generation }
         ensures { IfOk result (λ t. t ≡ stemming limit self) }
     {
-        let RevTree { rows, one_leaf } = self;
+        let RevTree {
+            rows,
+            one_leaf,
+            depth: _,
+            forks,
+        } = self;
         let newest = last(&rows);
         let oldest = newest.generation().saturating_sub(limit);
         Ok(RevTree {
             rows: above(alloc, rows, oldest)?,
             one_leaf,
+            depth: limit,
+            forks,
         })
+    }
+
+    /// Whether it is known to have one leaf.
+    pub fn has_one_leaf(&self) -> bool
+        ensures { result ≡ true → (l r : Rev) → is_known_leaf self.now l ≡ true → is_known self.now r ≡ true → r.generation ≤ l.generation }
+    {
+        let _newest = last(&self.rows);
+        self.one_leaf
+    }
+
+    /// Whether it is known that a stem keeps all.
+    pub fn is_stem(&self, limit: u32) -> bool
+        ensures { result ≡ true → stemming limit self.now ≡ self.now }
+    {
+        let depth = self.depth;
+        if depth > limit {
+            return false;
+        }
+        true
+    }
+
+    /// The same tree, of which it is known from then on that a stem keeps all.
+    pub fn as_stem(self, limit: u32) -> RevTree
+        requires { stemming limit self ≡ self }
+        ensures { result ≡ self }
+    {
+        let RevTree {
+            rows,
+            one_leaf,
+            depth: _,
+            forks,
+        } = self;
+        RevTree {
+            rows,
+            one_leaf,
+            depth: limit,
+            forks,
+        }
+    }
+
+    /// The revisions that are fewer than `limit` steps above some leaf, where no other can be too far but the one that is that
+    /// many steps above this leaf, and nothing where other leaves may be near to it. Walks the leaf's path alone, and shares
+    /// what stands apart from that one.
+    pub fn trimmed(
+        &self,
+        alloc: Global,
+        newest: RevId,
+        limit: u32,
+    ) -> Result<Option<RevTree>, AllocError>
+        requires limit { 0 < limit }
+        requires leaf { is_known_leaf self.now newest ≡ true }
+        requires far { (r : Rev) → is_known self.now r ≡ true → IsNear limit self.now r ⊎ (ancestor self.now limit (Some newest) ≡ Some r) }
+        ensures { IfOk result (λ stem. IfSome stem (λ t. t ≡ stemming limit self.now)) }
+    {
+        let Some(far) = forebear_of(&self.rows, newest, limit) else {
+            let same = self.share(alloc)?;
+            return Ok(Some(same.as_stem(limit)));
+        };
+        if far.rev.generation() <= self.forks {
+            return Ok(None);
+        }
+        let rows = without(alloc, &self.rows, far.rev, far.child)?;
+        Ok(Some(RevTree {
+            rows,
+            one_leaf: false,
+            depth: limit,
+            forks: self.forks,
+        }))
+    }
+
+    /// A generation above which no revision has two children.
+    pub(crate) fn forks(&self) -> u32
+        ensures { IsUnforked result self.now }
+    {
+        self.forks
+    }
+
+    /// Whether it is the parent of a known revision.
+    pub(crate) fn has_child(&self, rev: RevId) -> bool
+        ensures { result ≡ has_known_child self.now rev }
+    {
+        is_parent(&self.rows, rev)
     }
 
     /// The same tree, which shares what it can.
@@ -156,6 +268,8 @@ impl RevTree {
         Ok(RevTree {
             rows: self.rows.share(alloc)?,
             one_leaf: self.one_leaf,
+            depth: self.depth,
+            forks: self.forks,
         })
     }
 

@@ -8,3 +8,4 @@ pub mod Compared
 pub mod Depths
 pub mod Unaltered
 pub mod Cuts
+pub mod Stepped

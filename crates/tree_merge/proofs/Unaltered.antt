@@ -59,7 +59,7 @@ links_first t (r ∷ rest) = λ c p pair. absurd (true≢false (sym pair))
 pair_first : (r next : Rev) (rest : List Rev) → is_pair (r ∷ next ∷ rest) r next ≡ true
 pair_first r next rest = or_left (same_rev r r && same_rev next next) (is_pair (next ∷ rest) r next) (and_from (same_rev r r) (same_rev next next) ((same_rev-equal r r).1 refl) ((same_rev-equal next next).1 refl))
 
-members_known : (t : Tree) → IsForest t → (r : Rev) (rest : List Rev) → knows t r ≡ true → IsLinked t (r ∷ rest) → (q : Rev) → among (r ∷ rest) q ≡ true → knows t q ≡ true
+pub members_known : (t : Tree) → IsForest t → (r : Rev) (rest : List Rev) → knows t r ≡ true → IsLinked t (r ∷ rest) → (q : Rev) → among (r ∷ rest) q ≡ true → knows t q ≡ true
 members_known t f r [] k h q m = ⊎_elim (λ here. ap (knows t) ((same_rev-equal q r).0 here) ∙ k) (λ none. absurd (true≢false (sym none))) (either (same_rev q r) false m)
 members_known t f r (next ∷ rest) k h q m = ⊎_elim
     (λ here. ap (knows t) ((same_rev-equal q r).0 here) ∙ k)

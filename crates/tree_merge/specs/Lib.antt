@@ -1,3 +1,4 @@
 pub mod Links
 pub mod Reach
 pub mod Seen
+pub mod Steps

@@ -7,6 +7,7 @@ mod matches;
 mod reach;
 mod removed;
 mod restrict;
+mod settle;
 mod shallow;
 mod stems;
 mod strips;

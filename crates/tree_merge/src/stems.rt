@@ -18,7 +18,8 @@ pub fn stem(alloc: Global, tree: &RevTree, limit: u32) -> Result<RevTree, AllocE
     ensures { IfOk result (λ t. t ≡ stemming limit tree.now) }
 {
     let nodes = restricted(alloc, tree, &[], limit)?;
-    RevTree::from_nodes(alloc, nodes)
+    let stem = RevTree::from_nodes(alloc, nodes)?;
+    Ok(stem.as_stem(limit))
 }
 
 /// The same of a tree that is given up. Where each leaf is of the newest generation, as in a history with no conflicts, the

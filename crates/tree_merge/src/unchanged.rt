@@ -30,7 +30,7 @@ pub fn is_written(tree: &RevTree, limit: u32, path: &[RevId]) -> bool
 }
 
 /// Whether each next member is the parent of the one before.
-fn has_links(tree: &RevTree, path: &[RevId]) -> bool
+pub(crate) fn has_links(tree: &RevTree, path: &[RevId]) -> bool
     ensures { result ≡ true → IsLinked tree.now path.now }
 {
     for place in 1..path.len() {

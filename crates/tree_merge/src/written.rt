@@ -8,8 +8,8 @@ ghost use Rattle.tree_merge.specs.declared.fault.MergeFault.TheVariants.{Contrad
 
 use crate::fault::MergeFault;
 use crate::grafts::graft;
+use crate::settle::settled;
 use crate::shallow::is_shallow;
-use crate::stems::stemmed;
 use json_profile::Body;
 use revision_id::RevId;
 use revision_tree::RevTree;
@@ -34,6 +34,6 @@ pub fn with_path(
     if is_shallow(&grafted, limit) {
         return Ok(grafted);
     }
-    let stemmed = stemmed(alloc, grafted, limit)?;
+    let stemmed = settled(alloc, tree, path, grafted, limit)?;
     Ok(stemmed)
 }

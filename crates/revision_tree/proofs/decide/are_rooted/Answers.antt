@@ -1,9 +1,8 @@
-use Rattle.std.specs.Prelude.{◌≡◌, All, List, length, refl}
+use Rattle.std.specs.Prelude.{All, List}
 use Rattle.std.proofs.Common.{◌∙◌, arith, rules, subst, sym}
 use Rattle.std.proofs.lemmas.Bool.{true≢false}
 use Rattle.std.proofs.lemmas.List.{take_all}
-use Rattle.std.proofs.lemmas.List.Elements.{All-more, Contains-get_or}
-use Rattle.model.specs.Tree.{IsTree}
+use Rattle.std.proofs.lemmas.List.Elements.{All-more}
 use Rattle.revision_tree.specs.declared.node.Node.{Node}
 use Rattle.revision_tree.specs.Decided.{IsRooted}
 use Rattle.revision_tree.specs.Nodes.{tree_of}

@@ -1,4 +1,4 @@
-use Rattle.std.proofs.Common.{◌≡◌, ◌∙◌, sym, subst, true, false}
+use Rattle.std.proofs.Common.{◌≡◌, ◌∙◌, sym, subst, false}
 use Rattle.std.proofs.lemmas.List.{take_all}
 use Rattle.model.specs.Tree.{among}
 use Rattle.tree_merge.proofs.Cuts.{not_among_more}

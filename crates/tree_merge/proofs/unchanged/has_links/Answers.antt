@@ -1,4 +1,4 @@
-use Rattle.std.proofs.Common.{◌∙◌, Some, ap, subst, sym, ◌-◌, arith}
+use Rattle.std.proofs.Common.{◌∙◌, Some, ap, subst, sym, arith}
 use Rattle.std.proofs.lemmas.List.{take_all}
 use Rattle.model.proofs.TreeLaws.{is_at-equal}
 use Rattle.model.specs.Tree.{parent_of}

@@ -34,3 +34,6 @@ pub returns-clause-refused : goal.returns-clause-refused
 returns-clause-refused c =
     let law = written_refused c.args.limit (option_copied c.args.tree) c.args.path.now (arc_value c.args.body) c.args.deleted in
     (λ e. absurd (ok_only (Ok c.in_ok-stemmed.stemmed) c.in_ok-stemmed.stemmed refl e), λ e. absurd (none-some _ (sym (law.1 e) ∙ c.in_ok-grafted.ensures.grafted)))
+
+pub settled-requires-clause-grafted : goal.settled-requires-clause-grafted
+settled-requires-clause-grafted c = record { body = arc_value c.args.body; deleted = c.args.deleted; is = c.in_ok-grafted.ensures.grafted }

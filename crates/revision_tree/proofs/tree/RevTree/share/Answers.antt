@@ -1,5 +1,5 @@
 use Rattle.std.proofs.Common.{◌∙◌, sym, subst}
-use Rattle.revision_tree.specs.Kept.{HasOneLeaf}
+use Rattle.revision_tree.specs.Kept.{HasOneLeaf, AreNear, IsUnforked}
 use Rattle.revision_tree.specs.Rows.{nodes_of}
 use Rattle.revision_tree.proofs.Grafts.{same_tree_of, nodes_alike}
 use Rattle.revision_tree.proofs.tree.RevTree.share.Goals as goal
@@ -11,6 +11,8 @@ invariant_of-result c =
     record {
       rows = record { nodes = nodes_alike made ns c.in_ok-share.ensures.nodes c.self.invariant.rows.nodes; filled = c.in_ok-share.ensures.filled c.self.invariant.rows.filled };
       single = λ e. subst HasOneLeaf (sym (same_tree_of made ns c.in_ok-share.ensures.nodes)) (c.self.invariant.single e);
+      near = subst (AreNear c.self.inside.depth) (sym (same_tree_of made ns c.in_ok-share.ensures.nodes)) c.self.invariant.near;
+      unforked = subst (IsUnforked c.self.inside.forks) (sym (same_tree_of made ns c.in_ok-share.ensures.nodes)) c.self.invariant.unforked;
     }
 
 pub returns : goal.returns

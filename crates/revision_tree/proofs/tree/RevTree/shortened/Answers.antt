@@ -1,10 +1,11 @@
 use Rattle.std.proofs.Common.{◌∙◌, ◌-◌, ap, sym, subst}
 use Rattle.std.specs.List.{filter_map}
 use Rattle.model.specs.TreeChange.{stem}
-use Rattle.revision_tree.specs.Kept.{HasOneLeaf}
+use Rattle.revision_tree.specs.Kept.{HasOneLeaf, AreNear, IsUnforked}
 use Rattle.revision_tree.specs.Nodes.{rows_of, tree_of}
 use Rattle.revision_tree.specs.Rows.{nodes_of}
 use Rattle.revision_tree.specs.Shortened.{row_above}
+use Rattle.revision_tree.proofs.Depth.{near_stem, unforked_stem}
 use Rattle.revision_tree.proofs.Shortened.{IsLevelTree, shortened_nodes, shortened_tree}
 use Rattle.revision_tree.proofs.Kept.{one_shortened}
 use Rattle.revision_tree.proofs.tree.RevTree.shortened.Goals as goal
@@ -16,13 +17,17 @@ invariant_of-result c =
     let newest = c.last-newest.result in
     let level = subst IsLevelTree (sym c.self.view_is) c.requires.level in
     let is = c.in_ok-above.ensures.rows ∙ ap (λ g. filter_map (row_above g) (rows_of ns)) (c.saturating_sub-oldest.ensures ∙ ap (λ g. g - c.args.limit) c.generation.ensures.value) in
+    let stems = shortened_tree ns c.self.invariant.rows.nodes c.args.limit c.requires.limit newest c.last-newest.ensures.known c.last-newest.ensures.newest level made is in
+    let forest = c.self.invariant.rows.nodes.tree.forest in
     record {
       rows = record {
         nodes = shortened_nodes ns c.self.invariant.rows.nodes c.args.limit c.requires.limit newest c.last-newest.ensures.known c.last-newest.ensures.newest level made is;
         filled = c.in_ok-above.ensures.filled;
       };
-      single = λ e. subst HasOneLeaf (sym (shortened_tree ns c.self.invariant.rows.nodes c.args.limit c.requires.limit newest c.last-newest.ensures.known c.last-newest.ensures.newest level made is))
+      single = λ e. subst HasOneLeaf (sym stems)
           (one_shortened (tree_of ns) c.self.invariant.rows.nodes.tree.forest c.args.limit c.requires.limit newest c.last-newest.ensures.known c.last-newest.ensures.newest level (c.self.invariant.single e));
+      near = subst (AreNear c.args.limit) (sym stems) (near_stem (tree_of ns) forest c.args.limit c.requires.limit);
+      unforked = subst (IsUnforked c.self.inside.forks) (sym stems) (unforked_stem (tree_of ns) forest c.args.limit c.requires.limit c.self.inside.forks c.self.invariant.unforked);
     }
 
 pub returns : goal.returns

@@ -2,9 +2,10 @@ use Rattle.std.proofs.Common.{◌∙◌, ap, sym, subst}
 use Rattle.model.specs.Tree.{has_child}
 use Rattle.model.specs.TreeChange.{strip}
 use Rattle.model.proofs.StripLaws.{IsTree-strip, IsInRange-strip}
-use Rattle.revision_tree.specs.Kept.{HasOneLeaf}
+use Rattle.revision_tree.specs.Kept.{HasOneLeaf, AreNear, IsUnforked}
 use Rattle.revision_tree.specs.Nodes.{tree_of}
 use Rattle.revision_tree.specs.Rows.{nodes_of}
+use Rattle.revision_tree.proofs.Depth.{near_strip, unforked_strip}
 use Rattle.revision_tree.proofs.Grown.{nodes_marked, tree_marked}
 use Rattle.revision_tree.proofs.Kept.{one_stripped}
 use Rattle.revision_tree.proofs.Stripped.{stripped_rows, stripped_marks}
@@ -22,6 +23,8 @@ invariant_of-result c =
         filled = c.in_ok-stripped.ensures.filled;
       };
       single = λ e. subst HasOneLeaf (sym (tree_marked made (strip t) (has_child t) is)) (one_stripped t (c.self.invariant.single e));
+      near = subst (AreNear c.self.inside.depth) (sym (tree_marked made (strip t) (has_child t) is)) (near_strip t c.self.inside.depth c.self.invariant.near);
+      unforked = subst (IsUnforked c.self.inside.forks) (sym (tree_marked made (strip t) (has_child t) is)) (unforked_strip t c.self.inside.forks c.self.invariant.unforked);
     }
 
 pub returns : goal.returns

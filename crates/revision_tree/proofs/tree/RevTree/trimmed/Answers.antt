@@ -1,0 +1,65 @@
+use Rattle.std.proofs.Common.{◌≡◌, ◌∙◌, ◌<◌, ℕ, true, None, Some, ap, arith, subst, sym}
+use Rattle.std.specs.Prelude.{◌⊎◌}
+use Rattle.std.proofs.lemmas.Bool.{true≢false}
+use Rattle.model.specs.Revision.{Rev}
+use Rattle.model.specs.Tree.{Tree, IsForest, IsNear, ancestor, is_leaf, knows}
+use Rattle.model.specs.TreeChange.{stem}
+use Rattle.revision_tree.specs.Kept.{AreNear, IsUnforked}
+use Rattle.revision_tree.specs.Nodes.{tree_of}
+use Rattle.revision_tree.specs.Rows.{nodes_of}
+use Rattle.revision_tree.proofs.Depth.{near_stem, unforked_stem}
+use Rattle.revision_tree.proofs.Trimmed.{none_far, only_child, trimmed_nodes, trimmed_tree}
+use Rattle.revision_tree.proofs.tree.RevTree.trimmed.Goals as goal
+
+pub as_stem-requires : goal.as_stem-requires
+as_stem-requires c =
+    let stems = none_far c.args.self.now (subst IsForest c.self.view_is c.self.invariant.rows.nodes.tree.forest) c.args.limit c.args.newest
+    (subst (λ (u : Tree). ancestor u c.args.limit (Some c.args.newest) ≡ None) c.self.view_is (c.forebear_of.ensures.none c.in_default.is)) c.requires.far in
+    subst (λ (u : Tree). stem c.args.limit u ≡ u) (sym c.in_ok-same.ensures) stems
+
+pub returns-in_default : goal.returns-in_default
+returns-in_default c =
+    let stems = none_far c.args.self.now (subst IsForest c.self.view_is c.self.invariant.rows.nodes.tree.forest) c.args.limit c.args.newest
+    (subst (λ (u : Tree). ancestor u c.args.limit (Some c.args.newest) ≡ None) c.self.view_is (c.forebear_of.ensures.none c.in_default.is)) c.requires.far in
+    c.as_stem.ensures ∙ c.in_ok-same.ensures ∙ sym stems
+
+pub without-requires-clause-child : goal.without-requires-clause-child
+without-requires-clause-child c =
+    let ns = nodes_of c.self.inside.rows in
+    let h = c.self.invariant in
+    let leaf = subst (λ (t : Tree). is_leaf t c.args.newest ≡ true) (sym c.self.view_is) c.requires.leaf in
+    let over : c.self.inside.forks < c.in-Some.far.rev.generation = omega (arith, c.if-generation-self.false, c.generation.ensures.value) in
+    only_child ns h.rows.nodes c.args.limit c.args.newest leaf c.self.inside.forks h.unforked c.in-Some.far.rev c.in-Some.ensures.rev over c.in-Some.far.child c.in-Some.ensures.child
+
+abbrev Each : Tree → ℕ → Rev → Type 0
+Each t limit newest = (q : Rev) → knows t q ≡ true → IsNear limit t q ⊎ (ancestor t limit (Some newest) ≡ Some q)
+
+pub invariant_of-result : goal.invariant_of-result
+invariant_of-result c =
+    let ns = nodes_of c.self.inside.rows in
+    let made = nodes_of c.in_ok-rows.rows in
+    let h = c.self.invariant in
+    let forest = h.rows.nodes.tree.forest in
+    let leaf = subst (λ (t : Tree). is_leaf t c.args.newest ≡ true) (sym c.self.view_is) c.requires.leaf in
+    let over : c.self.inside.forks < c.in-Some.far.rev.generation = omega (arith, c.if-generation-self.false, c.generation.ensures.value) in
+    let each = subst (λ (t : Tree). Each t c.args.limit c.args.newest) (sym c.self.view_is) c.requires.far in
+    let stems = trimmed_tree ns h.rows.nodes c.args.limit c.args.newest leaf c.self.inside.forks h.unforked c.in-Some.far.rev c.in-Some.ensures.rev over each c.requires.limit made c.in_ok-rows.ensures.rows in
+    record {
+      rows = record {
+        nodes = trimmed_nodes ns h.rows.nodes c.args.limit c.args.newest leaf c.self.inside.forks h.unforked c.in-Some.far.rev c.in-Some.ensures.rev over each c.requires.limit made c.in_ok-rows.ensures.rows;
+        filled = c.in_ok-rows.ensures.filled;
+      };
+      single = λ e. absurd (true≢false (sym e));
+      near = subst (AreNear c.args.limit) (sym stems) (near_stem (tree_of ns) forest c.args.limit c.requires.limit);
+      unforked = subst (IsUnforked c.self.inside.forks) (sym stems) (unforked_stem (tree_of ns) forest c.args.limit c.requires.limit c.self.inside.forks h.unforked);
+    }
+
+pub returns : goal.returns
+returns c =
+    let ns = nodes_of c.self.inside.rows in
+    let made = nodes_of c.in_ok-rows.rows in
+    let h = c.self.invariant in
+    let leaf = subst (λ (t : Tree). is_leaf t c.args.newest ≡ true) (sym c.self.view_is) c.requires.leaf in
+    let over : c.self.inside.forks < c.in-Some.far.rev.generation = omega (arith, c.if-generation-self.false, c.generation.ensures.value) in
+    let each = subst (λ (t : Tree). Each t c.args.limit c.args.newest) (sym c.self.view_is) c.requires.far in
+    trimmed_tree ns h.rows.nodes c.args.limit c.args.newest leaf c.self.inside.forks h.unforked c.in-Some.far.rev c.in-Some.ensures.rev over each c.requires.limit made c.in_ok-rows.ensures.rows ∙ ap (stem c.args.limit) c.self.view_is
