@@ -23,14 +23,14 @@ import re
 import socket
 import subprocess
 import sys
-from urllib.parse import quote
 
-from lib.checks import Checks
 from lib.ends import Proxy, replicate, replication
 from lib.programs import SECONDS, arguments
 from lib.refusals import refuser, was_refused
+from lib.replicas import (
+    B, CHECKS, End, as_list, check, checkpoint, checkpoints_are, conflict, counts, edit, has_conflict, has_documents, put, ran_as, reported, settle,
+)
 from lib.requests import encoded
-from lib.server import Connection, Server
 from reference import bodies, queries
 from reference.database import Database, Refused
 
@@ -39,89 +39,8 @@ DOCUMENTS = 6  # that the writers of one seed share
 EDITS = 12  # of each database before the two meet, and after
 LISTS = 4  # at most, of disjoint documents, between the two of one pair
 
-A, B, C = [digit * 32 for digit in "abc"]  # hashes of revisions
-
 # what is reported of a replication of two revisions that is refused memory
 OUT_OF_MEMORY = re.compile(r"documents read [0-2], written [0-2]: out of memory\n")
-
-# what is reported of a replication that is done
-DONE = re.compile(r"documents read (\d+), written (\d+): done\n")
-
-CHECKS = Checks()
-check = CHECKS.check
-
-
-class End(Server):
-    """A running server, and one connection to it."""
-
-    def __init__(self, program):
-        super().__init__(program, "--workers", "3")
-        self.connection = Connection(self.port)
-
-    def stop(self):
-        self.connection.close()
-        super().stop()
-
-    def ask(self, method, target, body=None):
-        """The status and the value of the response to a request."""
-        return self.connection.ask(method, target, body)
-
-    def place(self):
-        """How many entries the history has."""
-        self.ask("GET", "/db")
-        return self.connection.place
-
-    def leaves(self, id):
-        """Each leaf with its path, whether it is deleted, and its body; and the winner."""
-        leaves = self.ask("GET", "/db/%s?open_revs=all&revs=true" % id)[1]
-        winner = self.ask("GET", "/db/%s" % id)[1]
-        return sorted(json.dumps(leaf, sort_keys=True) for leaf in leaves), winner.get("_rev", winner.get("reason"))
-
-    def live(self, id):
-        """The revisions of the leaves that are not deleted."""
-        _, leaves = self.ask("GET", "/db/%s?open_revs=all" % id)
-        return [leaf["ok"]["_rev"] for leaf in leaves if isinstance(leaf, dict) and "ok" in leaf and "_deleted" not in leaf["ok"]]
-
-
-def reported(read, written, ending):
-    return "documents read %d, written %d: %s\n" % (read, written, ending)
-
-
-def document(id, *path):
-    """A document with its path, as it goes to a replica."""
-    start = int(path[0].split("-")[0])
-    return {"_id": id, "_revisions": {"start": start, "ids": [rev.split("-")[1] for rev in path]}}
-
-
-def conflict(server, id="d"):
-    """Two leaves over one parent."""
-    one, other = document(id, "2-" + B, "1-" + A), document(id, "2-" + C, "1-" + A)
-    check(server.ask("POST", "/db/_bulk_docs", {"docs": [one, other], "new_edits": False}) == (201, []), "no conflict is made")
-
-
-def has_conflict(server, id="d"):
-    leaves, winner = server.leaves(id)
-    wanted = [
-        {"ok": {"_id": id, "_rev": "2-" + hash, "_revisions": {"ids": [hash, A], "start": 2}}} for hash in (B, C)
-    ]
-    check(leaves == sorted(json.dumps(leaf, sort_keys=True) for leaf in wanted), "leaves %r", leaves)
-    check(winner == "2-" + C, "the winner is %r", winner)
-
-
-def checkpoint(server, id):
-    """The revision and the number of a checkpoint, if there is one."""
-    status, value = server.ask("GET", "/db/_local/" + id)
-    return None if status == 404 else (value["_rev"], value["last_seq"])
-
-
-def checkpoints_are(source, target, id, of_source, of_target):
-    check(checkpoint(source, id) == of_source, "the source's checkpoint is %r", checkpoint(source, id))
-    check(checkpoint(target, id) == of_target, "the target's checkpoint is %r", checkpoint(target, id))
-
-
-def ran_as(ran, status, text):
-    check(ran[:2] == (status, text), "status %d, %r in place of %d, %r", ran.status, ran.output, status, text)
-    check(ran.errors == "", "standard error %r", ran.errors)
 
 
 def worked(program):
@@ -232,22 +151,6 @@ def progress(program):
 # ---- listed documents
 
 
-def as_list(ids):
-    """The ids as the program takes a list of them."""
-    return ",".join(quote(id, safe="") for id in ids)
-
-
-def put(server, *ids):
-    for id in ids:
-        check(server.ask("PUT", "/db/" + quote(id, safe=""), {})[0] == 201, "%s isn't made", id)
-
-
-def has_documents(server, *ids):
-    _, listed = server.ask("GET", "/db/_all_docs")
-    found = [row["id"] for row in listed["rows"]]
-    check(found == sorted(ids, key=str.encode), "the documents %r in place of %r", found, ids)
-
-
 def listed_documents(program):
     """A document comes alone to an empty target, once, and later its next revision."""
     with End(program) as source, End(program) as target:
@@ -324,13 +227,6 @@ def dealt(dice, ids):
     return lists
 
 
-def counts(ran):
-    """How many documents a run that is done read and wrote."""
-    done = DONE.fullmatch(ran[1]) if ran[0] == 0 else None
-    check(done is not None, "a replication ends with %r", ran)
-    return [int(count) for count in done.groups()] if done else [0, 0]
-
-
 def together(id, *servers):
     """What `leaves` gives for a document where all that the servers have of it is in one database, by the reference."""
     database = Database()
@@ -390,40 +286,6 @@ def disjoint_lists(program, pairs):
 
 
 # ---- databases that are edited at random
-
-
-def edit(server, dice, ids):
-    """One write: a new document, a change of the winner or of a conflict, a deletion, or a conflict more. Nobody else writes to
-    the server meanwhile, so each must succeed."""
-    id = dice.choice(ids)
-    live = server.live(id)
-    parent = dice.choice(live) if live else None
-    kind = dice.random()
-    if kind < 0.15 and parent is not None:
-        status, value = server.ask("DELETE", "/db/%s?rev=%s" % (id, parent))
-        check(status == 200, "%d, %r for a deletion", status, value)
-    elif kind < 0.35:
-        rev = "%d-%032x" % (dice.randrange(1, 4), dice.getrandbits(128))
-        document = {"_id": id, "_rev": rev, "n": dice.random().hex()}
-        status, value = server.ask("POST", "/db/_bulk_docs", {"docs": [document], "new_edits": False})
-        check((status, value) == (201, []), "%d, %r for a merge", status, value)
-    else:
-        target = "/db/%s" % id + ("?rev=" + parent if parent else "")
-        status, value = server.ask("PUT", target, {"n": dice.random().hex()})
-        check(status == 201, "%d, %r for a PUT", status, value)
-
-
-def settle(program, one, other, seed):
-    """Replicates in both directions until neither writes."""
-    for _ in range(4):
-        there = replicate(program, one.port, other.port, "there")
-        back = replicate(program, other.port, one.port, "back")
-        if (there[0], back[0]) != (0, 0):
-            check(False, "a replication ends with %r, %r", there, back)
-            return
-        if there[1] == back[1] == reported(0, 0, "done"):
-            return
-    check(False, "replications of seed %d don't come to an end", seed)
 
 
 def random_edits(program, seeds):

@@ -6,6 +6,7 @@
     messages       responses and requests that come over a socket or a pipe
     server         a running `couchd serve`, and connections to it
     ends           ends of a replication: one that answers by a script, and a proxy in front of a server
+    replicas       servers as the ends of replications
     audits         runs of `couchd dump`, `replay check` and `replay base`
     transcripts    the stored requests and the responses to them
     differential   the program and the second reading on the same requests

@@ -3,4 +3,6 @@
     plan      the writes, made up before they are sent, and the rows and pages at each place
     clients   the writer, those who follow by long polls, and those who follow by feeds that go on
     quiet     those who wait while other documents change
+    busy      many clients at once, and those who follow all documents or some
+    checked   a server and connections to it, whose lines and positions are checked
 """
