@@ -24,6 +24,8 @@ CONFLICTS = 100  # of a document that gets them in one bulk, and in one GET of m
 CHAIN = 999  # revisions one behind another, below many leaves
 LEAVES = 16000  # of that document
 ASKED = 380  # revisions of the chain in one GET, which a head has just room for
+BRANCHES = 100  # of a document, each of as many revisions as are kept
+DEEP = 1000
 SHORT, LONG, FULL = "PUT over 10 to 20 revisions", "PUT over 980 to 990 revisions, below the limit", "PUT over 1,000 revisions, at the limit"
 
 
@@ -63,6 +65,31 @@ class Histories:
         return made
 
 
+class Branches:
+    """One document of deep branches, each leaf of which is edited in turn."""
+
+    def __init__(self, name):
+        self.name = name
+        self.revs = ["%d-%s" % (DEEP, self.hash(branch, DEEP)) for branch in range(BRANCHES)]
+
+    def hash(self, branch, generation):
+        return "%032x" % (0x9E3779B97F4A7C15F39CC0605CEDC835 * (branch * DEEP + generation) % 2**128)
+
+    def grown(self):
+        """A merge of each branch."""
+        paths = [[self.hash(branch, generation) for generation in range(DEEP, 0, -1)] for branch in range(BRANCHES)]
+        return [merge([{"_id": self.name, "_revisions": {"start": DEEP, "ids": path}}]) for path in paths]
+
+    def edits(self):
+        """A bulk of one edit of each leaf."""
+        bodies = [{"over": rev} for rev in self.revs]
+        made = [dict(body, _id=self.name, _rev=rev) for body, rev in zip(bodies, self.revs)]
+        texts = [json.dumps(body, separators=(",", ":")) for body in bodies]
+        digests = [hashlib.md5(("0,%s,%s" % (rev, text)).encode()).hexdigest() for rev, text in zip(self.revs, texts)]
+        self.revs = ["%d-%s" % (int(rev.split("-")[0]) + 1, digest) for rev, digest in zip(self.revs, digests)]
+        return bulk(made)
+
+
 def conflict(at):
     return "1-%032x" % (0x9E3779B97F4A7C15 * (at + 1) % 2**128)
 
@@ -70,6 +97,11 @@ def conflict(at):
 def conflicts(name, number):
     """A bulk of so many conflicts of a new document."""
     return merge([{"_id": name, "_rev": conflict(at)} for at in range(number)])
+
+
+def edited_conflicts(name, number):
+    """A bulk of an edit of each of so many conflicts."""
+    return bulk([{"_id": name, "_rev": conflict(at)} for at in range(number)])
 
 
 def opened(name, first):
@@ -120,6 +152,12 @@ def rows(many):
     over = "over {:,} leaves on a chain, milliseconds".format(LEAVES)
     yield "GET with `latest` " + over, spread("spread"), [[latest("spread")] for _ in range(PIECES)], 200, 1, 1e3
     yield "`open_revs` of %d with `latest` %s" % (ASKED, over), [], [[opened_latest("spread")] for _ in range(PIECES)], 200, 1, 1e3
+    branches = Branches("branches")
+    deep = "edit of each leaf of {} branches of {:,} revisions, at the limit, for each".format(BRANCHES, DEEP)
+    yield deep, branches.grown(), [[branches.edits()] for _ in range(PIECES)], 201, BRANCHES, 1e6
+    last = [request("PUT", "/db/_revs_limit", 1)]
+    yield "PUT of a limit of 1, after that many conflicts of another document", [conflicts("narrow", many)], [last], 200, 1, 1e6
+    yield "bulk of an edit of each of {:,} conflicts, at a limit of 1, milliseconds".format(many), [], [[edited_conflicts("narrow", many)]], 201, 1, 1e3
 
 
 def main():

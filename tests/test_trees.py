@@ -2,9 +2,10 @@
 
     python3 tests/test_trees.py [--seed N] [--trees N] [COUCHD]
 
-The trees have long histories, wide conflicts, and paths that meet, reach further back or contradict what is known, under small
-limits of revisions. A tree is one document, and a run of the program has many. Each is written by merges and edits, some of them
-sent again, and read with all leaves, paths, conflicts and what is known of the winner's path. The same seed makes the same
+Half of the trees have long histories, wide conflicts, and paths that meet, reach further back or contradict what is known, under
+small limits of revisions; the others have branches about as deep as the limit, whose leaves are edited in turn while the limit falls and
+rises and leaves are purged. A tree is one document, and a run of the program has many. Each is written by merges and edits, some of
+them sent again, and read with all leaves, paths, conflicts and what is known of the winner's path. The same seed makes the same
 requests. The last line counts trees.
 """
 import random
@@ -12,7 +13,7 @@ import sys
 
 from lib.checks import report
 from lib.differential import Case, compare
-from lib.generators.trees import Document
+from lib.generators.trees import document
 from lib.programs import arguments
 from lib.requests import request
 from reference.once import Connection
@@ -25,8 +26,7 @@ def make_run(source, count):
     connection = Connection()
     for number in range(count):
         asked, responses = [], []
-        document = Document(source, connection.session.database, "t%d" % number)
-        for one in document.requests():
+        for one in document(source, connection.session.database, "t%d" % number).requests():
             asked.append(request(*one))
             responses += connection.responses(asked[-1])
         yield b"".join(asked), b"".join(responses)

@@ -1,9 +1,13 @@
-"""Documents whose revisions make trees: long histories, wide conflicts, and paths that meet, contradict or come again."""
+"""Documents whose revisions make trees: long histories, wide conflicts, paths that meet, contradict or come again, and branches
+that are as deep as the limit of revisions."""
 from reference import revisions, trees
 
 LIMITS = [1, 2, 3, 5, 8, 100, 1000]
 SHAPES = {"long": (12, 1), "wide": (3, 40), "bushy": (6, 3), "tall": (160, 1), "broad": (2, 300)}  # the most generations, and the hashes of each
 OFTEN = {"tall": 1, "broad": 1}  # of 20; the others 6 each
+
+
+DEPTHS = [1, 2, 3, 5, 12, 40]  # of branches, and the limits beside them
 
 
 def hash_of(number):
@@ -71,3 +75,61 @@ class Document:
 
     def limit(self):
         return "PUT", "/db/_revs_limit", self.source.choice(LIMITS)
+
+
+class Deep(Document):
+    """A document of branches of about as many revisions as are kept, whose leaves are then edited one by one."""
+
+    def __init__(self, source, database, id):
+        super().__init__(source, database, id)
+        self.depth = source.choice(DEPTHS)
+        self.rooted = source.random() < 0.5  # whether branches begin at one revision
+        self.made = 0
+
+    def requests(self):
+        yield "PUT", "/db/_revs_limit", self.depth
+        for _ in range(self.source.randint(1, 8)):
+            yield self.branch()
+        for _ in range(self.source.randint(4, 24)):
+            yield self.source.choices([self.edit, self.step, self.branch, self.again, self.purge, self.limit], [12, 6, 2, 1, 1, 1])[0]()
+        yield "GET", "/db/%s?open_revs=all&revs=true" % self.id, None
+        yield "GET", "/db/%s?revs_info=true&conflicts=true&deleted_conflicts=true&revs=true" % self.id, None
+
+    def hash(self):
+        self.made += 1
+        return hash_of(self.made)
+
+    def sent_path(self, path):
+        self.sent.append(("POST", "/db/_bulk_docs", {"docs": [self.document(path)], "new_edits": False}))
+        return self.sent[-1]
+
+    def branch(self):
+        """A path from the top, or from where it meets another, about as long as the limit."""
+        length = max(1, self.depth + self.source.randint(-1, 1))
+        path = [(length - steps, self.hash()) for steps in range(length)]
+        if self.rooted:
+            path[-1] = (1, hash_of(0))
+        return self.sent_path(path)
+
+    def step(self):
+        """A next revision over a leaf or, now and then, over another, with some of the known path or all of it."""
+        tree = self.database.tree(self.id)
+        if not tree:
+            return self.branch()
+        rev = self.leaf() if self.source.random() < 0.8 else self.source.choice(sorted(tree))
+        known = trees.path_of(tree, rev)
+        known = known[: self.source.choice([1, 2, len(known)])]
+        new = [(known[0][0] + more, self.hash()) for more in range(self.source.choice([1, 1, 1, 2, 3]), 0, -1)]
+        return self.sent_path(new + known)
+
+    def purge(self):
+        rev = self.leaf()
+        return "POST", "/db/_purge", {self.id: [revisions.text(rev)] if rev else []}
+
+    def limit(self):
+        return "PUT", "/db/_revs_limit", max(1, self.depth + self.source.randint(-3, 3))
+
+
+def document(source, database, id):
+    """A document of either kind."""
+    return source.choice([Document, Deep])(source, database, id)
