@@ -6,6 +6,7 @@ Standard input holds a request each time, which only `couchd once` may answer, o
 that fail it compares what can still be written. `clap` is Rust's.
 """
 import os
+import re
 import subprocess
 import sys
 
@@ -39,7 +40,8 @@ REPLICATE = "Brings the changes of one database to another"
 COMMANDS = (
     "\nCommands:\n  once       " + ONCE + "\n  dump       " + DUMPS + "\n  serve      " + SERVE + "\n  replicate  " + REPLICATE + "\n"
 )
-HELP = "A replicating document store\n\nUsage: couchd <COMMAND>\n" + COMMANDS + OPTIONS
+OPTIONS_WITH_VERSION = "\nOptions:\n  -h, --help     Print help\n  -V, --version  Print version\n"
+HELP = "A replicating document store\n\nUsage: couchd <COMMAND>\n" + COMMANDS + OPTIONS_WITH_VERSION
 HELP_OF_DUMP = DUMPS + "\n\nUsage: couchd dump\n" + OPTIONS
 HELP_OF_ONCE = ONCE + "\n\nUsage: couchd once\n" + OPTIONS
 OPTIONS_OF_SERVE = (
@@ -47,6 +49,8 @@ OPTIONS_OF_SERVE = (
     "      --port <PORT>                The port, or 0 for any that is free [default: 5984]\n"
     "      --workers <WORKERS>          How many connections are served at a time [default: 4]\n"
     "      --connections <CONNECTIONS>  How many connections each worker serves before it ends, or 0 for no end [default: 0]\n"
+    "      --idle <SECONDS>             How long a connection may send nothing of a next request [default: 15]\n"
+    "      --patience <SECONDS>         How long a request may take to come, and a response to be taken [default: 60]\n"
     "  -h, --help                       Print help\n"
 )
 HELP_OF_SERVE = SERVE + "\n\nUsage: couchd serve [OPTIONS]\n" + OPTIONS_OF_SERVE
@@ -58,6 +62,7 @@ HELP_OF_REPLICATE = (
     "      --target <HOST:PORT>  Where they are brought to\n"
     "      --id <ID>             The id of the checkpoints, 1 to 512 bytes, not beginning with '_'\n"
     "      --doc-ids <IDS>       Brings these documents alone: ids between commas, a comma or '%' in one escaped as in a path; an ID goes with one list\n"
+    "      --patience <SECONDS>  How long an end may be silent [default: 60]\n"
     "  -h, --help                Print help\n"
 )
 NO_SOURCE = "error: the source is no numeric address with a port\n" + USAGE
@@ -82,13 +87,13 @@ def unexpected(argument, usage):
     return "error: unexpected argument '%s' found\n" % argument + usage
 
 
-def out_of_range(value, option, least, most):
-    name = "--%s <%s>" % (option, option.upper())
+def out_of_range(value, option, least, most, value_name=None):
+    name = "--%s <%s>" % (option, value_name or option.upper())
     return "error: invalid value '%s' for '%s': %s is not in %d..=%d\n" % (value, name, value, least, most) + HINT
 
 
-def no_number(value, option):
-    name = "--%s <%s>" % (option, option.upper())
+def no_number(value, option, value_name=None):
+    name = "--%s <%s>" % (option, value_name or option.upper())
     return "error: invalid value '%s' for '%s': invalid digit found in string\n" % (value, name) + HINT
 
 
@@ -121,7 +126,22 @@ REFUSED = [
         ["serve", "--port", "1", "--port", "2"],
         "error: the argument '--port <PORT>' cannot be used multiple times\n" + USAGE_OF_SERVE,
     ),
+    *[
+        row
+        for option in ("idle", "patience")
+        for row in (
+            (["serve", "--%s" % option, "0"], out_of_range("0", option, 1, 86400, "SECONDS")),
+            (["serve", "--%s=86401" % option], out_of_range("86401", option, 1, 86400, "SECONDS")),
+            (["serve", "--%s=-1" % option], no_number("-1", option, "SECONDS")),
+            (["serve", "--%s=1.5" % option], no_number("1.5", option, "SECONDS")),
+        )
+    ],
+    (["serve", "--version"], unexpected("--version", USAGE_OF_SERVE)),
+    (["once", "--version"], unexpected("--version", USAGE_OF_ONCE)),
+    (["version"], unknown_command("version")),
     (["replicate", "--help"], HELP_OF_REPLICATE),
+    (replication("127.0.0.1:1", "[::1]:1", "r") + ["--patience", "0"], out_of_range("0", "patience", 1, 86400, "SECONDS")),
+    (replication("127.0.0.1:1", "[::1]:1", "r") + ["--patience", "86401"], out_of_range("86401", "patience", 1, 86400, "SECONDS")),
     (
         ["replicate", "--source", "127.0.0.1:1"],
         "error: the following required arguments were not provided:\n  --target <HOST:PORT>\n  --id <ID>\n" + USAGE_OF_REPLICATE + HINT,
@@ -160,7 +180,7 @@ NO_COMMAND_OF_REPLAY = (
 )
 HELP_OF_REPLAY = (
     "An audit of the histories of a document store\n\nUsage: replay <COMMAND>\n\n"
-    "Commands:\n  check  " + CHECK + "\n  base   " + BASE + "\n" + OPTIONS
+    "Commands:\n  check  " + CHECK + "\n  base   " + BASE + "\n" + OPTIONS_WITH_VERSION
 )
 
 # arguments of `replay base` that name no run
@@ -212,7 +232,16 @@ def outcomes(couchd, replay):
         ]:
             yield word, run(program, [word]), full
             yield "no input of " + word, run(program, [word], nothing), empty
-            yield "output of %s that can't be written" % word, run_full(program, word), FAILED
+    for program, given in [(couchd, ["once"]), (couchd, ["dump"]), (couchd, ["serve", "--port", "0"]), (replay, ["check"]), (replay, ["base"])]:
+        wanted = (FAILED, None, os.path.basename(program) + ": standard output can't be written\n")
+        for how, out in (("has no room", full), ("is closed", closed)):
+            yield "output of %s that %s" % (given[0], how), out(program, given), wanted
+    for program, name in ((couchd, "couchd"), (replay, "replay")):
+        version = b"%s %s\n" % (name.encode(), latest_version().encode())
+        for option in ("--version", "-V"):
+            yield "%s %s" % (name, option), run(program, [option]), (SERVED, version, "")
+        yield "version of %s, before a subcommand" % name, run(program, ["--version", "check"]), (SERVED, version, "")
+        yield "version of %s, to no room" % name, full(program, ["--version"])[0], FAILED
     folder = os.open(TESTS, os.O_RDONLY)
     yield "input of once that can't be read", run(couchd, ["once"], folder)[:2], (FAILED, b"")
     yield "input of dump that can't be read", run(couchd, ["dump"], folder)[:2], (FAILED, DUMP)
@@ -221,10 +250,26 @@ def outcomes(couchd, replay):
     os.close(folder)
 
 
-def run_full(program, word):
-    """The status of a run whose output has no room."""
-    with open("/dev/full", "wb") as full:
-        return run(program, [word], None, full)[0]
+def full(program, given):
+    """A run whose output has no room."""
+    with open("/dev/full", "wb") as out:
+        return run(program, given, None, out)
+
+
+def closed(program, given):
+    """A run whose output nobody reads."""
+    reading, writing = os.pipe()
+    os.close(reading)
+    try:
+        return run(program, given, None, writing)
+    finally:
+        os.close(writing)
+
+
+def latest_version():
+    """The newest version that the list of changes names."""
+    with open(os.path.join(TESTS, "..", "CHANGELOG.md")) as changes:
+        return re.search(r"^## (\d+\.\d+\.\d+)", changes.read(), re.MULTILINE)[1]
 
 
 def main():

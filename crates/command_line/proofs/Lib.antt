@@ -1,4 +1,4 @@
-pub mod Words
+pub mod Parsed
 pub mod Given
 pub mod Runs
 pub mod Built

@@ -1,13 +1,14 @@
--- Which runs words name, and which none.
-use Rattle.std.proofs.Common.{◌≡◌, ◌∙◌, sym, ap, subst, arith, inl, inr, List, [], Option, None, Some, option_map, slice_index, codes}
+-- Which runs arguments name, and which none.
+use Rattle.std.proofs.Common.{◌≡◌, ◌∙◌, ◌⊎◌, sym, ap, subst, arith, inl, inr, List, [], ◌∷◌, Option, None, Some, option_map, slice_index, codes}
 use Rattle.clap.specs.Words.{Row, Text, kind_of, subcommand_of}
 use Rattle.clap.specs.Kinds.{Kinds, IsAmong, HasKind}
 use Rattle.clap.specs.declared.error.Error.{Error}
-use Rattle.clap.specs.declared.error.kind.ErrorKind.TheVariants.{OutOfMemory}
+use Rattle.clap.specs.declared.error.kind.ErrorKind.{ErrorKind}
+use Rattle.clap.specs.declared.error.kind.ErrorKind.TheVariants.{DisplayVersion, OutOfMemory}
 use Rattle.command_line.specs.Couchd.{couchd, NamesNoRun}
 use Rattle.command_line.specs.Serve.{IsServingOf}
 use Rattle.command_line.specs.Replicate.{IsReplicatingOf}
-use Rattle.command_line.specs.declared.numbers.Serving.{Serving}
+use Rattle.command_line.specs.declared.serving.Serving.{Serving}
 use Rattle.command_line.specs.declared.replicate.Replicating.{Replicating}
 use Rattle.command_line.specs.declared.Run.TheVariants.{Once, Dump, Serve, Replicate}
 
@@ -15,6 +16,20 @@ use Rattle.command_line.specs.declared.Run.TheVariants.{Once, Dump, Serve, Repli
 pub of_memory : (kinds : Kinds) (e : Error) → HasKind kinds e → kinds ≡ [] → kind_of e ≡ OutOfMemory
 of_memory kinds e (inl memory) none = memory
 of_memory kinds e (inr among) none = absurd (subst (IsAmong (kind_of e)) none among)
+
+-- an error that is the version is among the kinds
+pub version_among : (kinds : Kinds) (e : Error) → HasKind kinds e → kind_of e ≡ DisplayVersion → IsAmong DisplayVersion kinds
+version_among kinds e (inl memory) is = cc
+version_among kinds e (inr among) is = subst (λ (kind : ErrorKind). IsAmong kind kinds) is among
+
+-- where the version is the only kind, an error is that or that memory was refused
+pub only_version : (kinds : Kinds) (e : Error) → HasKind kinds e → kinds ≡ DisplayVersion ∷ [] → (kind_of e ≡ OutOfMemory) ⊎ (kind_of e ≡ DisplayVersion)
+only_version kinds e (inl memory) is = inl memory
+only_version kinds e (inr among) is = elim (subst (IsAmong (kind_of e)) is among) [ inl version ↦ inr version | inr none ↦ absurd none ]
+
+-- one kind is some
+pub some_kind : (kind : ErrorKind) (kinds : Kinds) → kind ∷ kinds ≡ [] → ⊥
+some_kind kind kinds is = cc
 
 -- what an option holds is one pair
 one_name : {A B : Type 0} (o : Option (A × B)) (a b : A) (x : B) → o ≡ Some (a, x) → option_map (λ p. p.0) o ≡ Some b → a ≡ b
@@ -28,7 +43,7 @@ one_value {A = A} {B = B} (Some p) a b x y is is_too =
     let other : p ≡ (b, y) = cc in
     sym (ap (λ (q : A × B). q.1) one) ∙ ap (λ (q : A × B). q.1) other
 
--- words of `serve` whose numbers are none name no run
+-- arguments of `serve` whose numbers are none name no run
 pub no_run : (words : List Text) (given : List Row) → subcommand_of couchd words ≡ Some (codes "serve", given)
     → ((serving : Serving) → IsServingOf given serving → ⊥) → NamesNoRun words
 no_run words given is none Once of =
@@ -47,7 +62,7 @@ no_run words given is none (Replicate replicating) (other, is_too, of) =
     let heads : 115 ≡ 114 = ap (λ (t : Text). slice_index t 0) same in
     absurd (omega (arith, heads))
 
--- words of `replicate` that give no addresses or no id name no run
+-- arguments of `replicate` that give no addresses or no id name no run
 pub no_replication : (words : List Text) (given : List Row) → subcommand_of couchd words ≡ Some (codes "replicate", given)
     → ((replicating : Replicating) → IsReplicatingOf given replicating → ⊥) → NamesNoRun words
 no_replication words given is none Once of =

@@ -1,4 +1,4 @@
--- Lists of documents in the words of `couchd replicate`.
+-- Lists of documents in the arguments of `couchd replicate`.
 use Rattle.std.specs.Prelude.{◌≡◌, ◌==◌, ◌<◌, ◌&&◌, ℕ, Bool, List, [], ◌∷◌, length, nat_lt, Option, Some, None, option_and_then, option_map, if◌then◌else◌}
 use Rattle.std.specs.List.{after_first, before_first, position_or_len, slice_split}
 use Rattle.std.specs.Str.{is_utf8}

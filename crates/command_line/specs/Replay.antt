@@ -1,18 +1,18 @@
--- The command line of `replay`, and what its words name.
+-- The command line of `replay`, and what its arguments name.
 use Rattle.std.specs.Prelude.{◌≡◌, ℕ, List, Some, codes}
 use Rattle.clap.specs.Words.{App, new_app, with_subcommand}
-use Rattle.command_line.specs.Lines.{named_by_subcommands, subcommand_name}
+use Rattle.command_line.specs.Lines.{of_subcommands, subcommand_name}
 use Rattle.command_line.specs.declared.replay.Run.{Run}
 use Rattle.command_line.specs.declared.replay.Run.TheVariants.{Check, Base}
 
 -- the command line of `replay`
 abbrev pub replay : App
 replay =
-    with_subcommand (with_subcommand (named_by_subcommands (new_app (codes "replay")))
+    with_subcommand (with_subcommand (of_subcommands (new_app (codes "replay")))
     (new_app (codes "check")).top)
     (new_app (codes "base")).top
 
--- the words, of which the first is the program's name, name this run
+-- the arguments, of which the first is the program's name, name this run
 abbrev pub IsRunOf : List (List ℕ) → Run → Type 0
 IsRunOf words Check = subcommand_name replay words ≡ Some (codes "check")
 IsRunOf words Base = subcommand_name replay words ≡ Some (codes "base")

@@ -1,18 +1,12 @@
--- The words of `couchd replicate`.
-use Rattle.std.specs.Prelude.{◌≡◌, ◌≢◌, ◌≤◌, true, List, [], ◌∷◌, map, Option, Some, None, option_map, length, codes, string_bytes}
+-- The arguments of `couchd replicate`.
+use Rattle.std.specs.Prelude.{◌≡◌, ◌≢◌, ◌≤◌, List, [], ◌∷◌, map, Option, Some, None, option_map, length, codes, string_bytes}
 use Rattle.std.specs.Net.Grammar.{IsSocketText}
 use Rattle.std.specs.declared.net.socket_addr.SocketAddr.{SocketAddr}
-use Rattle.clap.specs.Words.{App, Row, Rule, Text, new_app, new_rule, with_rule, first_of}
+use Rattle.clap.specs.Words.{App, Row, Text, new_app, with_rule, first_of}
 use Rattle.command_line.specs.DocIds.{ids_listed}
+use Rattle.command_line.specs.Numbers.{number_option, IsNumberOf}
+use Rattle.command_line.specs.Texts.{optional_text, text_option}
 use Rattle.command_line.specs.declared.replicate.Replicating.{Replicating}
-
--- an option of this name, which has to be given
-abbrev pub text_option : Text → Rule
-text_option name = record (new_rule name) { long = Some name; value_names = 1; required = true }
-
--- an option of this name, which may be left out
-abbrev pub optional_text : Text → Rule
-optional_text name = record (new_rule name) { long = Some name; value_names = 1 }
 
 -- `couchd replicate` with the options that have to be given
 abbrev pub replicate_all : App
@@ -24,7 +18,10 @@ replicate_all =
 
 -- `couchd replicate` with its options
 abbrev pub replicate : App
-replicate = with_rule replicate_all (optional_text (codes "doc-ids"))
+replicate =
+    with_rule (with_rule replicate_all
+    (optional_text (codes "doc-ids")))
+    (number_option (codes "patience") 1 86400 (codes "60"))
 
 -- the text writes this address and port
 abbrev pub IsAddressOf : Option Text → SocketAddr → Type 0
@@ -44,9 +41,11 @@ abbrev pub IsListOf : Option Text → Option (List Text) → Type 0
 IsListOf None ids = ids ≡ None
 IsListOf (Some list) ids = (listed : List Text) × (ids_listed list ≡ Some listed) × (ids ≡ Some listed)
 
--- each is the one that the words give
+-- each is the one that the arguments give
 pub record IsReplicatingOf (given : List Row) (replicating : Replicating) : Type 0 where
   pub source : IsAddressOf (first_of (codes "source") given) replicating.source
   pub target : IsAddressOf (first_of (codes "target") given) replicating.target
   pub id : IsIdOf (first_of (codes "id") given) (string_bytes replicating.id)
   pub doc_ids : IsListOf (first_of (codes "doc-ids") given) (option_map (λ texts. map string_bytes texts.items) replicating.doc_ids)
+  pub patience : IsNumberOf (first_of (codes "patience") given) 60 replicating.patience
+  pub patience_range : (1 ≤ replicating.patience) × (replicating.patience ≤ 86400)

@@ -1,4 +1,4 @@
-//! Lists of documents in words.
+//! Lists of documents in arguments.
 ghost use Rattle.std.specs.Prelude.{◌≡◌, IfNone, IfOk, IfSome, length, map, option_map, string_bytes};
 ghost use Rattle.std.specs.List.{position_or_len};
 ghost use Rattle.command_line.specs.DocIds.{has_id_length, id_of, ids_listed, is_comma, IsSplit};

@@ -1,50 +1,77 @@
-//! Why words name no run.
-ghost use Rattle.std.specs.Prelude.{◌≡◌};
+//! Why arguments name no run.
+ghost use Rattle.std.specs.Prelude.{◌≡◌, ◌⊎◌, true, false};
 ghost use Rattle.clap.specs.Words.{kind_of};
-ghost use Rattle.clap.specs.declared.error.kind.ErrorKind.TheVariants.{OutOfMemory};
-ghost use Rattle.command_line.specs.declared.faults.WordsFault.TheVariants.{Memory};
+ghost use Rattle.clap.specs.declared.error.kind.ErrorKind.TheVariants.{DisplayVersion, OutOfMemory};
+ghost use Rattle.command_line.specs.declared.faults.ArgumentsFault.TheVariants.{Memory as NoMemory};
+ghost use Rattle.command_line.specs.declared.faults.GivenFault.TheVariants.{Memory};
+ghost use Rattle.command_line.specs.Faults.{asks_version};
 
 use clap::Command;
 use clap::error::ErrorKind;
 use std::alloc::{AllocError, Global};
-use std::io::Eprint;
+use std::io::{Eprint, Print};
 use std::process::ExitCode;
 use thiserror::Error;
 
-/// Why words name no run.
+/// Why arguments name no run.
 #[derive(Debug, Drop, Error)]
-pub enum WordsFault {
+pub enum ArgumentsFault {
     /// Memory was refused.
     #[error("out of memory")]
     Memory,
-    /// The words can't be parsed, or ask for help: `clap`'s text for the user.
+    /// They ask for the version: `clap`'s line with the name of the program and its version.
     #[error("{0}")]
-    Words(String),
+    Version(String),
+    /// They can't be parsed, or ask for help: `clap`'s text for the user.
+    #[error("{0}")]
+    Refused(String),
 }
 
-impl WordsFault {
-    /// Says on standard error why the words name no run, and answers the exit status: this one for
-    /// words that can't be parsed, and 1 where memory was refused.
-    pub fn tell<P: Eprint>(self, rt: &P, unreadable: u8) -> ExitCode {
+impl ArgumentsFault {
+    /// Says why the arguments name no run, and answers the exit status: the version on standard
+    /// output with 0, or 1 where that can't be written; on standard error why they can't be parsed,
+    /// with the status that is given here; and 1 where memory was refused.
+    pub fn tell<P: Print + Eprint>(self, rt: &P, unreadable: u8) -> ExitCode {
         match self {
-            WordsFault::Words(text) => {
+            ArgumentsFault::Version(text) => match print!(rt; "{text}") {
+                Ok(()) => ExitCode::SUCCESS,
+                Err(_) => ExitCode::FAILURE,
+            },
+            ArgumentsFault::Refused(text) => {
                 let _printed = eprint!(rt; "{text}");
                 ExitCode::from(unreadable)
             }
-            WordsFault::Memory => ExitCode::FAILURE,
+            ArgumentsFault::Memory => ExitCode::FAILURE,
         }
     }
 }
 
-impl From<AllocError> for WordsFault {
-    ghost from_gives = { λ _ fault. fault ≡ Memory };
+impl From<AllocError> for ArgumentsFault {
+    ghost from_gives = { λ _ fault. fault ≡ NoMemory };
 
-    fn from(_error: AllocError) -> WordsFault {
-        WordsFault::Memory
+    fn from(_error: AllocError) -> ArgumentsFault {
+        ArgumentsFault::Memory
     }
 }
 
-/// What `clap` says of words that are not UTF-8.
+/// Why the arguments of a subcommand name no run.
+#[derive(Clone, Copy)]
+pub(crate) enum GivenFault {
+    /// Memory was refused.
+    Memory,
+    /// One of them can't be taken: what is said of the first.
+    Refused(&'static str),
+}
+
+impl From<AllocError> for GivenFault {
+    ghost from_gives = { λ _ fault. fault ≡ Memory };
+
+    fn from(_refused: AllocError) -> GivenFault {
+        GivenFault::Memory
+    }
+}
+
+/// What `clap` says of arguments that are not UTF-8.
 pub(crate) const NOT_TEXT: &str = "invalid UTF-8 was detected in one or more arguments";
 
 /// What is said of a number that is out of its range. `clap` refuses each such number before.
@@ -64,33 +91,45 @@ pub(crate) const NO_DOC_IDS: &str =
     "the list of documents has an id that is no text of 1 to 512 bytes";
 
 /// The fault that a parse ends with.
-pub(crate) fn fault(alloc: Global, error: &clap::Error) -> WordsFault
-    ensures memory { kind_of error.now ≡ OutOfMemory → result ≡ WordsFault.Memory }
+pub(crate) fn fault(alloc: Global, error: &clap::Error) -> ArgumentsFault
+    ensures memory { kind_of error.now ≡ OutOfMemory → result ≡ ArgumentsFault.Memory }
+    ensures version { kind_of error.now ≡ DisplayVersion
+        → (result ≡ ArgumentsFault.Memory) ⊎ (asks_version result ≡ true) }
+    ensures version_only { asks_version result ≡ true → kind_of error.now ≡ DisplayVersion }
 {
-    if error.kind() == ErrorKind::OutOfMemory {
-        return WordsFault::Memory;
+    let kind = error.kind();
+    if kind == ErrorKind::OutOfMemory {
+        return ArgumentsFault::Memory;
     }
-    match format!(in alloc; "{error}") {
-        Ok(text) => WordsFault::Words(text),
-        Err(_) => WordsFault::Memory,
+    let Ok(text) = format!(in alloc; "{error}") else {
+        return ArgumentsFault::Memory;
+    };
+    if kind == ErrorKind::DisplayVersion {
+        return ArgumentsFault::Version(text);
     }
+    ArgumentsFault::Refused(text)
 }
 
-/// A refusal of the words of this command line, for this reason.
+/// A refusal of the arguments of this command line, for this reason.
 pub(crate) fn refuse<'a>(
     alloc: Global,
     command: Result<Command<'a>, AllocError>,
     reason: &'a str,
-) -> WordsFault {
-    match error_of(command, reason) {
-        Ok(error) => fault(alloc, &error),
-        Err(_) => WordsFault::Memory,
+) -> ArgumentsFault
+    ensures { asks_version result ≡ false }
+{
+    match text_of(alloc, command, reason) {
+        Ok(text) => ArgumentsFault::Refused(text),
+        Err(_) => ArgumentsFault::Memory,
     }
 }
 
-fn error_of<'a>(
+/// `clap`'s text of a value that is refused for this reason.
+fn text_of<'a>(
+    alloc: Global,
     command: Result<Command<'a>, AllocError>,
     reason: &'a str,
-) -> Result<clap::Error, AllocError> {
-    command?.error(ErrorKind::ValueValidation, reason)
+) -> Result<String, AllocError> {
+    let error = command?.error(ErrorKind::ValueValidation, reason)?;
+    format!(in alloc; "{error}")
 }

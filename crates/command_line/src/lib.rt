@@ -1,10 +1,13 @@
 //! The command lines of the programs: that of `couchd`, and in [`replay`] that of `replay`.
 #![tactic(auto)]
 
-ghost use Rattle.std.specs.Prelude.{◌≡◌, ◌⊎◌, [], map, true, false, IfOk, IfErr, codes};
+ghost use Rattle.std.specs.Prelude.{◌≡◌, ◌⊎◌, [], ◌∷◌, map, true, false, IfOk, IfErr, codes};
+ghost use Rattle.clap.specs.Kinds.{IsAmong};
 ghost use Rattle.clap.specs.Words.{app_of, fault_of, new_app};
+ghost use Rattle.clap.specs.declared.error.kind.ErrorKind.TheVariants.{DisplayVersion};
 ghost use Rattle.clap.specs.declared.builder.command.Command.TheViews.{out-Command as fields_of};
 ghost use Rattle.command_line.specs.Couchd.{couchd, IsRunOf, NamesNoRun};
+ghost use Rattle.command_line.specs.Faults.{asks_version};
 
 mod arguments;
 mod doc_ids;
@@ -13,20 +16,24 @@ mod lines;
 mod numbers;
 pub mod replay;
 mod replicate;
+mod serving;
+mod texts;
+mod version;
 
-pub use arguments::given_words;
+pub use arguments::given_arguments;
 use clap::Command;
-pub use faults::WordsFault;
-use faults::{NOT_TEXT, OUT_OF_RANGE, fault, refuse};
+pub use faults::ArgumentsFault;
+use faults::{GivenFault, NOT_TEXT, OUT_OF_RANGE, fault, refuse};
 use lines::{program, with_subcommand};
-pub use numbers::Serving;
-use numbers::{serve, serving_of};
 pub use replicate::Replicating;
-use replicate::{GivenFault, replicate, replicating_of};
+use replicate::{replicate, replicating_of};
+pub use serving::Serving;
+use serving::{serve, serving_of};
 use std::alloc::{AllocError, Global};
 use std::convert::AsStr;
+pub use version::VERSION;
 
-/// What the words of a command line ask for.
+/// What the arguments of a command line ask for.
 #[derive(Debug, Drop, PartialEq, Eq)]
 pub enum Run {
     /// Serves standard input to standard output, with one session.
@@ -69,29 +76,39 @@ fn dump<'a>(alloc: Global) -> Command<'a>
     )
 }
 
-/// Why words that are not all UTF-8 name no run: the text that `clap` has for them.
-pub fn refuse_bytes(alloc: Global) -> WordsFault {
+/// Why arguments that are not all UTF-8 name no run: the text that `clap` has for them.
+pub fn refuse_bytes(alloc: Global) -> ArgumentsFault
+    ensures { asks_version result ≡ false }
+{
     refuse(alloc, couchd(alloc), NOT_TEXT)
 }
 
-/// The run that the words ask for. The first word is the program's name, as in `std::env::args`.
+/// The run that the arguments ask for. The first of them is the program's name, as in
+/// `std::env::args`.
 ///
 /// # Errors
 ///
-/// [`WordsFault::Words`] where the words name no run, with the text that says so, and
-/// [`WordsFault::Memory`] where memory was refused.
-pub fn read_words<S: AsStr>(alloc: Global, words: &[S]) -> Result<Run, WordsFault>
-    // The run has the name of the subcommand in the words, and each of its numbers is the one that
-    // they give, or else the default.
-    ensures run { IfOk result (IsRunOf (map S.text words.now)) }
+/// [`ArgumentsFault::Refused`] where the arguments name no run, with the text that says so,
+/// [`ArgumentsFault::Version`] where they ask for the version, and [`ArgumentsFault::Memory`] where
+/// memory was refused.
+pub fn read_arguments<S: AsStr>(alloc: Global, arguments: &[S]) -> Result<Run, ArgumentsFault>
+    // The run has the name of the subcommand in the arguments, and each of its options is the one
+    // that they give, or else the default.
+    ensures run { IfOk result (IsRunOf (map S.text arguments.now)) }
 
-    // Words are refused exactly where `clap` finds a fault in them or they name no run, but for
+    // Arguments are refused exactly where `clap` finds a fault in them or they name no run, but for
     // memory.
-    ensures faultless { IfOk result (λ _. fault_of couchd (map S.text words.now) ≡ []) }
-    ensures faulty { IfErr result (λ fault. fault_of couchd (map S.text words.now) ≡ []
-        → (fault ≡ WordsFault.Memory) ⊎ NamesNoRun (map S.text words.now)) }
+    ensures faultless { IfOk result (λ _. fault_of couchd (map S.text arguments.now) ≡ []) }
+    ensures faulty { IfErr result (λ fault. fault_of couchd (map S.text arguments.now) ≡ []
+        → (fault ≡ ArgumentsFault.Memory) ⊎ NamesNoRun (map S.text arguments.now)) }
+
+    // They ask for the version exactly where `clap` finds that they do, but for memory.
+    ensures version { IfErr result (λ fault. asks_version fault ≡ true
+        → IsAmong DisplayVersion (fault_of couchd (map S.text arguments.now))) }
+    ensures version_asked { fault_of couchd (map S.text arguments.now) ≡ DisplayVersion ∷ []
+        → IfErr result (λ fault. (fault ≡ ArgumentsFault.Memory) ⊎ (asks_version fault ≡ true)) }
 {
-    let matches = match couchd(alloc)?.try_get_matches_from(words) {
+    let matches = match couchd(alloc)?.try_get_matches_from(arguments) {
         Ok(matches) => matches,
         Err(error) => return Err(fault(alloc, &error)),
     };
@@ -105,8 +122,8 @@ pub fn read_words<S: AsStr>(alloc: Global, words: &[S]) -> Result<Run, WordsFaul
         },
         "replicate" => match replicating_of(alloc, options) {
             Ok(replicating) => Ok(Run::Replicate(replicating)),
-            Err(GivenFault::Words(reason)) => Err(refuse(alloc, couchd(alloc), reason)),
-            Err(GivenFault::Memory) => Err(WordsFault::Memory),
+            Err(GivenFault::Refused(reason)) => Err(refuse(alloc, couchd(alloc), reason)),
+            Err(GivenFault::Memory) => Err(ArgumentsFault::Memory),
         },
         _ => unreachable!(),
     }

@@ -2,19 +2,21 @@
 ghost use Rattle.std.specs.Prelude.{◌≡◌, true, false, IfOk};
 ghost use Rattle.clap.specs.Words.{App, app_of, new_app, with_subcommand};
 ghost use Rattle.clap.specs.declared.builder.command.Command.TheViews.{out-Command as fields_of};
-ghost use Rattle.command_line.specs.Lines.{named_by_subcommands};
+ghost use Rattle.command_line.specs.Lines.{of_subcommands};
 
+use crate::version::VERSION;
 use clap::Command;
 use std::alloc::{AllocError, Global};
 
-/// A command line that wants one of its subcommands, of which `help` is none.
+/// A command line that wants one of its subcommands, of which `help` is none, and says its version.
 pub(crate) fn program<'a>(alloc: Global, name: &'a str, about: &'a str) -> Command<'a>
-    ensures app { app_of result ≡ named_by_subcommands (new_app name.entry.now) }
+    ensures app { app_of result ≡ of_subcommands (new_app name.entry.now) }
     ensures local { (fields_of result).has_globals ≡ false }
     ensures required { (fields_of result).subcommand_required ≡ true }
 {
     Command::new(alloc, name)
         .about(about)
+        .version(VERSION)
         .subcommand_required(true)
         .disable_help_subcommand(true)
 }

@@ -1,48 +1,12 @@
-//! The numbers of `couchd serve`.
+//! Options for numbers.
 ghost use Rattle.std.specs.Prelude.{◌≡◌, ◌≤◌, ℕ, false, IfOk, IfSome, IfNone};
 ghost use Rattle.clap.specs.Words.{app_of, first_of, found_of, rows_of, rule_of, with_rule};
 ghost use Rattle.clap.specs.declared.builder.command.Command.TheViews.{out-Command as fields_of};
-ghost use Rattle.command_line.specs.Serve.{serve, number_option, IsNumberOf, IsServingOf};
+ghost use Rattle.command_line.specs.Numbers.{number_option, optional_number, IsNumber, IsNumberOf};
 
 use clap::builder::ValueParser;
 use clap::{Arg, ArgMatches, Command};
 use std::alloc::{AllocError, Global};
-
-/// How connections are served.
-#[derive(Clone, Copy, Debug, PartialEq, Eq)]
-pub struct Serving {
-    /// The port, or 0 for any that is free.
-    pub port: u16,
-    /// How many connections are served at a time, from 1 to 64.
-    pub workers: u16,
-    /// How many connections each worker serves, or 0 for no end.
-    pub connections: u32,
-}
-
-/// The subcommand, as `clap` takes it.
-pub(crate) fn serve<'a>(alloc: Global) -> Result<Command<'a>, AllocError>
-    ensures app { IfOk result (λ c. app_of c ≡ serve) }
-    ensures local { IfOk result (λ c. (fields_of c).has_globals ≡ false) }
-{
-    let port = number_option(alloc, "port", "PORT", 0, 65_535, "5984").help(
-        "The port, or 0 for any that is free",
-    );
-    let workers = number_option(alloc, "workers", "WORKERS", 1, 64, "4").help(
-        "How many connections are served at a time",
-    );
-    let connections = number_option(
-        alloc,
-        "connections",
-        "CONNECTIONS",
-        0,
-        4_294_967_295,
-        "0",
-    ).help("How many connections each worker serves before it ends, or 0 for no end");
-    let serve = Command::new(alloc, "serve").about("Serves connections on a port of 127.0.0.1");
-    let serve = with_option(serve, port)?;
-    let serve = with_option(serve, workers)?;
-    with_option(serve, connections)
-}
 
 /// The command with an option more.
 pub(crate) fn with_option<'a>(
@@ -58,7 +22,7 @@ pub(crate) fn with_option<'a>(
 }
 
 /// An option for a number within these bounds.
-fn number_option<'a>(
+pub(crate) fn number_option<'a>(
     alloc: Global,
     name: &'a str,
     value_name: &'a str,
@@ -69,32 +33,29 @@ fn number_option<'a>(
     ensures rule { rule_of result ≡ number_option name.entry.now least most default.entry.now }
     ensures local { result.global ≡ false }
 {
+    optional_number(alloc, name, value_name, least, most).default_value(default)
+}
+
+/// An option for a number within these bounds, which has no default.
+pub(crate) fn optional_number<'a>(
+    alloc: Global,
+    name: &'a str,
+    value_name: &'a str,
+    least: u64,
+    most: u64,
+) -> Arg<'a>
+    ensures rule { rule_of result ≡ optional_number name.entry.now least most }
+    ensures local { result.global ≡ false }
+{
     Arg::new(alloc, name)
         .long(name)
         .value_name(value_name)
         .value_parser(ValueParser::unsigned(least, most))
-        .default_value(default)
-}
-
-/// The numbers that the words of the subcommand give; nothing where one is out of its range.
-pub(crate) fn serving_of(options: &ArgMatches<'_>) -> Option<Serving>
-    ensures given { IfSome result (IsServingOf (rows_of (found_of options.now))) }
-    ensures no_number { IfNone result ((serving : Serving)
-        → IsServingOf (rows_of (found_of options.now)) serving → ⊥) }
-{
-    let port = number_of(options, "port", 5984, 0, 65_535)?;
-    let workers = number_of(options, "workers", 4, 1, 64)?;
-    let connections = number_of(options, "connections", 0, 0, 4_294_967_295)?;
-    Some(Serving {
-        port: port as u16,
-        workers: workers as u16,
-        connections: connections as u32,
-    })
 }
 
 /// The number that was given under this name, or else the default; nothing where it is out of these
 /// bounds.
-fn number_of(
+pub(crate) fn number_of(
     options: &ArgMatches<'_>,
     name: &str,
     default: u64,
@@ -112,6 +73,16 @@ fn number_of(
     let Some(text) = options.get_str(name) else {
         return Some(default);
     };
+    number_in(text, least, most)
+}
+
+/// The number that a text says; nothing where it says none, or one out of these bounds.
+pub(crate) fn number_in(text: &str, least: u64, most: u64) -> Option<u64>
+    ensures number { IfSome result (IsNumber text.now) }
+    ensures within { IfSome result (λ number. (least ≤ number) × (number ≤ most)) }
+    ensures no_number { IfNone result ((number : ℕ)
+        → IsNumber text.now number → least ≤ number → number ≤ most → ⊥) }
+{
     let Ok(number) = text.parse::<u64>() else {
         return None;
     };

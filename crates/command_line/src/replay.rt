@@ -1,16 +1,19 @@
 //! The command line of `replay`.
-ghost use Rattle.std.specs.Prelude.{◌≡◌, [], map, true, false, codes, IfOk, IfErr};
+ghost use Rattle.std.specs.Prelude.{◌≡◌, ◌⊎◌, [], ◌∷◌, map, true, false, codes, IfOk, IfErr};
+ghost use Rattle.clap.specs.Kinds.{IsAmong};
 ghost use Rattle.clap.specs.Words.{app_of, fault_of, new_app};
+ghost use Rattle.clap.specs.declared.error.kind.ErrorKind.TheVariants.{DisplayVersion};
 ghost use Rattle.clap.specs.declared.builder.command.Command.TheViews.{out-Command as fields_of};
+ghost use Rattle.command_line.specs.Faults.{asks_version};
 ghost use Rattle.command_line.specs.Replay.{replay, IsRunOf};
 
-use crate::faults::{NOT_TEXT, WordsFault, fault, refuse};
+use crate::faults::{ArgumentsFault, NOT_TEXT, fault, refuse};
 use crate::lines::{program, with_subcommand};
 use clap::Command;
 use std::alloc::{AllocError, Global};
 use std::convert::AsStr;
 
-/// What the words of a command line ask for.
+/// What the arguments of a command line ask for.
 #[derive(Clone, Copy, Debug, PartialEq, Eq)]
 pub enum Run {
     /// Tells whether standard input is the dump of a legal history.
@@ -53,27 +56,37 @@ fn base<'a>(alloc: Global) -> Command<'a>
     )
 }
 
-/// Why words that are not all UTF-8 name no run: the text that `clap` has for them.
-pub fn refuse_bytes(alloc: Global) -> WordsFault {
+/// Why arguments that are not all UTF-8 name no run: the text that `clap` has for them.
+pub fn refuse_bytes(alloc: Global) -> ArgumentsFault
+    ensures { asks_version result ≡ false }
+{
     refuse(alloc, command(alloc), NOT_TEXT)
 }
 
-/// The run that the words ask for. The first word is the program's name, as in `std::env::args`.
+/// The run that the arguments ask for. The first of them is the program's name, as in
+/// `std::env::args`.
 ///
 /// # Errors
 ///
-/// [`WordsFault::Words`] where the words name no run, with the text that says so, and
-/// [`WordsFault::Memory`] where memory was refused.
-pub fn read_words<S: AsStr>(alloc: Global, words: &[S]) -> Result<Run, WordsFault>
-    // The run has the name of the subcommand in the words.
-    ensures run { IfOk result (IsRunOf (map S.text words.now)) }
+/// [`ArgumentsFault::Refused`] where the arguments name no run, with the text that says so,
+/// [`ArgumentsFault::Version`] where they ask for the version, and [`ArgumentsFault::Memory`] where
+/// memory was refused.
+pub fn read_arguments<S: AsStr>(alloc: Global, arguments: &[S]) -> Result<Run, ArgumentsFault>
+    // The run has the name of the subcommand in the arguments.
+    ensures run { IfOk result (IsRunOf (map S.text arguments.now)) }
 
-    // Words are refused exactly where `clap` finds a fault in them, but for memory.
-    ensures faultless { IfOk result (λ _. fault_of replay (map S.text words.now) ≡ []) }
-    ensures faulty { IfErr result (λ fault. fault_of replay (map S.text words.now) ≡ []
-        → fault ≡ WordsFault.Memory) }
+    // Arguments are refused exactly where `clap` finds a fault in them, but for memory.
+    ensures faultless { IfOk result (λ _. fault_of replay (map S.text arguments.now) ≡ []) }
+    ensures faulty { IfErr result (λ fault. fault_of replay (map S.text arguments.now) ≡ []
+        → fault ≡ ArgumentsFault.Memory) }
+
+    // They ask for the version exactly where `clap` finds that they do, but for memory.
+    ensures version { IfErr result (λ fault. asks_version fault ≡ true
+        → IsAmong DisplayVersion (fault_of replay (map S.text arguments.now))) }
+    ensures version_asked { fault_of replay (map S.text arguments.now) ≡ DisplayVersion ∷ []
+        → IfErr result (λ fault. (fault ≡ ArgumentsFault.Memory) ⊎ (asks_version fault ≡ true)) }
 {
-    let matches = match command(alloc)?.try_get_matches_from(words) {
+    let matches = match command(alloc)?.try_get_matches_from(arguments) {
         Ok(matches) => matches,
         Err(error) => return Err(fault(alloc, &error)),
     };

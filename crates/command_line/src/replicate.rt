@@ -1,15 +1,15 @@
-//! The words of `couchd replicate`.
+//! The arguments of `couchd replicate`.
 ghost use Rattle.std.specs.Prelude.{◌≡◌, ◌≤◌, ◌↔◌, false, List, length, Err, IfOk, IfSome, IfNone, IsTrue, Option, map, option_map, string_bytes, codes};
 ghost use Rattle.std.specs.declared.net.socket_addr.SocketAddr.{SocketAddr};
-ghost use Rattle.clap.specs.Words.{Text, app_of, first_of, found_of, rows_of, rule_of};
+ghost use Rattle.clap.specs.Words.{Text, app_of, first_of, found_of, rows_of};
 ghost use Rattle.clap.specs.declared.builder.command.Command.TheViews.{out-Command as fields_of};
-ghost use Rattle.command_line.specs.declared.replicate.GivenFault.TheVariants.{Memory};
-ghost use Rattle.command_line.specs.Replicate.{replicate, replicate_all, optional_text, text_option, BeginsPlain, IsAddressOf, IsIdOf, IsListOf, IsReplicatingOf};
+ghost use Rattle.command_line.specs.Replicate.{replicate, replicate_all, BeginsPlain, IsAddressOf, IsIdOf, IsListOf, IsReplicatingOf};
 
 use crate::doc_ids::ids_listed;
-use crate::faults::{NO_DOC_IDS, NO_ID, NO_SOURCE, NO_TARGET};
-use crate::numbers::with_option;
-use clap::{Arg, ArgMatches, Command};
+use crate::faults::{GivenFault, NO_DOC_IDS, NO_ID, NO_SOURCE, NO_TARGET, OUT_OF_RANGE};
+use crate::numbers::{number_of, number_option, with_option};
+use crate::texts::{optional_text, text_of, text_option};
+use clap::{ArgMatches, Command};
 use std::alloc::{AllocError, Global};
 use std::net::SocketAddr;
 
@@ -29,6 +29,8 @@ pub struct Replicating {
     /// The ids of the documents that are brought, each of 1 to 512 bytes; all documents are where no
     /// list was given.
     pub doc_ids: Option<Vec<String>>,
+    /// So long an end may be silent, in seconds, from 1 to 86,400.
+    pub patience: u32,
 }
 
 /// The subcommand, as `clap` takes it.
@@ -36,7 +38,14 @@ pub(crate) fn replicate<'a>(alloc: Global) -> Result<Command<'a>, AllocError>
     ensures app { IfOk result (λ c. app_of c ≡ replicate) }
     ensures local { IfOk result (λ c. (fields_of c).has_globals ≡ false) }
 {
-    with_option(replicate_all(alloc)?, doc_ids(alloc))
+    let doc_ids = optional_text(alloc, "doc-ids", "IDS").help(
+        "Brings these documents alone: ids between commas, a comma or '%' in one escaped as in a path; an ID goes with one list",
+    );
+    let patience = number_option(alloc, "patience", "SECONDS", 1, 86_400, "60").help(
+        "How long an end may be silent",
+    );
+    let replicate = with_option(replicate_all(alloc)?, doc_ids)?;
+    with_option(replicate, patience)
 }
 
 /// The subcommand with the options that have to be given.
@@ -59,71 +68,34 @@ fn replicate_all<'a>(alloc: Global) -> Result<Command<'a>, AllocError>
     with_option(replicate, id)
 }
 
-/// The option for a list of documents.
-fn doc_ids<'a>(alloc: Global) -> Arg<'a>
-    ensures rule { rule_of result ≡ optional_text (codes "doc-ids") }
-    ensures local { result.global ≡ false }
-{
-    Arg::new(alloc, "doc-ids")
-        .long("doc-ids")
-        .value_name("IDS")
-        .help(
-            "Brings these documents alone: ids between commas, a comma or '%' in one escaped as in a path; an ID goes with one list",
-        )
-}
-
-/// An option that has to be given.
-fn text_option<'a>(alloc: Global, name: &'a str, value_name: &'a str) -> Arg<'a>
-    ensures rule { rule_of result ≡ text_option name.entry.now }
-    ensures local { result.global ≡ false }
-{
-    Arg::new(alloc, name)
-        .long(name)
-        .value_name(value_name)
-        .required(true)
-}
-
-/// Why the words of the subcommand name no replication.
-#[derive(Clone, Copy)]
-pub(crate) enum GivenFault {
-    /// Memory was refused.
-    Memory,
-    /// One of them can't be read: what is said of the first.
-    Words(&'static str),
-}
-
-impl From<AllocError> for GivenFault {
-    ghost from_gives = { λ _ fault. fault ≡ Memory };
-
-    fn from(_refused: AllocError) -> GivenFault {
-        GivenFault::Memory
-    }
-}
-
-/// What the words of the subcommand give.
+/// What the options of the subcommand give.
 pub(crate) fn replicating_of(
     alloc: Global,
     options: &ArgMatches<'_>,
 ) -> Result<Replicating, GivenFault>
     ensures given { IfOk result (IsReplicatingOf (rows_of (found_of options.now))) }
-    ensures none { (reason : _) → result ≡ Err (GivenFault.Words reason)
+    ensures none { (reason : _) → result ≡ Err (GivenFault.Refused reason)
         → (replicating : Replicating) → IsReplicatingOf (rows_of (found_of options.now)) replicating → ⊥ }
 {
     let Some(source) = address_of(options, "source") else {
-        return Err(GivenFault::Words(NO_SOURCE));
+        return Err(GivenFault::Refused(NO_SOURCE));
     };
     let Some(target) = address_of(options, "target") else {
-        return Err(GivenFault::Words(NO_TARGET));
+        return Err(GivenFault::Refused(NO_TARGET));
     };
     let Some(id) = id_of(options) else {
-        return Err(GivenFault::Words(NO_ID));
+        return Err(GivenFault::Refused(NO_ID));
     };
-    let doc_ids = read_list(alloc, list_of(options))?;
+    let Some(patience) = number_of(options, "patience", 60, 1, 86_400) else {
+        return Err(GivenFault::Refused(OUT_OF_RANGE));
+    };
+    let doc_ids = read_list(alloc, text_of(options, "doc-ids"))?;
     Ok(Replicating {
         source,
         target,
         id: String::from_str(alloc, id)?,
         doc_ids,
+        patience: patience as u32,
     })
 }
 
@@ -168,26 +140,18 @@ fn is_id(bytes: &[u8]) -> bool
     }
 }
 
-/// The list of documents that was given.
-fn list_of<'a>(options: &ArgMatches<'a>) -> Option<&'a str>
-    ensures { option_map (λ list. list.now) result
-        ≡ first_of (codes "doc-ids") (rows_of (found_of options.now)) }
-{
-    options.get_str("doc-ids")
-}
-
 /// The documents of a list, if there is one.
 fn read_list(alloc: Global, list: Option<&str>) -> Result<Option<Vec<String>>, GivenFault>
     ensures given { IfOk result (λ ids. IsListOf (option_map (λ l. l.now) list.entry)
         (option_map (λ texts. map string_bytes texts.items) ids)) }
-    ensures none { (reason : _) → result ≡ Err (GivenFault.Words reason)
+    ensures none { (reason : _) → result ≡ Err (GivenFault.Refused reason)
         → (ids : Option (List Text)) → IsListOf (option_map (λ l. l.now) list.entry) ids → ⊥ }
 {
     let Some(list) = list else {
         return Ok(None);
     };
     let Some(ids) = ids_listed(alloc, list)? else {
-        return Err(GivenFault::Words(NO_DOC_IDS));
+        return Err(GivenFault::Refused(NO_DOC_IDS));
     };
     Ok(Some(ids))
 }

@@ -1,32 +1,35 @@
 //! The program `couchd`: a replicating document store, served over HTTP.
 #![tactic(auto)]
 
+mod patient;
 mod replication;
 
-use command_line::{Run, given_words, read_words, refuse_bytes};
+use command_line::{Run, given_arguments, read_arguments, refuse_bytes};
 use http_front::{run_dump, run_once, run_server};
 use std::io;
 use std::net::{Ipv4Addr, SocketAddr, SocketAddrV4, TcpListener};
 use std::process::ExitCode;
-use streams::Stream;
+use streams::{Sink, Stream};
 
-/// The status of words that can't be parsed.
-const UNREADABLE_WORDS: u8 = 2;
+/// The status of arguments that can't be parsed.
+const UNREADABLE_ARGUMENTS: u8 = 2;
 
 fn main(rt: HostRuntime) -> io::Result<ExitCode> {
-    let Some(words) = given_words(&rt)? else {
-        return Ok(refuse_bytes(rt.alloc()).tell(&rt, UNREADABLE_WORDS));
+    let Some(arguments) = given_arguments(&rt)? else {
+        return Ok(refuse_bytes(rt.alloc()).tell(&rt, UNREADABLE_ARGUMENTS));
     };
-    match read_words(rt.alloc(), words.as_slice()) {
+    match read_arguments(rt.alloc(), arguments.as_slice()) {
         Ok(Run::Once) => {
             let mut reader = Stream::new(rt.reader());
             let mut writer = Stream::new(io::writer(&rt));
-            Ok(ExitCode::from(run_once(&mut reader, &mut writer, &rt)))
+            let status = run_once(&mut reader, &mut writer, &rt);
+            Ok(ended(&rt, &writer, status))
         }
         Ok(Run::Dump) => {
             let mut reader = Stream::new(rt.reader());
             let mut writer = Stream::new(io::writer(&rt));
-            Ok(ExitCode::from(run_dump(&mut reader, &mut writer, &rt)))
+            let status = run_dump(&mut reader, &mut writer, &rt);
+            Ok(ended(&rt, &writer, status))
         }
         Ok(Run::Serve(serving)) => {
             let Ok(listener) = TcpListener::bind(&rt, address(serving.port)) else {
@@ -34,13 +37,29 @@ fn main(rt: HostRuntime) -> io::Result<ExitCode> {
                 return Ok(ExitCode::FAILURE);
             };
             let port = listener.local_addr()?.port();
-            println!(rt; "listening 127.0.0.1:{port}")?;
+            let Ok(()) = println!(rt; "listening 127.0.0.1:{port}") else {
+                return Ok(unwritten(&rt));
+            };
             let status = run_server(&listener, serving.workers, serving.connections, &rt);
             Ok(ExitCode::from(status))
         }
-        Ok(Run::Replicate(replicating)) => replication::replicate(&rt, &replicating),
-        Err(fault) => Ok(fault.tell(&rt, UNREADABLE_WORDS)),
+        Ok(Run::Replicate(replicating)) => Ok(replication::replicate(&rt, &replicating)),
+        Err(fault) => Ok(fault.tell(&rt, UNREADABLE_ARGUMENTS)),
     }
+}
+
+/// The end of a run that answered this status, and whose writes to standard output may have failed.
+fn ended<W: Sink>(rt: &HostRuntime, output: &W, status: u8) -> ExitCode {
+    if output.failures() > 0 {
+        return unwritten(rt);
+    }
+    ExitCode::from(status)
+}
+
+/// The end of a run whose standard output can't be written, which is said.
+fn unwritten(rt: &HostRuntime) -> ExitCode {
+    let _printed = eprintln!(rt; "couchd: standard output can't be written");
+    ExitCode::FAILURE
 }
 
 /// The address of a port that only this machine reaches.

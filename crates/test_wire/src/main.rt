@@ -3,6 +3,7 @@
 //! run ends, with status 1.
 #![tactic(auto)]
 
+mod arguments;
 mod calls;
 mod histories;
 mod limits;
@@ -10,7 +11,6 @@ mod peers;
 mod responses;
 mod scripts;
 mod services;
-mod words;
 
 use std::alloc::Global;
 use std::test::Fail;
@@ -29,7 +29,7 @@ fn told(alloc: Global, words: &[&str]) -> Result<String, Fail> {
         ["feed_end", last_seq, pending] => responses::feed_last_told(alloc, last_seq, pending),
         ["config", numbers @ ..] => limits::config_told(alloc, numbers),
         ["seat", session, call] => limits::seat_told(alloc, session, call),
-        ["words", words @ ..] => words::words_told(alloc, words),
+        ["arguments", arguments @ ..] => arguments::arguments_told(alloc, arguments),
         ["digest", text] => limits::digest_told(alloc, text),
         ["serve", reading, writing, input] => services::served(alloc, reading, writing, input),
         ["read", reading, input] => peers::responses_read(alloc, reading, input),

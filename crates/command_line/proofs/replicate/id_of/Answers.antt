@@ -1,4 +1,4 @@
--- What the words give is one text, so what is refused of it is refused of all that they give.
+-- What the arguments give is one text, so what is refused of it is refused of all that they give.
 use Rattle.std.proofs.Common.{◌≡◌, ◌≤◌, length, sym}
 use Rattle.std.specs.Prelude.{codes}
 use Rattle.clap.specs.Words.{found_of}

@@ -66,7 +66,7 @@ rows_of_some (Some sub) h = h
 
 module _ (line : App) (simple : is_simple line ≡ true) (command : Command) (matches : ArgMatches) (words : List Text) (app : app_of command ≡ line)
     (matched : HasMatchesOf (app_of command) words matches) where
-  -- the rows of the subcommand are those that the words name
+  -- the rows of the subcommand are those that the arguments name
   pub rows_named : subcommand_rows_of matches ≡ subcommand_of line words
   rows_named = (matched (ap is_simple app ∙ simple)).1 ∙ ap (λ (a : App). subcommand_of a words) app
 
@@ -91,7 +91,7 @@ module _ (line : App) (simple : is_simple line ≡ true) (command : Command) (ma
           let same : found ≡ name = cc in
           (given, ap (λ (n : Text). Some (n, given)) same)
 
-  -- what is found of the subcommand holds the rows that the words name
+  -- what is found of the subcommand holds the rows that the arguments name
   pub rows_held : {P : Type 0} (rows : P → List Row) (found : Option P) (held : P) → option_map rows found ≡ option_map (λ s. s.1) (subcommand_rows_of matches) → found ≡ Some held
       → (name : Text) (given : List Row) → subcommand_of line words ≡ Some (name, given) → given ≡ rows held
   rows_held rows found held of_found is name given named =

@@ -1,0 +1,100 @@
+//! The arguments of `couchd serve`.
+ghost use Rattle.std.specs.Prelude.{◌≡◌, false, IfOk, IfSome, IfNone, codes};
+ghost use Rattle.clap.specs.Words.{app_of, found_of, rows_of, rule_of};
+ghost use Rattle.clap.specs.declared.builder.command.Command.TheViews.{out-Command as fields_of};
+ghost use Rattle.command_line.specs.Numbers.{number_option};
+ghost use Rattle.command_line.specs.Serve.{serve, serve_with_counts, IsServingOf};
+
+use crate::numbers::{number_of, number_option, with_option};
+use clap::{Arg, ArgMatches, Command};
+use std::alloc::{AllocError, Global};
+
+/// How connections are served.
+#[derive(Clone, Copy, Debug, PartialEq, Eq)]
+pub struct Serving {
+    /// The port, or 0 for any that is free.
+    pub port: u16,
+    /// How many connections are served at a time, from 1 to 64.
+    pub workers: u16,
+    /// How many connections each worker serves, or 0 for no end.
+    pub connections: u32,
+    /// So long a connection may send nothing of a next request, in seconds, from 1 to 86,400.
+    pub idle: u32,
+    /// So long a request may take to come whole, and a response to be taken, in seconds, from 1 to
+    /// 86,400.
+    pub patience: u32,
+}
+
+/// The subcommand, as `clap` takes it.
+pub(crate) fn serve<'a>(alloc: Global) -> Result<Command<'a>, AllocError>
+    ensures app { IfOk result (λ c. app_of c ≡ serve) }
+    ensures local { IfOk result (λ c. (fields_of c).has_globals ≡ false) }
+{
+    let command = with_counts(alloc)?;
+    let command = with_option(command, idle(alloc))?;
+    let command = with_option(command, patience(alloc))?;
+    Ok(command)
+}
+
+/// The subcommand with its port and what is counted.
+fn with_counts<'a>(alloc: Global) -> Result<Command<'a>, AllocError>
+    ensures app { IfOk result (λ c. app_of c ≡ serve_with_counts) }
+    ensures local { IfOk result (λ c. (fields_of c).has_globals ≡ false) }
+{
+    let port = number_option(alloc, "port", "PORT", 0, 65_535, "5984").help(
+        "The port, or 0 for any that is free",
+    );
+    let workers = number_option(alloc, "workers", "WORKERS", 1, 64, "4").help(
+        "How many connections are served at a time",
+    );
+    let connections = number_option(
+        alloc,
+        "connections",
+        "CONNECTIONS",
+        0,
+        4_294_967_295,
+        "0",
+    ).help("How many connections each worker serves before it ends, or 0 for no end");
+    let serve = Command::new(alloc, "serve").about("Serves connections on a port of 127.0.0.1");
+    let serve = with_option(serve, port)?;
+    let serve = with_option(serve, workers)?;
+    with_option(serve, connections)
+}
+
+fn idle<'a>(alloc: Global) -> Arg<'a>
+    ensures rule { rule_of result ≡ number_option (codes "idle") 1 86400 (codes "15") }
+    ensures local { result.global ≡ false }
+{
+    number_option(alloc, "idle", "SECONDS", 1, 86_400, "15").help(
+        "How long a connection may send nothing of a next request",
+    )
+}
+
+fn patience<'a>(alloc: Global) -> Arg<'a>
+    ensures rule { rule_of result ≡ number_option (codes "patience") 1 86400 (codes "60") }
+    ensures local { result.global ≡ false }
+{
+    number_option(alloc, "patience", "SECONDS", 1, 86_400, "60").help(
+        "How long a request may take to come, and a response to be taken",
+    )
+}
+
+/// What the options of the subcommand give; nothing where a number is out of its range.
+pub(crate) fn serving_of(options: &ArgMatches<'_>) -> Option<Serving>
+    ensures given { IfSome result (IsServingOf (rows_of (found_of options.now))) }
+    ensures no_number { IfNone result ((serving : Serving)
+        → IsServingOf (rows_of (found_of options.now)) serving → ⊥) }
+{
+    let port = number_of(options, "port", 5984, 0, 65_535)?;
+    let workers = number_of(options, "workers", 4, 1, 64)?;
+    let connections = number_of(options, "connections", 0, 0, 4_294_967_295)?;
+    let idle = number_of(options, "idle", 15, 1, 86_400)?;
+    let patience = number_of(options, "patience", 60, 1, 86_400)?;
+    Some(Serving {
+        port: port as u16,
+        workers: workers as u16,
+        connections: connections as u32,
+        idle: idle as u32,
+        patience: patience as u32,
+    })
+}
