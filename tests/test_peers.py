@@ -4,15 +4,17 @@
 
 What a bulk asks is read by the reference. The same with a list of documents: one that comes alone, ids that have to be escaped in
 a path or in JSON, two pages, checkpoints on both ends, and sources that answer with a document off the list, or that take no
-filter. A document that no bulk can hold, and checkpoints past the source's end, are named on standard error. Then the source's
-first answer comes in forms that are read and in forms that aren't, in pieces, and cut: what the program reports must be right.
+filter. A document that no bulk can hold, and checkpoints past the source's end, are named on standard error. Either end is silent
+at each of its calls, and is given up in time and named. Then the source's first answer comes in forms that are read and in forms
+that aren't, in pieces, and cut: what the program reports must be right.
 """
 import sys
+import time
 from urllib.parse import quote, quote_plus
 
 from lib import ends
 from lib.checks import Checks
-from lib.ends import Cut, Failing, Scripted
+from lib.ends import SILENT, Cut, Failing, Scripted
 from lib.programs import arguments
 from lib.requests import encoded, request
 from reference import bodies, revisions
@@ -79,9 +81,9 @@ def some_changes_asked(since, body):
     return asked("POST", "/db/_changes?style=all_docs&filter=_doc_ids&since=%d&limit=100" % since, body)
 
 
-def replicate(program, source, target, id, listed=None):
+def replicate(program, source, target, id, listed=None, patience=None):
     """A run of the program, for all documents or for a list: its status, what it wrote, and the requests of both ends."""
-    ran = ends.replicate(program, source.port, target.port, id, listed)
+    ran = ends.replicate(program, source.port, target.port, id, listed, patience=patience)
     return ran, source.all_requests(), target.all_requests()
 
 
@@ -177,6 +179,39 @@ def past_end(program):
     for last_seq in (9, 10):
         source, target = Scripted(checkpoint(1, 9), changes(last_seq)), Scripted(checkpoint(2, 11))
         are(replicate(program, source, target, "r")[0], READ, "checkpoints at the end")
+
+
+# what each end answers to the replication of one document, with what is asked of it and the documents that were read and written by then
+OF_SOURCE = [
+    (NOTHING, "GET _local", 0, 0),
+    (changes(1, row(1, "d", FIRST)), "_changes", 0, 0),
+    (answer([{"ok": {"_id": "d", "_rev": FIRST, "_revisions": {"ids": [FIRST[2:]], "start": 1}}}]), "open_revs", 0, 0),
+    (written(1), "PUT _local", 1, 1),
+    (changes(1), "_changes", 1, 1),
+]
+OF_TARGET = [
+    (NOTHING, "GET _local", 0, 0),
+    (answer({"d": {"missing": [FIRST]}}), "_revs_diff", 0, 0),
+    (answer([], "201 Created"), "_bulk_docs", 1, 0),
+    (written(1), "PUT _local", 1, 1),
+]
+
+
+def silent(program):
+    """Either end says nothing more at one of its calls, or in the midst of an answer: it is given up after the time, and named."""
+    for end, answers in ("source", OF_SOURCE), ("target", OF_TARGET):
+        for at, (whole, name, read, written_by_then) in enumerate(answers):
+            for rest in SILENT, [whole[:40], SILENT]:
+                script = [given for given, _, _, _ in answers[:at]] + [rest]
+                source = Scripted(*(script if end == "source" else [given for given, _, _, _ in OF_SOURCE]))
+                target = Scripted(*(script if end == "target" else [given for given, _, _, _ in OF_TARGET]))
+                began = time.monotonic()
+                ran, _, _ = replicate(program, source, target, "r", patience=1)
+                took = time.monotonic() - began
+                documents = "documents read %d, written %d" % (read, written_by_then)
+                line = "couchd: the %s was silent for 1 s at %s; %s\n" % (end, name, documents)
+                are(ran, (1, "%s: the %s failed\n" % (documents, end), line), "a %s that is silent at %s" % (end, name))
+                check(1 <= took < 20, "a silent %s was given up after %.1f s", end, took)
 
 
 # ---- a list of documents
@@ -307,6 +342,7 @@ def main():
     one_segment(program)
     large_document(program)
     past_end(program)
+    silent(program)
     one_of_three(program)
     two_pages(program)
     listed_later(program)

@@ -16,6 +16,13 @@ class Failing(Cut):
     """An answer behind which the next read fails."""
 
 
+class Silent(bytes):
+    """An answer, or the rest of one, that never comes."""
+
+
+SILENT = Silent()
+
+
 class Listener:
     """Serves the first connection to a port that was free, in a thread of its own."""
 
@@ -52,6 +59,8 @@ class Scripted(Listener):
         for answer in self.answers:
             self.requests.append(b"\r\n\r\n".join(client.next_message()))
             for piece in answer if isinstance(answer, list) else [answer]:
+                if isinstance(piece, Silent):
+                    client.more()  # until the client ends the connection
                 client.socket.sendall(piece)
             if isinstance(answer, Failing):
                 client.socket.setsockopt(socket.SOL_SOCKET, socket.SO_LINGER, struct.pack("ii", 1, 0))
@@ -94,12 +103,13 @@ class Proxy(Listener):
             client.socket.sendall(head + b"\r\n\r\n" + answer)
 
 
-def replication(program, source, target, id, listed=None):
+def replication(program, source, target, id, listed=None, patience=None):
     """The command of a replication from one port to another, of all documents or of those on a list."""
     command = [program, "replicate", "--source", "127.0.0.1:%d" % source, "--target", "127.0.0.1:%d" % target, "--id", id]
-    return command + ([] if listed is None else ["--doc-ids", listed])
+    command += [] if listed is None else ["--doc-ids", listed]
+    return command + ([] if patience is None else ["--patience", str(patience)])
 
 
-def replicate(program, source, target, id, listed=None, env=None):
+def replicate(program, source, target, id, listed=None, env=None, patience=None):
     """A run of a replication."""
-    return run(replication(program, source, target, id, listed), "", env)
+    return run(replication(program, source, target, id, listed, patience), "", env)

@@ -1,3 +1,4 @@
 pub mod Counted
 pub mod Report
 pub mod Large
+pub mod Asked

@@ -3,6 +3,7 @@ ghost use Rattle.std.specs.Prelude.{◌≡◌, ◌≤◌, length};
 ghost use Rattle.replicator.specs.Wanted.{given_in, given_of};
 ghost use Rattle.replicator_run.specs.Counted.{Counts, and_more};
 
+use crate::asked::{Asked, End};
 use crate::large::large_in;
 use crate::watch::Watch;
 use commands::{Merge, NamedRevisions};
@@ -13,11 +14,13 @@ use revision_id::RevId;
 use std::alloc::Global;
 use std::marker::Model;
 
-/// An end, and how many documents it gave or took. It reports where it has written its checkpoint, where
-/// it ends before the number after which changes are asked for, and of a document that no bulk can hold.
+/// An end, and how many documents it gave or took. It reports what is asked of it, where it has written
+/// its checkpoint, where it ends before the number after which changes are asked for, and of a document that
+/// no bulk can hold.
 #[derive(Drop)]
 pub(crate) struct Counted<P, W> {
     peer: P,
+    name: End,
     passed: u64,
     watch: W,
 }
@@ -32,11 +35,12 @@ impl<P, W> Model for Counted<P, W> {
 
 impl<P: Peer, W: Watch> Counted<P, W> {
     /// An end that no document has passed.
-    pub(crate) fn new(peer: P, watch: W) -> Counted<P, W>
+    pub(crate) fn new(peer: P, name: End, watch: W) -> Counted<P, W>
         ensures { result ≡ record { end = peer; passed = 0 } }
     {
         Counted {
             peer,
+            name,
             passed: 0,
             watch,
         }
@@ -103,6 +107,7 @@ impl<P: Peer, W: Watch> Peer for Counted<P, W> {
     ghost failed_calls = { λ c. P.failed_calls c.end };
 
     fn changes(&mut self, alloc: Global, since: u64, limit: u64) -> Result<ChangesPage, PeerFault> {
+        self.watch.asks(self.name, Asked::Changes);
         match self.peer.changes(alloc, since, limit) {
             Ok(page) => {
                 tell_end(&self.watch, since, page.last_seq);
@@ -119,6 +124,7 @@ impl<P: Peer, W: Watch> Peer for Counted<P, W> {
         since: u64,
         limit: u64,
     ) -> Result<ChangesPage, PeerFault> {
+        self.watch.asks(self.name, Asked::Changes);
         match self.peer.changes_of(alloc, ids, since, limit) {
             Ok(page) => {
                 tell_end(&self.watch, since, page.last_seq);
@@ -129,6 +135,7 @@ impl<P: Peer, W: Watch> Peer for Counted<P, W> {
     }
 
     fn diff(&mut self, alloc: Global, asked: &NamedRevisions) -> Result<Differences, PeerFault> {
+        self.watch.asks(self.name, Asked::Differences);
         self.peer.diff(alloc, asked)
     }
 
@@ -138,6 +145,7 @@ impl<P: Peer, W: Watch> Peer for Counted<P, W> {
         id: &DocId,
         revs: &[RevId],
     ) -> Result<Opened, PeerFault> {
+        self.watch.asks(self.name, Asked::Revisions);
         match self.peer.open_revs(alloc, id, revs) {
             Ok(opened) => {
                 self.count(given(&opened.revisions));
@@ -148,6 +156,7 @@ impl<P: Peer, W: Watch> Peer for Counted<P, W> {
     }
 
     fn bulk(&mut self, alloc: Global, documents: &[Merge]) -> Result<(), PeerFault> {
+        self.watch.asks(self.name, Asked::Bulk);
         match self.peer.bulk(alloc, documents) {
             Ok(()) => {
                 self.count(documents.len());
@@ -161,6 +170,7 @@ impl<P: Peer, W: Watch> Peer for Counted<P, W> {
     }
 
     fn local_get(&mut self, alloc: Global, id: &DocId) -> Result<Option<Checkpoint>, PeerFault> {
+        self.watch.asks(self.name, Asked::Checkpoint);
         self.peer.local_get(alloc, id)
     }
 
@@ -171,6 +181,7 @@ impl<P: Peer, W: Watch> Peer for Counted<P, W> {
         named: Option<u32>,
         last_seq: u64,
     ) -> Result<u32, PeerFault> {
+        self.watch.asks(self.name, Asked::NewCheckpoint);
         match self.peer.local_put(alloc, id, named, last_seq) {
             Ok(counter) => {
                 self.watch.checkpoint(last_seq, self.passed);

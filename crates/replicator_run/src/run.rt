@@ -5,6 +5,7 @@ ghost use Rattle.replicator_http.specs.Goes.{Goes};
 ghost use Rattle.replicator_http.specs.declared.state.State.TheVariants as state;
 ghost use Rattle.replicator_run.specs.Report.{Replicates, fresh};
 
+use crate::asked::End;
 use crate::counted::Counted;
 use crate::report::Report;
 use crate::watch::{OfTarget, Watch};
@@ -27,8 +28,8 @@ pub(crate) fn replicate<S: Peer + Drop, T: Peer + Drop, W: Watch + Copy + Drop>(
 ) -> Report
     ensures { Replicates S.goes T.goes S.failed_calls T.failed_calls id ids source target result }
 {
-    let mut source = Counted::new(source, watch);
-    let mut target = Counted::new(target, OfTarget { watch });
+    let mut source = Counted::new(source, End::Source, watch);
+    let mut target = Counted::new(target, End::Target, OfTarget { watch });
     let mut worker = worker_of(id, ids);
     let ended = worker.run(alloc, &mut source, &mut target, u64::MAX);
     Report {

@@ -1,9 +1,13 @@
 //! Who learns how far a replication has come, and what keeps it from going on.
 
+use crate::asked::{Asked, End};
 use document_id::DocId;
 
 /// Who learns how far a replication has come, while it runs, and what keeps it from going on.
 pub trait Watch {
+    /// This is asked of an end next.
+    fn asks(&self, end: End, asked: Asked);
+
     /// Both ends have a checkpoint at this update number of the source, which has given so many
     /// documents.
     fn checkpoint(&self, last_seq: u64, documents_read: u64);
@@ -23,6 +27,10 @@ pub(crate) struct OfTarget<W> {
 }
 
 impl<W: Watch> Watch for OfTarget<W> {
+    fn asks(&self, end: End, asked: Asked) {
+        self.watch.asks(end, asked);
+    }
+
     fn checkpoint(&self, _last_seq: u64, _documents_read: u64) {}
 
     fn large_document(&self, id: &DocId, len: usize) {
