@@ -3,11 +3,12 @@
 
 mod patient;
 mod replication;
+mod serving;
 
+use crate::serving::{Notices, listener_at, terms};
 use command_line::{Run, given_arguments, read_arguments, refuse_bytes};
 use http_front::{run_dump, run_once, run_server};
 use std::io;
-use std::net::{Ipv4Addr, SocketAddr, SocketAddrV4, TcpListener};
 use std::process::ExitCode;
 use streams::{Sink, Stream};
 
@@ -32,15 +33,11 @@ fn main(rt: HostRuntime) -> io::Result<ExitCode> {
             Ok(ended(&rt, &writer, status))
         }
         Ok(Run::Serve(serving)) => {
-            let Ok(listener) = TcpListener::bind(&rt, address(serving.port)) else {
-                let _printed = eprintln!(rt; "couchd: cannot listen on port {}", serving.port);
+            let Some(listener) = listener_at(&rt, serving.port)? else {
                 return Ok(ExitCode::FAILURE);
             };
-            let port = listener.local_addr()?.port();
-            let Ok(()) = println!(rt; "listening 127.0.0.1:{port}") else {
-                return Ok(unwritten(&rt));
-            };
-            let status = run_server(&listener, serving.workers, serving.connections, &rt);
+            let notices = Notices { rt: &rt };
+            let status = run_server(&listener, serving.workers, terms(&serving), &notices, &rt);
             Ok(ExitCode::from(status))
         }
         Ok(Run::Replicate(replicating)) => Ok(replication::replicate(&rt, &replicating)),
@@ -57,12 +54,7 @@ fn ended<W: Sink>(rt: &HostRuntime, output: &W, status: u8) -> ExitCode {
 }
 
 /// The end of a run whose standard output can't be written, which is said.
-fn unwritten(rt: &HostRuntime) -> ExitCode {
+pub(crate) fn unwritten(rt: &HostRuntime) -> ExitCode {
     let _printed = eprintln!(rt; "couchd: standard output can't be written");
     ExitCode::FAILURE
-}
-
-/// The address of a port that only this machine reaches.
-fn address(port: u16) -> SocketAddr {
-    SocketAddr::V4(SocketAddrV4::new(Ipv4Addr::LOCALHOST, port))
 }

@@ -11,6 +11,6 @@ mod opening;
 mod server;
 
 pub use dumping::run_dump;
-pub use http_handlers::{CallFault, Calls, Setting, Viewer, listen, serve};
+pub use http_handlers::{CallFault, Calls, Pace, Setting, Terms, Viewer, Watch, listen, serve};
 pub use once::run_once;
 pub use server::run_server;

@@ -6,7 +6,7 @@ ghost use Rattle.http_front.specs.Server.{ServesListener, ServesSessions, server
 
 use crate::opening::{NOT_OPENED, config};
 use history_lock::{Opened, open};
-use http_handlers::{Setting, listen};
+use http_handlers::{Setting, Terms, Watch, can_start, listen};
 use std::marker::Brand;
 use std::net::TcpListener;
 use std::sync::Wait;
@@ -21,22 +21,27 @@ const TURNS: u64 = 100_000;
 const SERVED: u8 = 0;
 
 /// Serves an empty database to the connections of a listener, by so many workers (1 to 64), each with
-/// a session of its own and so many connections, or without end where that number is 0. The answer is
-/// the exit status: 0 after the last connection, or 1 where no database was opened, or memory for the
-/// routes was refused.
-pub fn run_server<A: AllocGlobal + Threads + Wait + Clock + Sync>(
+/// a session of its own, on these terms. Fewer workers than were asked for are said. The answer is the exit status: 0 after the
+/// last connection, or 1 where no database was opened, memory for the routes was refused, or no worker
+/// can start besides the caller's.
+pub fn run_server<A: AllocGlobal + Threads + Wait + Clock + Sync, V: Watch + Sync>(
     listener: &TcpListener,
     workers: u16,
-    connections: u32,
+    terms: Terms,
+    watch: &V,
     rt: &A,
 ) -> u8
     requires workers { (1 ≤ workers) × (workers ≤ 64) }
-    ensures { ServesListener None workers connections result }
+    ensures { ServesListener None workers terms.connections result }
 {
+    if !can_start(rt, rt.alloc(), workers) {
+        watch.few_workers(0, workers as u64);
+        return server_status(false);
+    }
     let Ok(opened) = Opened::new(rt.alloc(), config(workers)) else {
         return server_status(false);
     };
-    let served = serve_opened::<Brand, &A, A>(listener, workers, connections, rt, rt, opened);
+    let served = serve_opened::<Brand, &A, A, V>(listener, workers, terms, watch, rt, rt, opened);
     server_status(served)
 }
 
@@ -54,17 +59,19 @@ fn serve_opened<
     J: Opening + Send + Sync,
     R: Wait + Drop + Send,
     A: AllocGlobal + Threads + Wait + Clock + Sync,
+    V: Watch + Sync,
 >(
     listener: &TcpListener,
     workers: u16,
-    connections: u32,
+    terms: Terms,
+    watch: &V,
     rt: &A,
     writer_rt: R,
     opened: Opened,
 ) -> bool
     requires named { IsNamed J.book J.base J.table J.capacity J.sessions J.config opened }
     requires config { opened.config ≡ program_config workers }
-    ensures { IsTrue result → ServesSessions J.base (program_config workers) server_turns connections }
+    ensures { IsTrue result → ServesSessions J.base (program_config workers) server_turns terms.connections }
 {
     let Ok((master, mut sessions)) = open::<R, J, NoGate>(writer_rt, opened, NoGate) else {
         return false;
@@ -72,7 +79,14 @@ fn serve_opened<
     let Ok(setting) = Setting::new(rt.alloc(), rt, TURNS) else {
         return false;
     };
-    listen(rt, listener, sessions.as_mut_slice(), connections, &setting);
+    listen(
+        rt,
+        listener,
+        sessions.as_mut_slice(),
+        terms,
+        &setting,
+        watch,
+    );
     let _closed = master.close(sessions, rt);
     true
 }

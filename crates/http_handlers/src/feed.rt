@@ -22,7 +22,7 @@ use crate::waiting::wait_for_changes;
 use http_request::{Asked, ChangesAsked, Feed, Since};
 use http_response::{feed_head, feed_last};
 use std::alloc::{AllocError, Global};
-use streams::{Failed, Sink, write_all};
+use streams::{Failed, Sink, write_next};
 
 /// The most rows that are written at once.
 const PIECE: u64 = 100;
@@ -71,7 +71,7 @@ fn follow_seen<X, S: Calls<X>, W: Sink>(
     let since = since_seen(session, changes.since);
     let start = Progress::new(since, changes);
     let head = feed_head(session.place());
-    let Ok(()) = write_all(writer, head.as_bytes()) else {
+    let Ok(()) = write_next(writer, head.as_bytes()) else {
         return Err(Failed);
     };
     go_on(session, setting, start, writer)
@@ -150,7 +150,7 @@ fn give<S: Viewer, W: Sink>(
     let Ok(text) = next_lines(session, alloc, progress) else {
         return Ok(None);
     };
-    let Ok(()) = write_all(writer, text.as_bytes()) else {
+    let Ok(()) = write_next(writer, text.as_bytes()) else {
         return Err(Failed);
     };
     Ok(Some(progress.follower.pending(session.version())))
@@ -183,7 +183,7 @@ fn finish<W: Sink>(writer: &mut W, progress: &Progress, pending: u64) -> Result<
         (W.failed_writes writer.new) result }
 {
     let line = feed_last(progress.follower.cursor(), pending);
-    let Ok(()) = write_all(writer, line.as_bytes()) else {
+    let Ok(()) = write_next(writer, line.as_bytes()) else {
         return Err(Failed);
     };
     Ok(true)

@@ -5,11 +5,13 @@
 //! which accept connections and serve them.
 #![tactic(auto)]
 
+mod buffers;
 mod calls;
 mod connection;
 mod failing;
 mod feed;
 mod listening;
+mod muster;
 mod progress;
 mod reading;
 mod response;
@@ -17,9 +19,13 @@ mod session;
 mod setting;
 mod turn;
 mod waiting;
+mod watch;
 mod writing;
 
 pub use calls::{CallFault, Calls, Viewer};
 pub use connection::serve;
-pub use listening::listen;
+pub use listening::{Terms, listen};
+pub use muster::can_start;
 pub use setting::Setting;
+pub use sockets::Pace;
+pub use watch::Watch;

@@ -63,6 +63,7 @@ pub(crate) fn send<W: Sink>(writer: &mut W, sent: &Sent) -> Result<bool, Failed>
     ensures failures { CountsFailure (W.failed_writes writer.old)
         (W.failed_writes writer.new) result }
 {
+    writer.begins();
     let (head, body) = sent.response.parts();
     write_response(writer, head, body, sent.closes)
 }

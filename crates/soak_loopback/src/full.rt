@@ -2,6 +2,7 @@
 
 use crate::client::Client;
 use crate::ends::{Clients, Ends};
+use crate::terms::{Unheard, terms};
 use http_front::{Calls, Setting, listen};
 use std::alloc::Global;
 use std::sync::Wait;
@@ -23,7 +24,7 @@ pub(crate) fn serve_full<R: AllocGlobal + Threads + Wait + Clock + Sync, S: Call
     let (told, ()) = thread::join(
         rt,
         move || write_twice(rt.alloc(), clients),
-        || listen(rt, &listener, sessions, 1, &setting),
+        || listen(rt, &listener, sessions, terms(), &setting, &Unheard),
     );
     told
 }

@@ -3,6 +3,7 @@
 use crate::client::Client;
 use crate::ends::{Clients, Ends};
 use crate::marks::Marks;
+use crate::terms::{Unheard, terms};
 use http_front::{Calls, Setting, listen};
 use std::alloc::Global;
 use std::sync::Wait;
@@ -25,7 +26,7 @@ pub(crate) fn serve_held<R: AllocGlobal + Threads + Wait + Clock + Sync, S: Call
     let (told, ()) = thread::join(
         rt,
         move || read_beside_write(rt, rt.alloc(), marks, clients),
-        || listen(rt, &listener, sessions, 1, &setting),
+        || listen(rt, &listener, sessions, terms(), &setting, &Unheard),
     );
     told
 }

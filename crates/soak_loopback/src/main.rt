@@ -20,6 +20,7 @@ mod marks;
 mod replication;
 mod served;
 mod shown;
+mod terms;
 mod write;
 
 use crate::ends::Ends;

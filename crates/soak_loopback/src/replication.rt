@@ -3,6 +3,7 @@
 use crate::client::Client;
 use crate::ended::with_status;
 use crate::ends::{Clients, Ends};
+use crate::terms::{Unheard, terms};
 use document_id::DocId;
 use http_front::run_server;
 use replicator::{MAX_BATCH, Progress, Worker};
@@ -37,7 +38,7 @@ pub(crate) fn told<R: AllocGlobal + Threads + Wait + Clock + Sync>(
     let (told, status) = thread::join(
         rt,
         move || serve_target(rt, clients, target),
-        || run_server(&listener, 2, 1, rt),
+        || run_server(&listener, 2, terms(), &Unheard, rt),
     );
     with_status(told, status)
 }
@@ -51,7 +52,7 @@ fn serve_target<R: AllocGlobal + Threads + Wait + Clock + Sync>(
     let (told, status) = thread::join(
         rt,
         move || replicate(rt.alloc(), source, clients),
-        || run_server(&listener, 2, 1, rt),
+        || run_server(&listener, 2, terms(), &Unheard, rt),
     );
     with_status(told, status)
 }

@@ -32,5 +32,5 @@ returns-clause-goes_on g c =
     let goes = c.go_on.ensures.goes_on in (
       goes.0,
       subst (λ (s : Progress). GoesOn g.S.Viewer.goes g.S.Viewer.known c.args.setting.now c.args.session.now c.go_on.new.session s (is_ok c.go_on.result) goes.0) start_is goes.1,
-      writes-later _ _ _ _ (feed_head_text (length k.seen)) goes.0 (subst (λ (t : List ℕ). Appends (g.W.Sink.taken c.args.writer.now) (g.W.Sink.taken c.write_all.new.writer) t) head c.in-Ok.ensures.written.0) goes.2,
+      writes-later _ _ _ _ (feed_head_text (length k.seen)) goes.0 (subst (λ (t : List ℕ). Appends (g.W.Sink.taken c.args.writer.now) (g.W.Sink.taken c.write_next.new.writer) t) head c.in-Ok.ensures.written.0) goes.2,
     )

@@ -1,0 +1,25 @@
+//! How these databases are served.
+
+use http_front::{Pace, Terms, Watch};
+use std::time::Duration;
+
+/// How many seconds a client is waited for.
+const SECONDS: u64 = 300;
+
+/// Each worker serves one connection, and waits long for its client.
+pub(crate) fn terms() -> Terms {
+    Terms {
+        connections: 1,
+        pace: Pace {
+            idle: Duration::from_secs(SECONDS),
+            patience: Duration::from_secs(SECONDS),
+        },
+    }
+}
+
+/// Nobody hears what a server says.
+pub(crate) struct Unheard;
+
+impl Watch for Unheard {
+    fn few_workers(&self, _serving: u64, _asked: u64) {}
+}

@@ -1,0 +1,358 @@
+"""Has clients hold the workers of `couchd serve` in each way they can, and looks how long others wait for one.
+
+    python3 tests/test_holding.py [--workers N] [--idle SECONDS] [--patience SECONDS] [COUCHD]
+
+As many clients as there are workers say nothing, send a byte at a time, or never read; one more client is served as soon as their
+time is over. Others are refused and go on sending, or end by `Connection: close` and stay. Clients that keep their
+connections, more than there are workers, are served in turn. Long polls and feeds go on while nothing comes, and so does a client
+whose pauses are short. A server that gets fewer threads than it wants says how many workers serve.
+The short form has 4 workers; the times of the program and as many workers as it may have are given so: --workers 64 --idle 15 --patience 60.
+"""
+import contextlib
+import os
+import re
+import socket
+import subprocess
+import sys
+import threading
+import time
+
+from lib.checks import Checks
+from lib.programs import SECONDS, arguments
+from lib.server import Connection, Server
+
+SLACK = 1.5  # seconds that a machine with other work may add
+DRAIN_SECONDS = 2  # for which the program reads what comes after a refusal
+DRAIN_BYTES = 8 * 1_048_576  # of which it reads so many at most
+LARGE = 1_000_000  # bytes of a document whose answers fill the buffers of a socket
+
+CHECKS = Checks()
+check = CHECKS.check
+
+
+class Times:
+    """The times that a server was given, and the number of its workers."""
+
+    def __init__(self, given):
+        self.program, self.workers, self.idle, self.patience = given.couchd, given.workers, given.idle, given.patience
+
+    def server(self, workers=None):
+        words = ["--workers", str(workers or self.workers), "--idle", str(self.idle), "--patience", str(self.patience)]
+        return Server(self.program, *words)
+
+
+def plain(port, data=b"", buffer=None):
+    """A socket that has sent this."""
+    connected = socket.socket()
+    if buffer is not None:
+        connected.setsockopt(socket.SOL_SOCKET, socket.SO_RCVBUF, buffer)
+    connected.settimeout(SECONDS * 2)
+    connected.connect(("127.0.0.1", port))
+    connected.sendall(data)
+    return connected
+
+
+def end_of(connected):
+    """What a socket still gives, and whether it was reset after that."""
+    data = b""
+    try:
+        while piece := connected.recv(65536):
+            data += piece
+    except ConnectionError:
+        pass
+    return data
+
+
+def wait_of_another(port):
+    """How many seconds one more client waits for its answer."""
+    start = time.monotonic()
+    another = Connection(port)
+    status, _ = another.ask("GET", "/db/_all_docs")
+    check(status == 200, "%d for one more client", status)
+    another.close()
+    return time.monotonic() - start
+
+
+def waits(what, port, least, most):
+    """One more client waits at least and at most so many seconds beside clients that hold the workers."""
+    took = wait_of_another(port)
+    check(least <= took <= most + SLACK, "beside %s one more client waited %.2f s, and not %s to %s", what, took, least, most)
+
+
+def drip(connected, data, pause):
+    """Sends a byte after another, until the other end has closed."""
+    with contextlib.suppress(OSError):
+        for byte in data:
+            connected.sendall(bytes([byte]))
+            time.sleep(pause)
+
+
+# ---- what holds workers
+
+
+def say_nothing(times):
+    with times.server() as server:
+        held = [plain(server.port) for _ in range(times.workers)]
+        time.sleep(0.1)
+        waits("clients that say nothing", server.port, times.idle * 0.5, times.idle)
+        for one in held:
+            check(end_of(one) == b"", "a client that said nothing got an answer")
+
+
+def send_slowly(times, what, beginning):
+    """Clients that send a byte at a time behind this beginning, which is no whole request."""
+    with times.server() as server:
+        held = [plain(server.port, beginning) for _ in range(times.workers)]
+        pause = times.patience / 20
+        for one in held:
+            threading.Thread(target=drip, args=(one, b"x" * 1000, pause), daemon=True).start()
+        time.sleep(0.1)
+        waits("clients that send %s slowly" % what, server.port, times.patience * 0.5, times.patience)
+        for one in held:
+            check(end_of(one) == b"", "a client that sent %s slowly got an answer", what)
+
+
+def never_read(times, pause=None):
+    """Clients that ask for more than the buffers of a socket hold, and read nothing, or a little at a time."""
+    with times.server() as server:
+        writer = Connection(server.port)
+        check(writer.ask("PUT", "/db/large", {"text": "x" * LARGE})[0] == 201, "a large document is not taken")
+        writer.close()
+        wanted = b"GET /db/large HTTP/1.1\r\nHost: db\r\n\r\n" * 40
+        held = [plain(server.port, wanted, 4096) for _ in range(times.workers)]
+        if pause is not None:
+            for one in held:
+                threading.Thread(target=read_slowly, args=(one, pause), daemon=True).start()
+        time.sleep(0.1)
+        what = "clients that never read" if pause is None else "clients that read slowly"
+        waits(what, server.port, times.patience * 0.5, times.patience)
+        for one in held:
+            one.close()
+
+
+def read_slowly(connected, pause):
+    with contextlib.suppress(OSError):
+        while connected.recv(16):
+            time.sleep(pause)
+
+
+# ---- after the last response
+
+
+def refused_but_sending(times):
+    """Clients that are refused, and send a byte at a time: they hold a worker for two seconds in all."""
+    with times.server(1) as server:
+        one = plain(server.port, b"GET / HTTP/1.1\r\nno header\r\n\r\n")
+        threading.Thread(target=drip, args=(one, b"x" * 1000, 0.1), daemon=True).start()
+        time.sleep(0.1)
+        waits("a client that is refused and goes on sending", server.port, 0.5, DRAIN_SECONDS)
+        check(end_of(one).startswith(b"HTTP/1.1 400 "), "the refusal was lost")
+
+
+def refused_but_flooding(times):
+    """A client that is refused and sends as fast as it can: so many bytes are read, and no more."""
+    with times.server(1) as server:
+        one = plain(server.port, b"GET / HTTP/1.1\r\nno header\r\n\r\n")
+        start, sent = time.monotonic(), 0
+        with contextlib.suppress(OSError):
+            while sent < 16 * DRAIN_BYTES:
+                sent += one.send(b"x" * 65536)
+        took = time.monotonic() - start
+        check(sent >= DRAIN_BYTES // 2, "only %d bytes were read after a refusal", sent)
+        check(sent < 4 * DRAIN_BYTES, "%d bytes were read after a refusal", sent)
+        check(took < DRAIN_SECONDS + SLACK, "a client that was refused sent for %.1f s", took)
+
+
+def closing_and_staying(times):
+    """Clients that ask for an end, and keep their sockets open: they cost nobody any time."""
+    wanted = b"GET / HTTP/1.1\r\nHost: db\r\nConnection: close\r\n\r\n"
+    with times.server(1) as server:
+        start = time.monotonic()
+        held = [plain(server.port, wanted) for _ in range(30)]
+        for one in held:
+            check(end_of(one).startswith(b"HTTP/1.1 200 "), "no answer before an end")
+        took = time.monotonic() - start
+        check(took < SLACK, "30 clients that ask for an end took %.2f s", took)
+
+
+def closing_and_sending(times):
+    """A client that asks for an end and has sent more by then still reads its answer."""
+    with times.server(1) as server:
+        one = plain(server.port, b"GET / HTTP/1.1\r\nHost: db\r\nConnection: close\r\n\r\n" + b"x" * 200_000)
+        check(end_of(one).startswith(b"HTTP/1.1 200 "), "the answer before an end was lost")
+
+
+# ---- what is served all the same
+
+
+def pool(times):
+    """Clients that keep their connections, three for each worker, and pause for longer than they may be idle."""
+    count, rounds = 3 * times.workers, 2
+    longest = []
+
+    def client():
+        worst = 0
+        for _ in range(rounds):
+            start = time.monotonic()
+            one = Connection(server.port)
+            check(one.ask("GET", "/db/_all_docs")[0] == 200, "no answer to a client of a pool")
+            worst = max(worst, time.monotonic() - start)
+            check(end_of(one.socket) == b"", "an answer that was not asked for")  # it pauses until it is closed
+            one.close()
+        longest.append(worst)
+
+    with times.server() as server:
+        clients = [threading.Thread(target=client) for _ in range(count)]
+        for one in clients:
+            one.start()
+        for one in clients:
+            one.join()
+    check(len(longest) == count, "%d of %d clients of a pool were served", len(longest), count)
+    most = 3 * times.idle + SLACK
+    check(max(longest, default=0) <= most, "a client of a pool waited %.1f s, and not %.1f at most", max(longest, default=0), most)
+
+
+def short_pauses(times):
+    """A client that pauses for less than it may be idle keeps its connection for longer than patience lasts."""
+    with times.server(1) as server:
+        one = Connection(server.port)
+        end = time.monotonic() + times.patience + times.idle
+        while time.monotonic() < end:
+            check(one.ask("GET", "/db/_all_docs")[0] == 200, "a client that pauses was given up")
+            time.sleep(times.idle / 2)
+        one.close()
+
+
+def part_of_the_next(times):
+    """A request of which a part came with the one before has begun, so it is waited for as long as patience lasts."""
+    first, second = b"GET / HTTP/1.1\r\nHost: db\r\n\r\n", b"GET /db/_all_docs HTTP/1.1\r\nHost: db\r\n\r\n"
+    with times.server(1) as server:
+        one = plain(server.port, first + second[:10])
+        time.sleep((times.idle + times.patience) / 2)
+        one.sendall(second[10:])
+        one.shutdown(socket.SHUT_WR)
+        data = end_of(one)
+        check(data.count(b"HTTP/1.1 200 ") == 2, "a request that was begun with another one got no answer: %r", data)
+
+
+def wait_for_changes(times):
+    """A long poll and a feed last while nothing comes, for longer than a connection may be idle and patience lasts."""
+    with times.server(3) as server:
+        poll, feed, writer = (Connection(server.port) for _ in range(3))
+        poll.send("GET", "/db/_changes?feed=longpoll")
+        feed.send("GET", "/db/_changes?feed=continuous")
+        check(feed.head()[0] == 200, "no feed")
+        end = time.monotonic() + times.patience + times.idle
+        while time.monotonic() < end:
+            writer.ask("GET", "/db/_all_docs")
+            time.sleep(times.idle / 2)
+        check(writer.ask("PUT", "/db/a", {})[0] == 201, "no write beside followers")
+        status, value = poll.answer()
+        check(status == 200 and [row["id"] for row in value["results"]] == ["a"], "a long poll got %r", value)
+        while b"\n" not in feed.rest:
+            if not feed.more():
+                break
+        check(b'"id":"a"' in feed.rest, "a feed got %r", feed.rest)
+        for one in (poll, feed, writer):
+            one.close()
+
+
+# ---- fewer workers than were asked for
+
+
+def limited(program, workers, kilobytes):
+    """A server with so much room for addresses, and where its standard error goes."""
+    words = ["bash", "-c", 'ulimit -v "$1"; shift; exec "$@"', "bash", str(kilobytes), program]
+    words += ["serve", "--port", "0", "--workers", str(workers)]
+    return subprocess.Popen(words, stdin=subprocess.DEVNULL, stdout=subprocess.PIPE, stderr=subprocess.PIPE)
+
+
+def line_of(process, seconds):
+    """The first line of a program's standard error, or none in so many seconds."""
+    os.set_blocking(process.stderr.fileno(), False)
+    data, end = b"", time.monotonic() + seconds
+    while b"\n" not in data and time.monotonic() < end:
+        piece = process.stderr.read()
+        if piece == b"":
+            break
+        data += piece or b""
+        time.sleep(0.02)
+    return data.decode()
+
+
+FEW = re.compile(r"couchd: (\d+) of 4 workers serve: threads or memory are refused\n")
+
+
+def fewer_workers(times):
+    """With less and less room for addresses fewer of 4 workers serve, which is said, and at last none."""
+    counts, ends = set(), 0
+    for kilobytes in range(40_000, 8_000, -1_000):
+        process = limited(times.program, 4, kilobytes)
+        said = FEW.fullmatch(line_of(process, 3))
+        if said is None:
+            process.kill()
+            process.wait()
+            continue
+        serving = int(said.group(1))
+        if serving == 0:
+            check(process.wait(SECONDS) == 1, "status %s where no worker can be had", process.returncode)
+            ends += 1
+            break
+        threads = len(os.listdir("/proc/%d/task" % process.pid))
+        check(threads == serving, "%d threads where %d of 4 workers are said to serve", threads, serving)
+        counts.add(serving)
+        process.kill()
+        process.wait()
+    check(counts != set(), "fewer workers than were asked for are never said")
+    check(ends == 1, "a server with too little room for a second thread goes on")
+
+
+def all_workers(times):
+    """A server that gets all its workers says nothing."""
+    process = limited(times.program, 4, 4_000_000)
+    check(line_of(process, 2) == "", "a server that gets all its workers says something")
+    process.kill()
+    process.wait()
+
+
+def whole(times, step, *more):
+    """Runs a step, of which an exception is a failure."""
+    try:
+        step(times, *more)
+    except (OSError, ValueError, subprocess.SubprocessError) as fault:
+        check(False, "%s ended with %r", step.__name__, fault)
+
+
+def main():
+    reader = arguments(__doc__, "couchd")
+    reader.add_argument("--workers", type=int, default=4)
+    reader.add_argument("--idle", type=int, default=1)
+    reader.add_argument("--patience", type=int, default=2)
+    times = Times(reader.parse_args())
+    steps = [
+        (say_nothing,),
+        (send_slowly, "a head", b"GET /"),
+        (send_slowly, "a body", b"PUT /db/a HTTP/1.1\r\nHost: db\r\nContent-Length: 5000\r\n\r\n"),
+        (never_read,),
+        (never_read, 0.05),
+        (refused_but_sending,),
+        (refused_but_flooding,),
+        (closing_and_staying,),
+        (closing_and_sending,),
+        (pool,),
+        (short_pauses,),
+        (part_of_the_next,),
+        (wait_for_changes,),
+        (fewer_workers,),
+        (all_workers,),
+    ]
+    running = [threading.Thread(target=whole, args=(times, *step)) for step in steps]
+    for one in running:
+        one.start()
+    for one in running:
+        one.join()
+    return CHECKS.report()
+
+
+if __name__ == "__main__":
+    sys.exit(main())
