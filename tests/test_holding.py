@@ -21,7 +21,7 @@ from lib.checks import Checks
 from lib.programs import SECONDS, arguments
 from lib.server import Connection, Server
 
-SLACK = 1.5  # seconds that a machine with other work may add
+SLACK = 2.5  # seconds that a machine with other work may add
 DRAIN_SECONDS = 2  # for which the program reads what comes after a refusal
 DRAIN_BYTES = 8 * 1_048_576  # of which it reads so many at most
 LARGE = 1_000_000  # bytes of a document whose answers fill the buffers of a socket
@@ -53,7 +53,7 @@ def plain(port, data=b"", buffer=None):
 
 
 def end_of(connected):
-    """What a socket still gives, and whether it was reset after that."""
+    """What a socket still gives until it ends or is reset."""
     data = b""
     try:
         while piece := connected.recv(65536):
@@ -280,15 +280,29 @@ def line_of(process, seconds):
     return data.decode()
 
 
+def served_at_once(process, most):
+    """How many clients that keep their connections are answered, of so many."""
+    port = int(process.stdout.readline().rsplit(b":", 1)[1])
+    held = [plain(port, b"GET / HTTP/1.1\r\nHost: db\r\n\r\n") for _ in range(most)]
+    time.sleep(1)
+    answered = 0
+    for one in held:
+        one.setblocking(False)
+        with contextlib.suppress(OSError):
+            answered += one.recv(4096).startswith(b"HTTP/1.1 ")
+        one.close()
+    return answered
+
+
 FEW = re.compile(r"couchd: (\d+) of 4 workers serve: threads or memory are refused\n")
 
 
 def fewer_workers(times):
     """With less and less room for addresses fewer of 4 workers serve, which is said, and at last none."""
     counts, ends = set(), 0
-    for kilobytes in range(40_000, 8_000, -1_000):
-        process = limited(times.program, 4, kilobytes)
-        said = FEW.fullmatch(line_of(process, 3))
+    for megabytes in (32, 28, 24, 20, *range(18, 5, -1)):
+        process = limited(times.program, 4, megabytes * 1000)
+        said = FEW.fullmatch(line_of(process, 2.5))
         if said is None:
             process.kill()
             process.wait()
@@ -298,8 +312,8 @@ def fewer_workers(times):
             check(process.wait(SECONDS) == 1, "status %s where no worker can be had", process.returncode)
             ends += 1
             break
-        threads = len(os.listdir("/proc/%d/task" % process.pid))
-        check(threads == serving, "%d threads where %d of 4 workers are said to serve", threads, serving)
+        at_once = served_at_once(process, 4)
+        check(at_once == serving, "%d clients are served at once where %d of 4 workers are said to serve", at_once, serving)
         counts.add(serving)
         process.kill()
         process.wait()
