@@ -46,7 +46,7 @@ def plain(port, data=b"", buffer=None):
     connected = socket.socket()
     if buffer is not None:
         connected.setsockopt(socket.SOL_SOCKET, socket.SO_RCVBUF, buffer)
-    connected.settimeout(SECONDS * 2)
+    connected.settimeout(SECONDS * 3)
     connected.connect(("127.0.0.1", port))
     connected.sendall(data)
     return connected
@@ -67,6 +67,7 @@ def wait_of_another(port):
     """How many seconds one more client waits for its answer."""
     start = time.monotonic()
     another = Connection(port)
+    another.socket.settimeout(SECONDS * 3)
     status, _ = another.ask("GET", "/db/_all_docs")
     check(status == 200, "%d for one more client", status)
     another.close()
