@@ -224,14 +224,14 @@ def outcomes(couchd, replay):
     for given, text in REFUSED_BY_REPLAY:
         yield "replay %s" % given, run(replay, given), (UNREADABLE_OF_REPLAY, b"", text)
     with open(os.devnull, "rb") as nothing:
-        for program, word, full, empty in [
+        for program, word, asked, unasked in [
             (couchd, "once", (SERVED, WELCOME, ""), (SERVED, b"", "")),
             (couchd, "dump", (SERVED, DUMP, ""), (SERVED, DUMP, "")),
             (replay, "check", (NO_DUMP, b"unreadable line 1\n", ""), (NO_DUMP, b"unreadable line 1\n", "")),
             (replay, "base", (NO_DUMP, b"unreadable line 1\n", ""), (NO_DUMP, b"unreadable line 1\n", "")),
         ]:
-            yield word, run(program, [word]), full
-            yield "no input of " + word, run(program, [word], nothing), empty
+            yield word, run(program, [word]), asked
+            yield "no input of " + word, run(program, [word], nothing), unasked
     for program, given in [(couchd, ["once"]), (couchd, ["dump"]), (couchd, ["serve", "--port", "0"]), (replay, ["check"]), (replay, ["base"])]:
         wanted = (FAILED, None, os.path.basename(program) + ": standard output can't be written\n")
         for how, out in (("has no room", full), ("is closed", closed)):
