@@ -23,6 +23,7 @@ from reference import once
 from reference.history import dump_of
 
 SERVED, FAILED = 0, 1
+UNWRITTEN = b"couchd: standard output can't be written\n"
 
 PUT = request("PUT", "/db/a", "{}")
 INPUTS = [PUT, PUT + PUT, PUT + request("GET", "/db/a")]
@@ -56,15 +57,15 @@ def reads_that_fail(program):
 
 
 def run_with_room(program, data, room):
-    """The status and the output, of which so many bytes can be written."""
+    """The status, the output, of which so many bytes can be written, and the standard error."""
     with tempfile.TemporaryFile() as output:
         # a write past the limit is a failure, since Python ignores the signal, and so does the program
         ran = subprocess.run(
-            [program, "once"], input=data, stdout=output, timeout=SECONDS, restore_signals=False,
+            [program, "once"], input=data, stdout=output, stderr=subprocess.PIPE, timeout=SECONDS, restore_signals=False,
             preexec_fn=lambda: resource.setrlimit(resource.RLIMIT_FSIZE, (room, room)),
         )
         output.seek(0)
-        return ran.returncode, output.read()
+        return ran.returncode, output.read(), ran.stderr
 
 
 def writes_that_fail(program):
@@ -72,8 +73,8 @@ def writes_that_fail(program):
         wanted = once.run(data)[0]
         for room in range(len(wanted) + 1):
             found = run_with_room(program, data, room)
-            status = SERVED if room == len(wanted) else FAILED
-            CHECKS.check(found == (status, wanted[:room]), "%r, of whose output %d bytes can be written: %r", data, room, found)
+            status, said = (SERVED, b"") if room == len(wanted) else (FAILED, UNWRITTEN)
+            CHECKS.check(found == (status, wanted[:room], said), "%r, of whose output %d bytes can be written: %r", data, room, found)
 
 
 def written_pieces(command, data, env):
