@@ -156,8 +156,8 @@ def rows(many):
     deep = "edit of each leaf of {} branches of {:,} revisions, at the limit, for each".format(BRANCHES, DEEP)
     yield deep, branches.grown(), [[branches.edits()] for _ in range(PIECES)], 201, BRANCHES, 1e6
     last = [request("PUT", "/db/_revs_limit", 1)]
-    yield "PUT of a limit of 1, after that many conflicts of another document", [conflicts("narrow", many)], [last], 200, 1, 1e6
-    yield "bulk of an edit of each of {:,} conflicts, at a limit of 1, milliseconds".format(many), [], [[edited_conflicts("narrow", many)]], 201, 1, 1e3
+    yield "PUT of a limit of 1, after that many conflicts of another document", [conflicts("n", many)], [last], 200, 1, 1e6
+    yield "bulk of an edit of each of {:,} conflicts, at a limit of 1, milliseconds".format(many), [], [[edited_conflicts("n", many)]], 201, 1, 1e3
 
 
 def main():
