@@ -1,5 +1,4 @@
-//! Jobs on their way to the updater, in a bounded queue: at most one of each session waits, and of each session
-//! as many were taken or wait as it pushed.
+//! The bounded queue of write jobs. A session has at most one job in it, and no job is lost or duplicated.
 #![tactic(auto)]
 
 mod consumer;

@@ -24,8 +24,8 @@ fn grow_heap(alloc: Global) {
     let _given_back = vec![in alloc; 0u64; WORDS];
 }
 
-/// Looks up the first documents that the command writes, so that who does the updater's work finds the way to them in
-/// a cache. A version that was seen lately leads there as the next one will.
+/// Looks up the first documents that the command writes, to warm the cache for the thread that will publish them.
+/// A version that was seen lately leads there as the next one will.
 fn read_ahead(seen: &Version, command: &Command) {
     let documents = seen.database().documents();
     match command.kind() {
