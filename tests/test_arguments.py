@@ -51,6 +51,10 @@ OPTIONS_OF_SERVE = (
     "      --connections <CONNECTIONS>  How many connections each worker serves before it ends, or 0 for no end [default: 0]\n"
     "      --idle <SECONDS>             How long a connection may send nothing of a next request [default: 15]\n"
     "      --patience <SECONDS>         How long a request may take to come, and a response to be taken [default: 60]\n"
+    "      --max-places <PLACES>        How many entries a history may have [default: 1000000]\n"
+    "      --data <DIR>                 Keeps the history in this folder, and goes on from what is there\n"
+    "      --sync <WHEN>                When the journal is synced: 'always' before a write is answered, each 'second' (so where it is left out), or 'never' by the server\n"
+    "      --keep <FILES>               How many files of the journal stay; all do where it is left out\n"
     "  -h, --help                       Print help\n"
 )
 HELP_OF_SERVE = SERVE + "\n\nUsage: couchd serve [OPTIONS]\n" + OPTIONS_OF_SERVE
@@ -68,6 +72,9 @@ HELP_OF_REPLICATE = (
 NO_SOURCE = "error: the source is no numeric address with a port\n" + USAGE
 NO_TARGET = "error: the target is no numeric address with a port\n" + USAGE
 NO_ID = "error: the id has not 1 to 512 bytes, or begins with '_'\n" + USAGE
+NO_FOLDER = "error: '--sync' and '--keep' are for a journal, and go with '--data'\n" + USAGE
+NO_SYNC = "error: the journal is synced 'always', each 'second' or 'never'\n" + USAGE
+NO_SESSION = "error: with '--data' there are at most 63 workers\n" + USAGE
 NO_LIST = "error: the list of documents has an id that is no text of 1 to 512 bytes\n" + USAGE
 
 
@@ -136,6 +143,19 @@ REFUSED = [
             (["serve", "--%s=1.5" % option], no_number("1.5", option, "SECONDS")),
         )
     ],
+    (["serve", "--max-places", "0"], out_of_range("0", "max-places", 1, 4294967295, "PLACES")),
+    (["serve", "--max-places", "4294967296"], out_of_range("4294967296", "max-places", 1, 4294967295, "PLACES")),
+    (["serve", "--data"], "error: a value is required for '--data <DIR>' but none was supplied\n" + HINT),
+    (["serve", "--sync", "always"], NO_FOLDER),
+    (["serve", "--keep", "2"], NO_FOLDER),
+    (["serve", "--keep", "2", "--sync", "never"], NO_FOLDER),
+    (["serve", "--data", "d", "--sync", "often"], NO_SYNC),
+    (["serve", "--data", "d", "--sync", "Always"], NO_SYNC),
+    (["serve", "--data", "d", "--sync", ""], NO_SYNC),
+    (["serve", "--data", "d", "--keep", "0"], out_of_range("0", "keep", 1, 4294967295, "FILES")),
+    (["serve", "--data", "d", "--keep", "4294967296"], out_of_range("4294967296", "keep", 1, 4294967295, "FILES")),
+    (["serve", "--data", "d", "--keep", "all"], no_number("all", "keep", "FILES")),
+    (["serve", "--data", "d", "--workers", "64"], NO_SESSION),
     (["serve", "--version"], unexpected("--version", USAGE_OF_SERVE)),
     (["once", "--version"], unexpected("--version", USAGE_OF_ONCE)),
     (["version"], unknown_command("version")),

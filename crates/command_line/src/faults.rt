@@ -77,6 +77,15 @@ pub(crate) const NOT_TEXT: &str = "invalid UTF-8 was detected in one or more arg
 /// What is said of a number that is out of its range. `clap` refuses each such number before.
 pub(crate) const OUT_OF_RANGE: &str = "a number is out of its range";
 
+/// What is said of an option of the journal where no folder was given.
+pub(crate) const NO_FOLDER: &str = "'--sync' and '--keep' are for a journal, and go with '--data'";
+
+/// What is said of a time of a sync that is none.
+pub(crate) const NO_SYNC: &str = "the journal is synced 'always', each 'second' or 'never'";
+
+/// What is said of more workers than sessions beside the journal's.
+pub(crate) const NO_SESSION: &str = "with '--data' there are at most 63 workers";
+
 /// What is said of a source that can't be read.
 pub(crate) const NO_SOURCE: &str = "the source is no numeric address with a port";
 

@@ -12,6 +12,7 @@ ghost use Rattle.command_line.specs.Faults.{asks_version};
 mod arguments;
 mod doc_ids;
 mod faults;
+mod journal;
 mod lines;
 mod numbers;
 pub mod replay;
@@ -23,7 +24,8 @@ mod version;
 pub use arguments::given_arguments;
 use clap::Command;
 pub use faults::ArgumentsFault;
-use faults::{GivenFault, NOT_TEXT, OUT_OF_RANGE, fault, refuse};
+use faults::{GivenFault, NOT_TEXT, fault, refuse};
+pub use journal::{JournalOptions, SyncPolicy};
 use lines::{program, with_subcommand};
 pub use replicate::Replicating;
 use replicate::{replicate, replicating_of};
@@ -116,9 +118,10 @@ pub fn read_arguments<S: AsStr>(alloc: Global, arguments: &[S]) -> Result<Run, A
     match name {
         "once" => Ok(Run::Once),
         "dump" => Ok(Run::Dump),
-        "serve" => match serving_of(options) {
-            Some(serving) => Ok(Run::Serve(serving)),
-            None => Err(refuse(alloc, couchd(alloc), OUT_OF_RANGE)),
+        "serve" => match serving_of(alloc, options) {
+            Ok(serving) => Ok(Run::Serve(serving)),
+            Err(GivenFault::Refused(reason)) => Err(refuse(alloc, couchd(alloc), reason)),
+            Err(GivenFault::Memory) => Err(ArgumentsFault::Memory),
         },
         "replicate" => match replicating_of(alloc, options) {
             Ok(replicating) => Ok(Run::Replicate(replicating)),

@@ -1,20 +1,25 @@
 //! The arguments of `couchd serve`.
-ghost use Rattle.std.specs.Prelude.{◌≡◌, false, IfOk, IfSome, IfNone, codes};
+ghost use Rattle.std.specs.Prelude.{◌≡◌, false, Err, IfOk, IfSome, IfNone, codes};
 ghost use Rattle.clap.specs.Words.{app_of, found_of, rows_of, rule_of};
 ghost use Rattle.clap.specs.declared.builder.command.Command.TheViews.{out-Command as fields_of};
 ghost use Rattle.command_line.specs.Numbers.{number_option};
-ghost use Rattle.command_line.specs.Serve.{serve, serve_with_counts, IsServingOf};
+ghost use Rattle.command_line.specs.Serve.{serve, serve_with_counts, with_bounds, HasNumbersOf, IsServingOf};
 
+use crate::faults::{GivenFault, NO_SESSION, OUT_OF_RANGE};
+use crate::journal::{JournalOptions, journal_of, with_journal};
 use crate::numbers::{number_of, number_option, with_option};
 use clap::{Arg, ArgMatches, Command};
 use std::alloc::{AllocError, Global};
 
+/// The most workers beside a session that writes the journal.
+const WORKERS_WITH_JOURNAL: u16 = 63;
+
 /// How connections are served.
-#[derive(Clone, Copy, Debug, PartialEq, Eq)]
+#[derive(Debug, Drop, PartialEq, Eq)]
 pub struct Serving {
     /// The port, or 0 for any that is free.
     pub port: u16,
-    /// How many connections are served at a time, from 1 to 64.
+    /// How many connections are served at a time, from 1 to 64, or to 63 with a journal.
     pub workers: u16,
     /// How many connections each worker serves, or 0 for no end.
     pub connections: u32,
@@ -23,6 +28,10 @@ pub struct Serving {
     /// So long a request may take to come whole, and a response to be taken, in seconds, from 1 to
     /// 86,400.
     pub patience: u32,
+    /// The most entries of a history, from 1 on.
+    pub max_places: u32,
+    /// Where the history is kept, if it is to be.
+    pub journal: Option<JournalOptions>,
 }
 
 /// The subcommand, as `clap` takes it.
@@ -30,10 +39,7 @@ pub(crate) fn serve<'a>(alloc: Global) -> Result<Command<'a>, AllocError>
     ensures app { IfOk result (λ c. app_of c ≡ serve) }
     ensures local { IfOk result (λ c. (fields_of c).has_globals ≡ false) }
 {
-    let command = with_counts(alloc)?;
-    let command = with_option(command, idle(alloc))?;
-    let command = with_option(command, patience(alloc))?;
-    Ok(command)
+    with_journal(alloc, with_bounds(alloc, with_counts(alloc)?)?)
 }
 
 /// The subcommand with its port and what is counted.
@@ -61,6 +67,18 @@ fn with_counts<'a>(alloc: Global) -> Result<Command<'a>, AllocError>
     with_option(serve, connections)
 }
 
+/// The command with the options for its times and its history.
+fn with_bounds<'a>(alloc: Global, command: Command<'a>) -> Result<Command<'a>, AllocError>
+    ensures app { IfOk result (λ c. app_of c ≡ with_bounds (app_of command.entry)) }
+    ensures local { IfOk result (λ c.
+        (fields_of c).has_globals ≡ (fields_of command.entry).has_globals) }
+{
+    let command = with_option(command, idle(alloc))?;
+    let command = with_option(command, patience(alloc))?;
+    let command = with_option(command, max_places(alloc))?;
+    Ok(command)
+}
+
 fn idle<'a>(alloc: Global) -> Arg<'a>
     ensures rule { rule_of result ≡ number_option (codes "idle") 1 86400 (codes "15") }
     ensures local { result.global ≡ false }
@@ -79,22 +97,51 @@ fn patience<'a>(alloc: Global) -> Arg<'a>
     )
 }
 
-/// What the options of the subcommand give; nothing where a number is out of its range.
-pub(crate) fn serving_of(options: &ArgMatches<'_>) -> Option<Serving>
-    ensures given { IfSome result (IsServingOf (rows_of (found_of options.now))) }
-    ensures no_number { IfNone result ((serving : Serving)
-        → IsServingOf (rows_of (found_of options.now)) serving → ⊥) }
+fn max_places<'a>(alloc: Global) -> Arg<'a>
+    ensures rule { rule_of result ≡ number_option (codes "max-places") 1 4294967295 (codes "1000000") }
+    ensures local { result.global ≡ false }
+{
+    number_option(alloc, "max-places", "PLACES", 1, 4_294_967_295, "1000000").help(
+        "How many entries a history may have",
+    )
+}
+
+/// What the options of the subcommand give.
+pub(crate) fn serving_of(alloc: Global, options: &ArgMatches<'_>) -> Result<Serving, GivenFault>
+    ensures given { IfOk result (IsServingOf (rows_of (found_of options.now))) }
+    ensures none { (reason : _) → result ≡ Err (GivenFault.Refused reason)
+        → (serving : Serving) → IsServingOf (rows_of (found_of options.now)) serving → ⊥ }
+{
+    let journal = journal_of(alloc, options)?;
+    let Some(serving) = numbers_of(options, journal) else {
+        return Err(GivenFault::Refused(OUT_OF_RANGE));
+    };
+    if serving.journal.is_some() && serving.workers > WORKERS_WITH_JOURNAL {
+        return Err(GivenFault::Refused(NO_SESSION));
+    }
+    Ok(serving)
+}
+
+/// The numbers that the options give, beside these; nothing where one is out of its range.
+fn numbers_of(options: &ArgMatches<'_>, journal: Option<JournalOptions>) -> Option<Serving>
+    ensures given { IfSome result (HasNumbersOf (rows_of (found_of options.now))) }
+    ensures journal { IfSome result (λ serving. serving.journal ≡ journal) }
+    ensures none { IfNone result ((serving : Serving)
+        → HasNumbersOf (rows_of (found_of options.now)) serving → ⊥) }
 {
     let port = number_of(options, "port", 5984, 0, 65_535)?;
     let workers = number_of(options, "workers", 4, 1, 64)?;
     let connections = number_of(options, "connections", 0, 0, 4_294_967_295)?;
     let idle = number_of(options, "idle", 15, 1, 86_400)?;
     let patience = number_of(options, "patience", 60, 1, 86_400)?;
+    let max_places = number_of(options, "max-places", 1_000_000, 1, 4_294_967_295)?;
     Some(Serving {
         port: port as u16,
         workers: workers as u16,
         connections: connections as u32,
         idle: idle as u32,
         patience: patience as u32,
+        max_places: max_places as u32,
+        journal,
     })
 }

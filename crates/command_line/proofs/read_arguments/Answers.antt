@@ -74,30 +74,31 @@ returns-in-dump-clause-faultless g c =
     let h = c.in-Ok.ensures.kinds (ap is_simple_and_free app ∙ couchd_is_simple_and_free) in
     ap (λ (a : App). fault_of a (map g.S.AsStr.text c.args.arguments.now)) (sym app) ∙ h
 
-pub returns-in-Some-clause-faultless : goal.returns-in-Some-clause-faultless
-returns-in-Some-clause-faultless g c =
+pub returns-in-Ok-serving_of-clause-faultless : goal.returns-in-Ok-serving_of-clause-faultless
+returns-in-Ok-serving_of-clause-faultless g c =
     let app = c.in_ok-couchd.ensures.app in
     let h = c.in-Ok.ensures.kinds (ap is_simple_and_free app ∙ couchd_is_simple_and_free) in
     ap (λ (a : App). fault_of a (map g.S.AsStr.text c.args.arguments.now)) (sym app) ∙ h
 
-pub returns-in-Some-clause-run : goal.returns-in-Some-clause-run
-returns-in-Some-clause-run g c =
+pub returns-in-Ok-serving_of-clause-run : goal.returns-in-Ok-serving_of-clause-run
+returns-in-Ok-serving_of-clause-run g c =
     let app = c.in_ok-couchd.ensures.app in
     let name = sym c.subcommand.ensures.name ∙ ap (option_map (λ p. p.0.now)) c.unwrap.ensures ∙ ap Some c.in-serve.is in
     let given = names _ couchd_is_simple _ _ _ app c.in-Ok.ensures.matches (codes "serve") name in
     let held = rows_held _ couchd_is_simple _ _ _ app c.in-Ok.ensures.matches (λ p. rows_of (found_of p.1.now)) c.subcommand.result c.unwrap.result c.subcommand.ensures.rows c.unwrap.ensures (codes "serve") given.0 given.1 in
-    (given.0, given.1, subst (λ (rows : List Row). IsServingOf rows c.in-Some.serving) (sym held) c.in-Some.ensures.given)
+    (given.0, given.1, subst (λ (rows : List Row). IsServingOf rows c.in-Ok-serving_of.serving) (sym held) c.in-Ok-serving_of.ensures.given)
 
-pub returns-in-serve-clause-faulty : goal.returns-in-serve-clause-faulty
-returns-in-serve-clause-faulty g c = λ none.
+pub returns-in-Err-Refused-clause-faulty : goal.returns-in-Err-Refused-clause-faulty
+returns-in-Err-Refused-clause-faulty g c = λ none.
     let app = c.in_ok-couchd.ensures.app in
     let name = sym c.subcommand.ensures.name ∙ ap (option_map (λ p. p.0.now)) c.unwrap.ensures ∙ ap Some c.in-serve.is in
     let given = names _ couchd_is_simple _ _ _ app c.in-Ok.ensures.matches (codes "serve") name in
     let held = rows_held _ couchd_is_simple _ _ _ app c.in-Ok.ensures.matches (λ p. rows_of (found_of p.1.now)) c.subcommand.result c.unwrap.result c.subcommand.ensures.rows c.unwrap.ensures (codes "serve") given.0 given.1 in
-    inr (no_run (map g.S.AsStr.text c.args.arguments.now) given.0 given.1 (subst (λ (rows : List Row). (serving : Serving) → IsServingOf rows serving → ⊥) (sym held) c.in-None.ensures.no_number))
+    let refused = c.in-Err-Refused.ensures.none _ (ap Err c.in-Err-Refused.field-0-is) in
+    inr (no_run (map g.S.AsStr.text c.args.arguments.now) given.0 given.1 (subst (λ (rows : List Row). (serving : Serving) → IsServingOf rows serving → ⊥) (sym held) refused))
 
-pub returns-in-serve-clause-version_asked : goal.returns-in-serve-clause-version_asked
-returns-in-serve-clause-version_asked g c = λ asked.
+pub returns-in-Err-Refused-clause-version_asked : goal.returns-in-Err-Refused-clause-version_asked
+returns-in-Err-Refused-clause-version_asked g c = λ asked.
     let app = c.in_ok-couchd.ensures.app in
     let none = c.in-Ok.ensures.kinds (ap is_simple_and_free app ∙ couchd_is_simple_and_free) in
     absurd (some_kind _ _ (sym asked ∙ ap (λ (a : App). fault_of a (map g.S.AsStr.text c.args.arguments.now)) (sym app) ∙ none))
@@ -116,17 +117,17 @@ returns-in-Ok-replicating_of-clause-run g c =
     let held = rows_held _ couchd_is_simple _ _ _ app c.in-Ok.ensures.matches (λ p. rows_of (found_of p.1.now)) c.subcommand.result c.unwrap.result c.subcommand.ensures.rows c.unwrap.ensures (codes "replicate") given.0 given.1 in
     (given.0, given.1, subst (λ (rows : List Row). IsReplicatingOf rows c.in-Ok-replicating_of.replicating) (sym held) c.in-Ok-replicating_of.ensures.given)
 
-pub returns-in-Err-Refused-clause-faulty : goal.returns-in-Err-Refused-clause-faulty
-returns-in-Err-Refused-clause-faulty g c = λ none.
+pub returns-in-Err-Refused-replicating_of-clause-faulty : goal.returns-in-Err-Refused-replicating_of-clause-faulty
+returns-in-Err-Refused-replicating_of-clause-faulty g c = λ none.
     let app = c.in_ok-couchd.ensures.app in
     let name = sym c.subcommand.ensures.name ∙ ap (option_map (λ p. p.0.now)) c.unwrap.ensures ∙ ap Some c.in-replicate.is in
     let given = names _ couchd_is_simple _ _ _ app c.in-Ok.ensures.matches (codes "replicate") name in
     let held = rows_held _ couchd_is_simple _ _ _ app c.in-Ok.ensures.matches (λ p. rows_of (found_of p.1.now)) c.subcommand.result c.unwrap.result c.subcommand.ensures.rows c.unwrap.ensures (codes "replicate") given.0 given.1 in
-    let refused = c.in-Err-Refused.ensures.none _ (ap Err c.in-Err-Refused.field-0-is) in
+    let refused = c.in-Err-Refused-replicating_of.ensures.none _ (ap Err c.in-Err-Refused-replicating_of.field-0-is) in
     inr (no_replication (map g.S.AsStr.text c.args.arguments.now) given.0 given.1 (subst (λ (rows : List Row). (replicating : Replicating) → IsReplicatingOf rows replicating → ⊥) (sym held) refused))
 
-pub returns-in-Err-Refused-clause-version_asked : goal.returns-in-Err-Refused-clause-version_asked
-returns-in-Err-Refused-clause-version_asked g c = λ asked.
+pub returns-in-Err-Refused-replicating_of-clause-version_asked : goal.returns-in-Err-Refused-replicating_of-clause-version_asked
+returns-in-Err-Refused-replicating_of-clause-version_asked g c = λ asked.
     let app = c.in_ok-couchd.ensures.app in
     let none = c.in-Ok.ensures.kinds (ap is_simple_and_free app ∙ couchd_is_simple_and_free) in
     absurd (some_kind _ _ (sym asked ∙ ap (λ (a : App). fault_of a (map g.S.AsStr.text c.args.arguments.now)) (sym app) ∙ none))
