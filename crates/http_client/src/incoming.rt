@@ -10,7 +10,7 @@ use crate::front::{Front, ResponseSpans, read_front};
 use http_framing::HEAD_LIMIT;
 use std::alloc::{AllocError, Global};
 use std::marker::Model;
-use streams::{Failed, Source};
+use streams::{Source, read_behind};
 use thiserror::Error;
 
 /// Why no response was read.
@@ -152,28 +152,4 @@ fn make_room(bytes: &mut Vec<u8>, end: usize) -> Result<(), AllocError>
         return Err(AllocError);
     };
     bytes.resize(larger.max(HEAD_LIMIT), 0)
-}
-
-/// Reads once, at most so many bytes into those from `end` on.
-fn read_behind<R: Source>(
-    reader: &mut R,
-    bytes: &mut Vec<u8>,
-    end: usize,
-    most: usize,
-) -> Result<usize, Failed>
-    requires room { end < length bytes.old.items }
-    requires some { 0 < most }
-    ensures front { take end bytes.new.items ≡ take end bytes.old.items }
-    ensures len { length bytes.new.items ≡ length bytes.old.items }
-    ensures within { IfOk result (λ n. end + n ≤ length bytes.new.items) }
-    ensures piece { IfOk result (λ n.
-        Consumes (R.left reader.old) (R.left reader.new) (take n (drop end bytes.new.items))) }
-    ensures end { result ≡ Ok 0 → IsAtEnd (R.left reader.new) }
-    ensures budget { IfOk result (λ n. R.budget reader.new + n ≤ R.budget reader.old) }
-    ensures err { OnErr result (Keeps (R.left reader.old) (R.left reader.new)) }
-    ensures failures { CountsFailure (R.failed_reads reader.old)
-        (R.failed_reads reader.new) result }
-{
-    let top = bytes.len().min(end.saturating_add(most));
-    reader.read(&mut bytes[end..top])
 }

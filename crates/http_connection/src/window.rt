@@ -9,7 +9,7 @@ ghost use Rattle.http_connection.specs.Kept.{Kept};
 use http_framing::REQUEST_LIMIT;
 use std::alloc::{AllocError, Global};
 use std::marker::Model;
-use streams::{Failed, Source};
+use streams::{Failed, Source, read_behind};
 
 /// A buffer of which the bytes `start..end` are kept, with room for the largest request.
 ///
@@ -141,25 +141,8 @@ impl Window {
         ensures failures { CountsFailure (R.failed_reads reader.old)
             (R.failed_reads reader.new) result }
     {
-        let n = read_behind(reader, &mut self.bytes, self.end)?;
+        let n = read_behind(reader, &mut self.bytes, self.end, REQUEST_LIMIT)?;
         self.end += n;
         Ok(n)
     }
-}
-
-/// Reads once, into the bytes from `end` on.
-fn read_behind<R: Source>(reader: &mut R, bytes: &mut Vec<u8>, end: usize) -> Result<usize, Failed>
-    requires { end < length bytes.old.items }
-    ensures front { take end bytes.new.items ≡ take end bytes.old.items }
-    ensures len { length bytes.new.items ≡ length bytes.old.items }
-    ensures within { IfOk result (λ n. end + n ≤ length bytes.new.items) }
-    ensures piece { IfOk result (λ n.
-        Consumes (R.left reader.old) (R.left reader.new) (take n (drop end bytes.new.items))) }
-    ensures end { result ≡ Ok 0 → IsAtEnd (R.left reader.new) }
-    ensures budget { IfOk result (λ n. R.budget reader.new + n ≤ R.budget reader.old) }
-    ensures err { OnErr result (Keeps (R.left reader.old) (R.left reader.new)) }
-    ensures failures { CountsFailure (R.failed_reads reader.old)
-        (R.failed_reads reader.new) result }
-{
-    reader.read(&mut bytes[end..])
 }

@@ -6,13 +6,13 @@
 
 mod counted;
 mod ends;
+mod reads;
 pub mod scripted;
-mod sockets;
 mod traits;
 mod writes;
 
 pub use counted::{Stream, read_uninterrupted, write_uninterrupted};
 pub use ends::end_with;
-pub use sockets::set_up;
+pub use reads::read_behind;
 pub use traits::{Failed, Sink, Source};
 pub use writes::{write_all, write_both, write_next};
