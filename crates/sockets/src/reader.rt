@@ -1,13 +1,12 @@
 //! The end of a socket that is read.
-ghost use Rattle.std.specs.Prelude.{◌≡◌, ◌-◌, ◌<◌, ◌^◌, None};
-ghost use Rattle.streams.specs.Counts.{CountRose};
+ghost use Rattle.std.specs.Prelude.{◌≡◌, ◌-◌, ◌^◌, None};
 
 use crate::deadlines::{after, is_late, left_until};
 use crate::pace::Pace;
 use crate::timed::Timed;
 use std::io::{Read, Result as IoResult};
 use std::time::{Clock, Duration, Instant};
-use streams::{Failed, Source, read_uninterrupted};
+use streams::{Failed, Source, Stream};
 
 /// What is read next.
 #[derive(Clone, Copy, Debug, PartialEq, Eq)]
@@ -82,10 +81,7 @@ impl<'c, T: Read + Timed, C: Clock> Read for Waiting<'c, T, C> {
 /// from then on.
 #[derive(Drop)]
 pub struct TimedReader<'c, T, C> {
-    waiting: Waiting<'c, T, C>,
-    failures: u64,
-    budget: u64,
-    ghost countable: { budget < 2 ^ 64 },
+    waiting: Stream<Waiting<'c, T, C>>,
 }
 
 impl<'c, T, C> TimedReader<'c, T, C> {
@@ -97,56 +93,38 @@ impl<'c, T, C> TimedReader<'c, T, C> {
         ensures budget { bytes_left result ≡ 2 ^ 64 - 1 }
     {
         TimedReader {
-            waiting: Waiting {
+            waiting: Stream::new(Waiting {
                 socket,
                 clock,
                 pace,
                 awaited: Awaited::First,
                 told: None,
-            },
-            failures: 0,
-            budget: u64::MAX,
+            }),
         }
-    }
-
-    /// Counts a failure.
-    fn fail(&mut self) -> Failed
-        ensures failures { CountRose (reads_failed self.old) (reads_failed self.new) }
-        ensures budget { bytes_left self.new ≡ bytes_left self.old }
-    {
-        self.failures = self.failures.saturating_add(1);
-        Failed
     }
 }
 
 impl<'c, T: Read + Timed, C: Clock> Source for TimedReader<'c, T, C> {
+    ghost use Rattle.streams.specs.Stream.{failures_of, budget_of, is_countable};
+
     ghost left = { λ _. None };
 
-    ghost failed_reads = { λ s. s.failures };
+    ghost failed_reads = { λ s. failures_of s.waiting };
 
-    ghost budget = { λ s. s.budget };
+    ghost budget = { λ s. budget_of s.waiting };
 
-    ghost is_countable = { λ s. s.countable };
+    ghost is_countable = { λ s. is_countable s.waiting };
 
     fn read(&mut self, buf: &mut [u8]) -> Result<usize, Failed> {
-        if self.budget == 0 {
-            return Err(self.fail());
-        }
-        let room = buf.len().min(self.budget as usize);
-        match read_uninterrupted(&mut self.waiting, &mut buf[..room]) {
-            Ok(len) => {
-                self.budget -= len as u64;
-                Ok(len)
-            }
-            Err(_) => Err(self.fail()),
-        }
+        self.waiting.read(buf)
     }
 
     fn failures(&self) -> u64 {
-        self.failures
+        self.waiting.failures()
     }
 
     fn awaits(&mut self, begun: bool) {
-        self.waiting.awaited = if begun { Awaited::Rest } else { Awaited::First };
+        let waiting = self.waiting.inner_mut();
+        waiting.awaited = if begun { Awaited::Rest } else { Awaited::First };
     }
 }

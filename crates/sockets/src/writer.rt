@@ -5,7 +5,7 @@ use crate::deadlines::{after, left_until};
 use crate::timed::Timed;
 use std::io::{Result as IoResult, Write};
 use std::time::{Clock, Duration, Instant};
-use streams::{Failed, Sink, write_uninterrupted};
+use streams::{Failed, Sink, Stream};
 
 /// A socket whose writes end in time.
 #[derive(Drop)]
@@ -55,8 +55,7 @@ impl<'c, T: Write + Timed, C: Clock> Write for Offering<'c, T, C> {
 /// write fails. A write that takes nothing is a failure.
 #[derive(Drop)]
 pub struct TimedWriter<'c, T, C> {
-    offering: Offering<'c, T, C>,
-    failures: u64,
+    offering: Stream<Offering<'c, T, C>>,
 }
 
 impl<'c, T, C> TimedWriter<'c, T, C> {
@@ -67,38 +66,34 @@ impl<'c, T, C> TimedWriter<'c, T, C> {
         ensures failures { writes_failed result ≡ 0 }
     {
         TimedWriter {
-            offering: Offering {
+            offering: Stream::new(Offering {
                 socket,
                 clock,
                 patience,
                 by: None,
                 told: None,
-            },
-            failures: 0,
+            }),
         }
     }
 }
 
 impl<'c, T: Write + Timed, C: Clock> Sink for TimedWriter<'c, T, C> {
+    ghost use Rattle.streams.specs.Stream.{failures_of};
+
     ghost taken = { λ _. None };
 
-    ghost failed_writes = { λ s. s.failures };
+    ghost failed_writes = { λ s. failures_of s.offering };
 
     fn write(&mut self, buf: &[u8]) -> Result<usize, Failed> {
-        match write_uninterrupted(&mut self.offering, buf) {
-            Ok(0) | Err(_) => {
-                self.failures = self.failures.saturating_add(1);
-                Err(Failed)
-            }
-            Ok(len) => Ok(len),
-        }
+        self.offering.write(buf)
     }
 
     fn failures(&self) -> u64 {
-        self.failures
+        self.offering.failures()
     }
 
     fn begins(&mut self) {
-        self.offering.by = None;
+        let offering = self.offering.inner_mut();
+        offering.by = None;
     }
 }

@@ -1,5 +1,6 @@
 pub mod Counts
 pub mod Ends
 pub mod Stream
+pub mod Lending
 pub mod Writes
 pub mod Script

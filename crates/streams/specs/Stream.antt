@@ -1,5 +1,5 @@
 -- What a counted reader or writer of std holds.
-use Rattle.std.specs.Prelude.{ℕ}
+use Rattle.std.specs.Prelude.{ℕ, ◌<◌, ◌^◌}
 use Rattle.streams.specs.declared.counted.Stream.{Stream}
 
 -- the reader or writer
@@ -13,3 +13,7 @@ failures_of stream = stream.failures
 -- how many more bytes it gives
 abbrev pub budget_of : {T : Type 0} → Stream T → ℕ
 budget_of stream = stream.budget
+
+-- which 64 bits count
+abbrev pub is_countable : {T : Type 0} (stream : Stream T) → budget_of stream < 2 ^ 64
+is_countable stream = stream.countable

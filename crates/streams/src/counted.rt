@@ -23,7 +23,9 @@ pub struct Stream<T> {
 }
 
 impl<T> Stream<T> {
+    ghost use Rattle.std.specs.Borrow.{sem};
     ghost use Rattle.streams.specs.Stream.{inner_of, failures_of, budget_of};
+    ghost use Rattle.streams.specs.Lending.{LendsInner};
 
     /// Over this reader or writer, of whose calls none has failed yet.
     pub fn new(inner: T) -> Stream<T>
@@ -44,6 +46,14 @@ impl<T> Stream<T> {
     {
         let Stream { inner, .. } = self;
         inner
+    }
+
+    /// The reader or writer, to be told of what its calls do next.
+    pub fn inner_mut(&mut self) -> &mut T
+        ensures* writes_back { sem 𝓛 (LendsInner T.row self.entry result) }
+        ensures inner { result.now ≡ inner_of self.old }
+    {
+        &mut self.inner
     }
 
     /// Counts a failure.
