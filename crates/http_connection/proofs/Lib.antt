@@ -1,3 +1,4 @@
+pub mod Crossing
 pub mod Ranges
 pub mod Fronts
 pub mod Going
