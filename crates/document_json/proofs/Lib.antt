@@ -1,6 +1,7 @@
 pub mod Checks
 pub mod Floats
 pub mod JsonTexts
+pub mod TextLengths
 pub mod Listings
 pub mod MemberTexts
 pub mod Members

@@ -4,6 +4,7 @@ pub mod Numbers
 pub mod Identity
 pub mod Revisions
 pub mod Text
+pub mod Lengths
 pub mod Lists
 pub mod Document
 pub mod Path

@@ -42,7 +42,7 @@ fn hashes_value(alloc: Global, revs: &[RevId]) -> Result<Value, AllocError>
     Ok(Value::Array(values))
 }
 
-fn first_generation(revs: &[RevId]) -> u32
+pub(crate) fn first_generation(revs: &[RevId]) -> u32
     ensures { result ≡ start_of revs.now }
 {
     match revs {
@@ -60,7 +60,7 @@ pub(crate) fn revisions_value(alloc: Global, revs: &[RevId]) -> Result<Value, Al
     json!(in alloc; {"ids": ids, "start": start})
 }
 
-fn name_of(status: Status) -> &'static str
+pub(crate) fn name_of(status: Status) -> &'static str
     ensures { result.now ≡ status_name status }
 {
     match status {

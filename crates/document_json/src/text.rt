@@ -12,6 +12,9 @@ use json_profile::{Json, MAX_NESTING, read};
 use serde_json::Value;
 use std::alloc::{AllocError, Global};
 
+/// The quotes round a string.
+pub(crate) const QUOTES: usize = 2;
+
 /// The value of a body.
 ///
 /// # Errors
@@ -55,8 +58,18 @@ pub fn put_string(text: &mut String, alloc: Global, string: &str) -> Result<(), 
     Ok(())
 }
 
+/// The text of a string with its quotes.
+pub fn quoted_text(alloc: Global, string: &str) -> Result<String, AllocError>
+    ensures { IfOk result (λ text. string_bytes text ≡ quoted string.now) }
+{
+    let room = string.len().saturating_add(QUOTES);
+    let mut text = String::with_capacity(alloc, room)?;
+    put_string(&mut text, alloc, string)?;
+    Ok(text)
+}
+
 /// Whether no byte of a string is escaped.
-fn is_all_unescaped(string: &str) -> bool
+pub(crate) fn is_all_unescaped(string: &str) -> bool
     ensures { result ≡ list_all is_unescaped string.now }
 {
     string.as_bytes().iter().all(|byte| is_unescaped(*byte))

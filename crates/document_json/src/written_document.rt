@@ -119,7 +119,7 @@ pub fn merge_text(alloc: Global, merge: &Merge) -> Result<String, AllocError>
 }
 
 /// A revision from elsewhere as a document with its path.
-fn document_of(alloc: Global, merge: &Merge) -> Result<Document, AllocError>
+pub(crate) fn document_of(alloc: Global, merge: &Merge) -> Result<Document, AllocError>
     ensures { IfOk result (λ document. document ≡ document_of merge.now) }
 {
     let path = merge.path();
