@@ -1,5 +1,5 @@
 -- The texts of answers, in parts.
-use Rattle.std.proofs.Common.{◌≡◌, ℕ, List, ◌++◌, append_assoc, map, length, refl, sym, ap, ◌∙◌, decimal, arith}
+use Rattle.std.proofs.Common.{◌≡◌, ℕ, Bool, true, false, List, ◌++◌, append_assoc, map, length, refl, sym, ap, ◌∙◌, decimal, arith}
 use Rattle.std.specs.Prelude.{codes}
 use Rattle.std.proofs.lemmas.Fmt.{decimal_digit}
 use Rattle.serde_json.specs.Data.{array}
@@ -9,14 +9,14 @@ use Rattle.serde_json.proofs.OnLiterals.{serde_json_on_literals}
 use Rattle.json.specs.Print.{quoted}
 use Rattle.model.specs.Command.{Id, names}
 use Rattle.model.specs.Map.{Map}
-use Rattle.model.specs.Query.{ChangesPage, Document}
+use Rattle.model.specs.Query.{ChangesPage, Document, Row}
 use Rattle.model.specs.Revision.{Rev}
 use Rattle.api_json.specs.AllDocs.{all_docs_data, listed_data}
-use Rattle.api_json.specs.Changes.{page_data, row_data}
+use Rattle.api_json.specs.Changes.{before_id, leaves_data, named_rev_data, page_data, row_data}
 use Rattle.api_json.specs.Opened.{found_data}
 use Rattle.api_json.specs.Purge.{purged_data, removed_data}
 use Rattle.api_json.specs.Replies.{write_data}
-use Rattle.document_json.specs.Written.{document_data}
+use Rattle.document_json.specs.Written.{document_data, rev_data}
 
 joined : (a b c d e f g : List ℕ) → (((a ++ (b ++ (c ++ (d ++ e)))) ++ f) ++ g) ≡ a ++ (b ++ (c ++ (d ++ (e ++ (f ++ g)))))
 joined a b c d e f g = simp append_assoc refl
@@ -56,6 +56,35 @@ all_docs_data-parts documents =
     let rows = compact_text (array (items_of (map listed_data documents))) in
     append_assoc all_docs_front rows (all_docs_end documents)
     ∙ ap (λ zero. codes "{\"offset\":" ++ (zero ++ (codes ",\"rows\":" ++ (rows ++ all_docs_end documents)))) (sym (decimal_digit 0 (omega arith)))
+
+-- a document and its winner
+pub listed_data-parts : (id : Id) (winner : Rev)
+    → codes "{\"id\":" ++ (quoted id ++ (codes ",\"key\":" ++ (quoted id ++ (codes ",\"value\":" ++ (compact_text (named_rev_data winner) ++ codes "}"))))) ≡ compact_text (listed_data (id, winner))
+unfolding serde_json_on_literals
+listed_data-parts id winner = refl
+
+-- a revision under its name
+pub named_rev-parts : (rev : Rev) → (codes "{\"rev\":" ++ compact_text (rev_data rev)) ++ codes "}" ≡ compact_text (named_rev_data rev)
+unfolding serde_json_on_literals
+named_rev-parts rev = append_assoc (codes "{\"rev\":") (compact_text (rev_data rev)) (codes "}")
+
+joined_row : (a b c d e : List ℕ) → (((a ++ b) ++ c) ++ d) ++ e ≡ a ++ (b ++ (c ++ (d ++ e)))
+joined_row a b c d e = simp append_assoc refl
+
+-- what comes behind the id of a row
+abbrev pub row_end : ℕ → List ℕ
+row_end seq = codes ",\"seq\":" ++ (decimal seq ++ codes "}")
+
+row-parts : (changes : List Rev) (deleted : Bool) (id : Id) (seq : ℕ)
+    → (((codes "{\"changes\":" ++ compact_text (leaves_data changes)) ++ before_id deleted) ++ quoted id) ++ row_end seq
+    ≡ compact_text (row_data (record { seq = seq; id = id; changes = changes; deleted = deleted }))
+unfolding serde_json_on_literals
+row-parts changes true id seq = joined_row (codes "{\"changes\":") (compact_text (leaves_data changes)) (before_id true) (quoted id) (row_end seq)
+row-parts changes false id seq = joined_row (codes "{\"changes\":") (compact_text (leaves_data changes)) (before_id false) (quoted id) (row_end seq)
+
+-- a row of the changes
+pub row_data-parts : (row : Row) → (((codes "{\"changes\":" ++ compact_text (leaves_data row.changes)) ++ before_id row.deleted) ++ quoted row.id) ++ row_end row.seq ≡ compact_text (row_data row)
+row_data-parts row = row-parts row.changes row.deleted row.id row.seq
 
 -- a revision that is found
 pub found-text : (d : Document) (text : List ℕ) → text ≡ compact_text (document_data d) → codes "{\"ok\":" ++ (text ++ codes "}") ≡ compact_text (found_data d)

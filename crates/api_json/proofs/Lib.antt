@@ -4,4 +4,5 @@ pub mod DocIds
 pub mod ListTexts
 pub mod NamedRevisions
 pub mod ObjectTexts
+pub mod OpenedLengths
 pub mod PlainRows

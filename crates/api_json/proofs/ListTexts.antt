@@ -9,7 +9,7 @@ pub stands_after-push : (later : Bool) (items : List Data) (d : Data) → stands
 stands_after-push later [] d = refl
 stands_after-push later (e ∷ items) d = refl
 
-stands_after-true : (items : List Data) → stands_after true items ≡ true
+pub stands_after-true : (items : List Data) → stands_after true items ≡ true
 stands_after-true [] = refl
 stands_after-true (e ∷ items) = refl
 

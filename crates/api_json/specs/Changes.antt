@@ -1,5 +1,5 @@
 -- The changes, as answers write them.
-use Rattle.std.specs.Prelude.{ℕ, ◌++◌, Bool, true, List, [], ◌∷◌, map, codes, if◌then◌else◌}
+use Rattle.std.specs.Prelude.{ℕ, ◌++◌, Bool, true, false, List, [], ◌∷◌, map, codes, if◌then◌else◌}
 use Rattle.serde_json.specs.Data.{Data, unsigned, number, string, boolean, array, object, Members, no_members, member}
 use Rattle.serde_json.specs.View.{items_of}
 use Rattle.serde_json.specs.Written.{compact_text}
@@ -27,6 +27,11 @@ abbrev pub row_data : Row → Data
 row_data row =
     object (member (codes "changes") (leaves_data row.changes) (deleted_first row.deleted
     (member (codes "id") (string row.id) (member (codes "seq") (number (unsigned row.seq)) no_members))))
+
+-- what comes between the changes of a row and its id, of a row whose winner is deleted and of one whose winner is not
+abbrev pub before_id : Bool → List ℕ
+before_id true = codes ",\"deleted\":true,\"id\":"
+before_id false = codes ",\"id\":"
 
 -- a row of a feed that gives one a line
 -- CouchDB: GET /{db}/_changes, "feed"

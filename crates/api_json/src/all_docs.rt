@@ -1,32 +1,24 @@
 //! All documents, as an answer writes them.
-ghost use Rattle.std.specs.Prelude.{◌≡◌, ◌++◌, map, false, IfOk, string_bytes};
+ghost use Rattle.std.specs.Prelude.{◌≡◌, ◌++◌, map, IfOk, string_bytes};
 ghost use Rattle.serde_json.specs.Data.{array};
-ghost use Rattle.serde_json.specs.View.{items_of, view};
+ghost use Rattle.serde_json.specs.View.{items_of};
 ghost use Rattle.serde_json.specs.Written.{compact_text};
 ghost use Rattle.api_json.specs.AllDocs.{all_docs_data, listed_data};
 
-use crate::changes::named_rev_value;
+use crate::changes::named_rev_text;
 use crate::list::append_list;
 use document_id::DocId;
-use document_json::value_text;
+use document_json::quoted_text;
 use revision_id::RevId;
-use serde_json::{Value, json};
 use std::alloc::{AllocError, Global};
 
 /// A document and its winner.
-fn listed_value(alloc: Global, listed: &(DocId, RevId)) -> Result<Value, AllocError>
-    ensures { IfOk result (λ value. view value ≡ listed_data listed.now) }
-{
-    let winner = named_rev_value(alloc, &listed.1)?;
-    let id = listed.0.as_str();
-    json!(in alloc; {"id": id, "key": id, "value": winner})
-}
-
 fn listed_text(alloc: Global, listed: &(DocId, RevId)) -> Result<String, AllocError>
     ensures { IfOk result (λ text. string_bytes text ≡ compact_text (listed_data listed.now)) }
 {
-    let value = listed_value(alloc, listed)?;
-    value_text(alloc, &value)
+    let id = quoted_text(alloc, listed.0.as_str())?;
+    let winner = named_rev_text(alloc, &listed.1)?;
+    format!(in alloc; "{{\"id\":{id},\"key\":{id},\"value\":{winner}}}")
 }
 
 /// Writes the list of the documents behind a text.

@@ -1,52 +1,58 @@
 //! The changes, as answers write them.
-ghost use Rattle.std.specs.Prelude.{◌≡◌, ◌++◌, map, false, IfOk, string_bytes};
+ghost use Rattle.std.specs.Prelude.{◌≡◌, ◌++◌, map, IfOk, string_bytes};
 ghost use Rattle.serde_json.specs.Data.{array};
-ghost use Rattle.serde_json.specs.View.{items_of, view};
-ghost use Rattle.serde_json.specs.Written.{compact_text, has_float};
-ghost use Rattle.api_json.specs.Changes.{feed_line, leaves_data, named_rev_data, page_data, row_data};
+ghost use Rattle.serde_json.specs.View.{items_of};
+ghost use Rattle.serde_json.specs.Written.{compact_text};
+ghost use Rattle.api_json.specs.Changes.{before_id, feed_line, leaves_data, named_rev_data, page_data, row_data};
 
 use crate::list::append_list;
-use document_json::value_text;
+use document_json::put_string;
 use queries::{ChangesPage, Row};
 use revision_id::RevId;
-use serde_json::{Value, json};
 use std::alloc::{AllocError, Global};
 
-/// A revision, as the member `rev` of an object.
-pub(crate) fn named_rev_value(alloc: Global, rev: &RevId) -> Result<Value, AllocError>
-    ensures { IfOk result (λ value. view value ≡ named_rev_data rev.now) }
+/// The text of a revision, as the member `rev` of an object.
+pub(crate) fn named_rev_text(alloc: Global, rev: &RevId) -> Result<String, AllocError>
+    ensures { IfOk result (λ text. string_bytes text ≡ compact_text (named_rev_data rev.now)) }
 {
     let rev = rev.text(alloc)?;
-    json!(in alloc; {"rev": rev.as_str()})
+    let mut text = String::from_str(alloc, r#"{"rev":"#)?;
+    put_string(&mut text, alloc, rev.as_str())?;
+    text.push_str("}")?;
+    Ok(text)
 }
 
-fn leaves_value(alloc: Global, revs: &[RevId]) -> Result<Value, AllocError>
-    ensures { IfOk result (λ value. view value ≡ leaves_data revs.now) }
+/// Writes the leaves of a document behind a text.
+fn append_leaves(alloc: Global, text: String, revs: &[RevId]) -> Result<String, AllocError>
+    ensures { IfOk result (λ longer. string_bytes longer
+        ≡ string_bytes text ++ compact_text (leaves_data revs.now)) }
 {
-    let mut values = Vec::with_capacity(alloc, revs.len())?;
-    for rev in revs {
-        values.push(named_rev_value(alloc, rev)?)?;
-    }
-    Ok(Value::Array(values))
+    append_list(text, revs, |rev| named_rev_text(alloc, rev))
 }
 
-/// A document at its last update.
-fn row_value(alloc: Global, row: &Row) -> Result<Value, AllocError>
-    ensures { IfOk result (λ value. view value ≡ row_data row.now) }
+/// What comes between the changes of a row and its id.
+fn before_id(deleted: bool) -> &'static str
+    ensures { result.now ≡ before_id deleted }
 {
-    let changes = leaves_value(alloc, &row.changes)?;
-    let id = row.id.as_str();
-    if row.deleted {
-        return json!(in alloc; {"changes": changes, "deleted": true, "id": id, "seq": row.seq});
+    if deleted {
+        r#","deleted":true,"id":"#
+    } else {
+        r#","id":"#
     }
-    json!(in alloc; {"changes": changes, "id": id, "seq": row.seq})
 }
 
+/// The text of a document at its last update.
 fn row_text(alloc: Global, row: &Row) -> Result<String, AllocError>
     ensures { IfOk result (λ text. string_bytes text ≡ compact_text (row_data row.now)) }
 {
-    let value = row_value(alloc, row)?;
-    value_text(alloc, &value)
+    let front = String::from_str(alloc, r#"{"changes":"#)?;
+    let mut text = append_leaves(alloc, front, &row.changes)?;
+    text.push_str(before_id(row.deleted))?;
+    put_string(&mut text, alloc, row.id.as_str())?;
+    let seq = row.seq;
+    let end = format!(in alloc; ",\"seq\":{seq}}}")?;
+    text.push_str(end.as_str())?;
+    Ok(text)
 }
 
 /// A row as a feed gives it: a line of its own.

@@ -30,7 +30,7 @@ pub use doc_ids::read_doc_ids;
 pub use limit::{number_text, read_limit};
 pub use list::append_list;
 pub use named_revisions::read_named_revisions;
-pub use opened::all_opened_text;
+pub use opened::{all_opened_len, all_opened_text, opened_text};
 pub use purge::{append_named_revisions, purged_text, read_purge};
 pub use reply::{local_written_text, written_text};
 pub use text_list::{read_revisions, read_text_list, take_texts};
