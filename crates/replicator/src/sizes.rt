@@ -1,9 +1,9 @@
 //! How many documents go at once.
 ghost use Rattle.std.specs.Prelude.{◌≡◌, ◌<◌, IfOk, length, max};
-ghost use Rattle.replicator.specs.Bulk.{IsBulkLen, merge_text};
+ghost use Rattle.replicator.specs.Bulk.{IsBulkLen};
 
 use commands::Merge;
-use document_json::merge_text;
+use document_json::merge_len;
 use std::alloc::{AllocError, Global};
 
 /// The most bytes of a bulk of more than one document.
@@ -21,7 +21,7 @@ pub(crate) fn bulk_len(alloc: Global, documents: &[Merge]) -> Result<usize, Allo
     let mut len = 0;
     let mut size = AROUND;
     for document in documents {
-        let text = text_len(alloc, document)?;
+        let text = merge_len(alloc, document)?;
         if text >= MAX_BULK - size {
             return Ok(at_least_one(len));
         }
@@ -35,12 +35,4 @@ fn at_least_one(len: usize) -> usize
     ensures { result ≡ max len 1 }
 {
     if len == 0 { 1 } else { len }
-}
-
-/// How many bytes the text of a document has.
-fn text_len(alloc: Global, merge: &Merge) -> Result<usize, AllocError>
-    ensures { IfOk result (λ len. len ≡ length (merge_text merge.now)) }
-{
-    let text = merge_text(alloc, merge)?;
-    Ok(text.len())
 }
