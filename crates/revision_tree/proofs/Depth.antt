@@ -1,5 +1,5 @@
 -- How far the revisions of a tree are above its leaves, and above which generation none has two children.
-use Rattle.std.specs.Prelude.{◌≡◌, ◌⊎◌, ℕ, zero, suc, ◌+◌, ◌-◌, ◌<◌, ◌≤◌, max, Bool, true, ◌&&◌, List, [], ◌∷◌, length, get_or, take, Option, Some, None, option_and_then, refl}
+use Rattle.std.specs.Prelude.{◌≡◌, ◌⊎◌, ℕ, zero, suc, ◌+◌, ◌-◌, ◌<◌, ◌≤◌, max, Bool, true, ◌&&◌, List, [], ◌∷◌, length, get_or, take, Option, Some, None, is_some, option_map, option_and_then, refl}
 use Rattle.std.proofs.Common.{sym, ap, subst, ◌∙◌, ⊎_elim, inl, inr, arith}
 use Rattle.std.proofs.lemmas.Bool.{true≢false, and_from, or_cases, or_left, or_right}
 use Rattle.std.proofs.lemmas.Option.{none-some}
@@ -37,6 +37,10 @@ last_step t n o r e = at (ancestor t n o) refl (sym (ancestor-suc t n o) ∙ e)
     at None is e = absurd (none-some r e)
     at (Some c) is e = record { child = c; leads = is; parent = e }
 
+pub ancestor_last : (t : Tree) (n : ℕ) → 0 < n → (o : Option Rev) → ancestor t n o ≡ option_and_then (parent_of t) (ancestor t (n - 1) o)
+ancestor_last t zero some o = absurd (omega (arith, some))
+ancestor_last t (suc n) some o = let same : n ≡ suc n - 1 = omega arith in ancestor-suc t n o ∙ ap (λ m. option_and_then (parent_of t) (ancestor t m o)) same
+
 -- ---- with no bound but that of the identities
 
 few_of : (a b n m : ℕ) → a ≡ b + n → 0 < b → a ≤ m → n < m
@@ -52,6 +56,9 @@ no_more a m lt le = omega (arith, lt, le)
 
 pub unforked_any : (t : Tree) → IsForest t → IsInRange t → IsUnforked last_generation t
 unforked_any t f range p a b over x y = absurd (no_more p.generation last_generation over (range.known p (f.parents a p x).0).in_range)
+
+pub found_known : {X Y : Type 0} (f : X → Y) (o : Option X) (p : Option Y) (x : X) → option_map f o ≡ p → o ≡ Some x → is_some p ≡ true
+found_known f o p x e is = ap is_some (sym e) ∙ ap (λ q. is_some (option_map f q)) is
 
 -- ---- a tree that is its own stem
 

@@ -154,6 +154,10 @@ module _ (ns : List Node) (h : IsNodes ns) (limit : ℕ) (newest : Rev) (leaf : 
 pub none_far : (t : Tree) → IsForest t → (limit : ℕ) (newest : Rev) → ancestor t limit (Some newest) ≡ None → ((q : Rev) → knows t q ≡ true → IsNear limit t q ⊎ (ancestor t limit (Some newest) ≡ Some q)) → stem limit t ≡ t
 none_far t f limit newest none each = stem_near t f limit (λ q k. ⊎_elim (λ near. near) (λ e. absurd (none-some q (sym none ∙ e))) (each q k))
 
+-- where it is near to another leaf, all are near
+pub near_far : (t : Tree) → IsForest t → (limit : ℕ) (newest far : Rev) → ancestor t limit (Some newest) ≡ Some far → IsNear limit t far → ((q : Rev) → knows t q ≡ true → IsNear limit t q ⊎ (ancestor t limit (Some newest) ≡ Some q)) → stem limit t ≡ t
+near_far t f limit newest far leads held each = stem_near t f limit (λ q k. ⊎_elim (λ near. near) (λ e. subst (IsNear limit t) (same_Some far q (sym leads ∙ e)) held) (each q k))
+
 -- ---- one node
 
 pub apart_other : (r : Rev) (n : Node) (o : Option Rev) → n.parent ≡ o → (o ≡ Some r → ⊥) → row_apart r (row_of n) ≡ row_of n

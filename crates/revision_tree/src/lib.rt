@@ -6,6 +6,7 @@ mod fork;
 mod growth;
 mod leaf;
 mod marks;
+mod near;
 mod node;
 mod place;
 mod put;

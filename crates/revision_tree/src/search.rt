@@ -80,7 +80,22 @@ pub(crate) fn parent_in(rows: &Rows, rev: RevId) -> Option<RevId>
     node_of(rows, rev)?.parent
 }
 
-/// The revision that is so many parent steps above another, at least one, and its child on the way.
+/// The revision that is so many parent steps above another.
+pub(crate) fn ancestor_of(rows: &Rows, rev: RevId, steps: u32) -> Option<RevId>
+    requires { IsRows rows.now }
+    ensures { result ≡ ancestor (tree_of (nodes_of rows.now)) steps (Some rev) }
+{
+    let mut at = rev;
+    for _step in 0..steps {
+        let Some(parent) = parent_in(rows, at) else {
+            return None;
+        };
+        at = parent;
+    }
+    Some(at)
+}
+
+/// The same, at least one step above, with its child on the way.
 pub(crate) fn forebear_of(rows: &Rows, rev: RevId, steps: u32) -> Option<Forebear>
     requires rows { IsRows rows.now }
     requires steps { 0 < steps }
@@ -88,13 +103,9 @@ pub(crate) fn forebear_of(rows: &Rows, rev: RevId, steps: u32) -> Option<Forebea
     ensures rev { IfSome result (λ a. ancestor (tree_of (nodes_of rows.now)) steps (Some rev) ≡ Some a.rev) }
     ensures child { IfSome result (λ a. parent_of (tree_of (nodes_of rows.now)) a.child ≡ Some a.rev) }
 {
-    let mut child = rev;
-    for _step in 1..steps {
-        let Some(parent) = parent_in(rows, child) else {
-            return None;
-        };
-        child = parent;
-    }
+    let Some(child) = ancestor_of(rows, rev, steps - 1) else {
+        return None;
+    };
     let Some(rev) = parent_in(rows, child) else {
         return None;
     };

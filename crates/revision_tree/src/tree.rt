@@ -12,6 +12,8 @@ ghost use Rattle.revision_tree.specs.Kept.{IsUnforked};
 ghost use Rattle.revision_tree.specs.Rows.{AreFilled, lists_of, nodes_of};
 ghost use Rattle.revision_tree.specs.Walk.{left_of};
 
+mod stems;
+
 use crate::decide::mark_tree;
 use crate::fork::forks_with;
 use crate::growth::grow;
@@ -19,10 +21,8 @@ use crate::leaf::{Leaf, has_one_leaf, leaves_of, winner_of};
 use crate::marks::mark;
 use crate::node::Node;
 use crate::rows::Rows;
-use crate::search::{forebear_of, is_parent, node_of, parent_in, path_from};
-use crate::shorten::{above, are_level};
+use crate::search::{is_parent, node_of, parent_in, path_from};
 use crate::strip::stripped;
-use crate::trim::without;
 use crate::walk::Nodes;
 use crate::whole::{all, count, first, last, pieces_of};
 use json_profile::Body;
@@ -147,104 +147,6 @@ impl RevTree {
             depth: self.depth,
             forks: self.forks,
         })
-    }
-
-    /// Whether each leaf is of the newest generation: then a stem takes the oldest revisions alone.
-    pub fn is_level(&self) -> bool
-        ensures { result ≡ true → (l r : Rev) → is_known_leaf self.now l ≡ true → is_known self.now r ≡ true → r.generation ≤ l.generation }
-    {
-        let newest = last(&self.rows);
-        self.one_leaf || are_level(&self.rows, newest.generation())
-    }
-
-    /// The revisions of a level tree that are fewer than `limit` steps above some leaf. Shares what is apart from the oldest.
-    pub fn shortened(self, alloc: Global, limit: u32) -> Result<RevTree, AllocError>
-        requires limit { 0 < limit }
-        requires level { (l r : Rev) → is_known_leaf self l ≡ true → is_known self r ≡ true → r.generation ≤ l.generation }
-        ensures { IfOk result (λ t. t ≡ stemming limit self) }
-    {
-        let RevTree {
-            rows,
-            one_leaf,
-            depth: _,
-            forks,
-        } = self;
-        let newest = last(&rows);
-        let oldest = newest.generation().saturating_sub(limit);
-        Ok(RevTree {
-            rows: above(alloc, rows, oldest)?,
-            one_leaf,
-            depth: limit,
-            forks,
-        })
-    }
-
-    /// Whether it is known to have one leaf.
-    pub fn has_one_leaf(&self) -> bool
-        ensures { result ≡ true → (l r : Rev) → is_known_leaf self.now l ≡ true → is_known self.now r ≡ true → r.generation ≤ l.generation }
-    {
-        let _newest = last(&self.rows);
-        self.one_leaf
-    }
-
-    /// Whether it is known that a stem keeps all.
-    pub fn is_stem(&self, limit: u32) -> bool
-        ensures { result ≡ true → stemming limit self.now ≡ self.now }
-    {
-        let depth = self.depth;
-        if depth > limit {
-            return false;
-        }
-        true
-    }
-
-    /// The same tree, of which it is known from then on that a stem keeps all.
-    pub fn as_stem(self, limit: u32) -> RevTree
-        requires { stemming limit self ≡ self }
-        ensures { result ≡ self }
-    {
-        let RevTree {
-            rows,
-            one_leaf,
-            depth: _,
-            forks,
-        } = self;
-        RevTree {
-            rows,
-            one_leaf,
-            depth: limit,
-            forks,
-        }
-    }
-
-    /// The revisions that are fewer than `limit` steps above some leaf, where no other can be too far but the one that is that
-    /// many steps above this leaf, and nothing where other leaves may be near to it. Walks the leaf's path alone, and shares
-    /// what stands apart from that one.
-    pub fn trimmed(
-        &self,
-        alloc: Global,
-        newest: RevId,
-        limit: u32,
-    ) -> Result<Option<RevTree>, AllocError>
-        requires limit { 0 < limit }
-        requires leaf { is_known_leaf self.now newest ≡ true }
-        requires far { (r : Rev) → is_known self.now r ≡ true → IsNear limit self.now r ⊎ (ancestor self.now limit (Some newest) ≡ Some r) }
-        ensures { IfOk result (λ stem. IfSome stem (λ t. t ≡ stemming limit self.now)) }
-    {
-        let Some(far) = forebear_of(&self.rows, newest, limit) else {
-            let same = self.share(alloc)?;
-            return Ok(Some(same.as_stem(limit)));
-        };
-        if far.rev.generation() <= self.forks {
-            return Ok(None);
-        }
-        let rows = without(alloc, &self.rows, far.rev, far.child)?;
-        Ok(Some(RevTree {
-            rows,
-            one_leaf: false,
-            depth: limit,
-            forks: self.forks,
-        }))
     }
 
     /// A generation above which no revision has two children.

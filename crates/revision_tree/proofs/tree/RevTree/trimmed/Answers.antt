@@ -1,27 +1,42 @@
-use Rattle.std.proofs.Common.{◌≡◌, ◌∙◌, ◌<◌, ℕ, true, None, Some, ap, arith, subst, sym}
+use Rattle.std.proofs.Common.{◌≡◌, ◌∙◌, ◌<◌, ℕ, true, Some, ap, arith, subst, sym}
 use Rattle.std.specs.Prelude.{◌⊎◌}
 use Rattle.std.proofs.lemmas.Bool.{true≢false}
 use Rattle.model.specs.Revision.{Rev}
-use Rattle.model.specs.Tree.{Tree, IsForest, IsNear, ancestor, is_leaf, knows}
+use Rattle.model.specs.Tree.{Tree, IsNear, ancestor, is_leaf, knows}
 use Rattle.model.specs.TreeChange.{stem}
 use Rattle.revision_tree.specs.Kept.{AreNear, IsUnforked}
 use Rattle.revision_tree.specs.Nodes.{tree_of}
 use Rattle.revision_tree.specs.Rows.{nodes_of}
 use Rattle.revision_tree.proofs.Depth.{near_stem, unforked_stem}
-use Rattle.revision_tree.proofs.Trimmed.{none_far, only_child, trimmed_nodes, trimmed_tree}
+use Rattle.revision_tree.proofs.Trimmed.{near_far, none_far, only_child, trimmed_nodes, trimmed_tree}
 use Rattle.revision_tree.proofs.tree.RevTree.trimmed.Goals as goal
 
-pub as_stem-requires : goal.as_stem-requires
-as_stem-requires c =
-    let stems = none_far c.args.self.now (subst IsForest c.self.view_is c.self.invariant.rows.nodes.tree.forest) c.args.limit c.args.newest
-    (subst (λ (u : Tree). ancestor u c.args.limit (Some c.args.newest) ≡ None) c.self.view_is (c.forebear_of.ensures.none c.in_default.is)) c.requires.far in
-    subst (λ (u : Tree). stem c.args.limit u ≡ u) (sym c.in_ok-same.ensures) stems
+abbrev Each : Tree → ℕ → Rev → Type 0
+Each t limit newest = (q : Rev) → knows t q ≡ true → IsNear limit t q ⊎ (ancestor t limit (Some newest) ≡ Some q)
+
+pub shared_stem-requires : goal.shared_stem-requires
+shared_stem-requires c =
+    let each = subst (λ (t : Tree). Each t c.args.limit c.args.newest) (sym c.self.view_is) c.requires.far in
+    subst (λ (t : Tree). stem c.args.limit t ≡ t) c.self.view_is
+    (none_far (tree_of (nodes_of c.self.inside.rows)) c.self.invariant.rows.nodes.tree.forest c.args.limit c.args.newest (c.forebear_of.ensures.none c.in_default.is) each)
 
 pub returns-in_default : goal.returns-in_default
 returns-in_default c =
-    let stems = none_far c.args.self.now (subst IsForest c.self.view_is c.self.invariant.rows.nodes.tree.forest) c.args.limit c.args.newest
-    (subst (λ (u : Tree). ancestor u c.args.limit (Some c.args.newest) ≡ None) c.self.view_is (c.forebear_of.ensures.none c.in_default.is)) c.requires.far in
-    c.as_stem.ensures ∙ c.in_ok-same.ensures ∙ sym stems
+    let each = subst (λ (t : Tree). Each t c.args.limit c.args.newest) (sym c.self.view_is) c.requires.far in
+    let stems = none_far (tree_of (nodes_of c.self.inside.rows)) c.self.invariant.rows.nodes.tree.forest c.args.limit c.args.newest (c.forebear_of.ensures.none c.in_default.is) each in
+    c.in_ok-shared_stem.ensures ∙ sym (subst (λ (t : Tree). stem c.args.limit t ≡ t) c.self.view_is stems)
+
+pub shared_stem-requires-then-generation-self : goal.shared_stem-requires-then-generation-self
+shared_stem-requires-then-generation-self c =
+    let each = subst (λ (t : Tree). Each t c.args.limit c.args.newest) (sym c.self.view_is) c.requires.far in
+    subst (λ (t : Tree). stem c.args.limit t ≡ t) c.self.view_is
+    (near_far (tree_of (nodes_of c.self.inside.rows)) c.self.invariant.rows.nodes.tree.forest c.args.limit c.args.newest c.in-Some.far.rev c.in-Some.ensures.rev (c.has_near_leaf.ensures c.if-not-has_near_leaf.false) each)
+
+pub returns-then-generation-self : goal.returns-then-generation-self
+returns-then-generation-self c =
+    let each = subst (λ (t : Tree). Each t c.args.limit c.args.newest) (sym c.self.view_is) c.requires.far in
+    let stems = near_far (tree_of (nodes_of c.self.inside.rows)) c.self.invariant.rows.nodes.tree.forest c.args.limit c.args.newest c.in-Some.far.rev c.in-Some.ensures.rev (c.has_near_leaf.ensures c.if-not-has_near_leaf.false) each in
+    c.in_ok-shared_stem-2.ensures ∙ sym (subst (λ (t : Tree). stem c.args.limit t ≡ t) c.self.view_is stems)
 
 pub without-requires-clause-child : goal.without-requires-clause-child
 without-requires-clause-child c =
@@ -30,9 +45,6 @@ without-requires-clause-child c =
     let leaf = subst (λ (t : Tree). is_leaf t c.args.newest ≡ true) (sym c.self.view_is) c.requires.leaf in
     let over : c.self.inside.forks < c.in-Some.far.rev.generation = omega (arith, c.if-generation-self.false, c.generation.ensures.value) in
     only_child ns h.rows.nodes c.args.limit c.args.newest leaf c.self.inside.forks h.unforked c.in-Some.far.rev c.in-Some.ensures.rev over c.in-Some.far.child c.in-Some.ensures.child
-
-abbrev Each : Tree → ℕ → Rev → Type 0
-Each t limit newest = (q : Rev) → knows t q ≡ true → IsNear limit t q ⊎ (ancestor t limit (Some newest) ≡ Some q)
 
 pub invariant_of-result : goal.invariant_of-result
 invariant_of-result c =
