@@ -23,6 +23,7 @@ PIECES = 10
 CONFLICTS = 100  # of a document that gets them in one bulk, and in one GET of many
 CHAIN = 999  # revisions one behind another, below many leaves
 LEAVES = 16000  # of that document
+EDITED = 20  # of these in one bulk
 ASKED = 380  # revisions of the chain in one GET, which a head has just room for
 BRANCHES = 100  # of a document, each of as many revisions as are kept
 DEEP = 1000
@@ -125,6 +126,11 @@ def spread(name):
     return [merge(documents) for documents in bulks]
 
 
+def edited_spread(name, first):
+    """A bulk of an edit of each of some of these leaves."""
+    return bulk([{"_id": name, "_rev": "%d-%032x" % (CHAIN + 1, at + 1)} for at in range(first, first + EDITED)])
+
+
 def latest(name):
     """A GET of the latest over the chain's oldest revision."""
     return request("GET", "/db/%s?latest=true&rev=1-%s" % (name, link(1)))
@@ -152,6 +158,8 @@ def rows(many):
     over = "over {:,} leaves on a chain, milliseconds".format(LEAVES)
     yield "GET with `latest` " + over, spread("spread"), [[latest("spread")] for _ in range(PIECES)], 200, 1, 1e3
     yield "`open_revs` of %d with `latest` %s" % (ASKED, over), [], [[opened_latest("spread")] for _ in range(PIECES)], 200, 1, 1e3
+    edits = [[edited_spread("spread", at * EDITED)] for at in range(PIECES)]
+    yield "edit of one of {:,} leaves on a chain, at the limit, for each".format(LEAVES), [], edits, 201, EDITED, 1e6
     branches = Branches("branches")
     deep = "edit of each leaf of {} branches of {:,} revisions, at the limit, for each".format(BRANCHES, DEEP)
     yield deep, branches.grown(), [[branches.edits()] for _ in range(PIECES)], 201, BRANCHES, 1e6

@@ -83,7 +83,7 @@ class Deep(Document):
     def __init__(self, source, database, id):
         super().__init__(source, database, id)
         self.depth = source.choice(DEPTHS)
-        self.rooted = source.random() < 0.5  # whether branches begin at one revision
+        self.shared = source.choice([0, 1, self.depth // 2, self.depth - 1])  # the generations of which branches have one revision
         self.made = 0
 
     def requests(self):
@@ -104,12 +104,9 @@ class Deep(Document):
         return self.sent[-1]
 
     def branch(self):
-        """A path from the top, or from where it meets another, about as long as the limit."""
+        """A path from the first generation, over the revisions that branches share, about as long as the limit."""
         length = max(1, self.depth + self.source.randint(-1, 1))
-        path = [(length - steps, self.hash()) for steps in range(length)]
-        if self.rooted:
-            path[-1] = (1, hash_of(0))
-        return self.sent_path(path)
+        return self.sent_path([(at, hash_of(0) if at <= self.shared else self.hash()) for at in range(length, 0, -1)])
 
     def step(self):
         """A next revision over a leaf or, now and then, over another, with some of the known path or all of it."""
