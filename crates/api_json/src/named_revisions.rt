@@ -67,7 +67,7 @@ pub fn read_named_revisions(alloc: Global, body: &[u8]) -> Result<NamedRevisions
     ensures { Decides result (named_revisions_of body.now) }
 {
     let value = read_json(alloc, body)?;
-    let _ordered = value.value();
+    let _recalled = value.value();
     let Some(object) = value.into_object() else {
         return Err(Fault::Refused(Reason::Shape));
     };

@@ -15,7 +15,7 @@ pub(crate) fn latest_of(alloc: Global, tree: &RevTree, rev: RevId) -> Result<Vec
     ensures { IfOk result (λ revs. revs.items ≡ latest_in tree.now rev) }
 {
     // Its revisions make a tree.
-    let _oldest = tree.oldest();
+    let _recalled = tree.oldest();
     if tree.is_leaf(rev) {
         return Vec::from_slice(alloc, &[rev]);
     }

@@ -136,7 +136,7 @@ fn is_latest(tree: &RevTree, rev: RevId) -> bool
     ensures { result ≡ true → latest_or_same tree.now rev ≡ rev ∷ [] }
 {
     // Its revisions make a tree.
-    let _oldest = tree.oldest();
+    let _recalled = tree.oldest();
     if tree.knows(rev) {
         return tree.is_leaf(rev);
     }
@@ -149,7 +149,7 @@ fn latest_once(alloc: Global, tree: &RevTree, asked: &[RevId]) -> Result<Vec<Rev
     ensures { IfOk result (λ once. once.items ≡ each_once (λ a b. knows tree.now a && same_rev a b) (flat_map (latest_or_same tree.now) asked.now)) }
 {
     // Its revisions make a tree.
-    let _oldest = tree.oldest();
+    let _recalled = tree.oldest();
     let leaves = claimed_leaves(alloc, tree, asked)?;
     let mut once = Vec::new(alloc);
     for place in 0..asked.len() {

@@ -7,9 +7,9 @@ ghost use Rattle.model.specs.World.{is_compact};
 ghost use Rattle.commands.specs.Command.{command_of};
 
 use crate::copied::{Copied, copy_all};
-use crate::edit::{Edit, read_all_limits};
-use crate::merge::{Merge, read_all_merges};
-use crate::named::{NamedRevisions, read_all_named};
+use crate::edit::{Edit, recall_all_limits};
+use crate::merge::{Merge, recall_all_merges};
+use crate::named::{NamedRevisions, recall_all_named};
 use crate::same::{Same, are_same, is_same_id, is_same_option};
 use document_id::DocId;
 use json_profile::Body;
@@ -80,7 +80,7 @@ impl Command {
         if edits.len() > MAX_EDITS {
             return None;
         }
-        read_all_limits(&edits);
+        recall_all_limits(&edits);
         Some(Command {
             kind: CommandKind::Edits(edits),
         })
@@ -94,7 +94,7 @@ impl Command {
         if merges.len() > MAX_EDITS {
             return None;
         }
-        read_all_merges(&merges);
+        recall_all_merges(&merges);
         Some(Command {
             kind: CommandKind::Merges(merges),
         })
@@ -109,9 +109,9 @@ impl Command {
         if named == Some(0) {
             return None;
         }
-        let _text = id.as_str();
+        let _recalled = id.as_str();
         if let Some(body) = &body {
-            let _body = body.text();
+            let _recalled = body.text();
         }
         Some(Command {
             kind: CommandKind::PutLocal { id, named, body },
@@ -126,7 +126,7 @@ impl Command {
         if named.documents().len() > MAX_EDITS {
             return None;
         }
-        read_all_named(named.documents());
+        recall_all_named(named.documents());
         Some(Command {
             kind: CommandKind::Purge(named),
         })

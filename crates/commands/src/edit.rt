@@ -43,15 +43,15 @@ impl Model for Edit {
 }
 
 impl Edit {
-    /// Reads the limits that the parts keep.
-    pub(crate) fn read_limits(&self)
+    /// Recalls the limits that the parts keep.
+    pub(crate) fn recall_limits(&self)
         ensures is_edit { IsEdit self.now }
     {
-        let _text = self.id.as_str();
+        let _recalled = self.id.as_str();
         if let Some(rev) = self.named {
-            let _generation = rev.generation();
+            let _recalled = rev.generation();
         }
-        let _body = self.body.text();
+        let _recalled = self.body.text();
     }
 }
 
@@ -66,12 +66,12 @@ impl Copied for Edit {
     }
 }
 
-/// Reads the limits that all edits keep: for the contract alone, since a list
+/// Recalls the limits that all edits keep: for the contract alone, since a list
 /// says nothing of what the types of its items keep.
-pub(crate) fn read_all_limits(edits: &[Edit])
+pub(crate) fn recall_all_limits(edits: &[Edit])
     ensures are_edits { All IsEdit edits.now }
 {
     for edit in edits {
-        edit.read_limits();
+        edit.recall_limits();
     }
 }

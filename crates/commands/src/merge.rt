@@ -60,8 +60,8 @@ impl Merge {
         if !is_path(&path) {
             return None;
         }
-        let _text = id.as_str();
-        let _body = body.text();
+        let _recalled = id.as_str();
+        let _recalled = body.text();
         Some(Merge {
             id,
             path,
@@ -130,12 +130,12 @@ fn is_path(path: &[RevId]) -> bool
     newer.generation() > 0
 }
 
-/// Reads the limits that all merges keep: for the contract alone, since a list
+/// Recalls the limits that all merges keep: for the contract alone, since a list
 /// says nothing of what the types of its items keep.
-pub(crate) fn read_all_merges(merges: &[Merge])
+pub(crate) fn recall_all_merges(merges: &[Merge])
     ensures are_merges { All IsMerge merges.now }
 {
     for merge in merges {
-        let _path = merge.path();
+        let _recalled = merge.path();
     }
 }

@@ -37,12 +37,12 @@ impl Model for AskedRevisions {
 }
 
 impl AskedRevisions {
-    /// Reads the ranges that the id and the revisions keep.
-    fn read_ranges(&self)
+    /// Recalls the ranges that the id and the revisions keep.
+    fn recall_ranges(&self)
         ensures in_range { NamesRevs self.now }
     {
-        let _text = self.id.as_str();
-        read_all_revs(&self.revisions);
+        let _recalled = self.id.as_str();
+        recall_all_revisions(&self.revisions);
     }
 }
 
@@ -105,23 +105,23 @@ impl Copied for NamedRevisions {
     }
 }
 
-/// Reads the ranges that all ids and revisions keep: for the contract alone, since a list
+/// Recalls the ranges that all ids and revisions keep: for the contract alone, since a list
 /// says nothing of what the types of its items keep.
-pub(crate) fn read_all_named(documents: &[AskedRevisions])
+pub(crate) fn recall_all_named(documents: &[AskedRevisions])
     ensures in_range { All NamesRevs documents.now }
 {
     for document in documents {
-        document.read_ranges();
+        document.recall_ranges();
     }
 }
 
-/// Reads the ranges that all revisions keep: for the contract alone, since a list
+/// Recalls the ranges that all revisions keep: for the contract alone, since a list
 /// says nothing of what the types of its items keep.
-fn read_all_revs(revisions: &[RevId])
+fn recall_all_revisions(revisions: &[RevId])
     ensures in_range { All IsRev revisions.now }
 {
     for rev in revisions {
-        let _generation = rev.generation();
+        let _recalled = rev.generation();
     }
 }
 

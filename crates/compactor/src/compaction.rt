@@ -153,8 +153,8 @@ impl Compaction {
         ensures overrun { (result ≡ Err Overrun) ↔ (is_overrun (now version.now).purges self.old.marks.purge ≡ true) }
         ensures fault { IfErr result (λ f. (f ≢ Behind) × (self.new ≡ record self.old { visited = self.new.visited })) }
     {
-        let _seen = self.seen.place();
-        let _place = version.place();
+        let _recalled = self.seen.place();
+        let _recalled = version.place();
         let Some(touched) = version.touched_since(self.update_mark, self.purge_mark) else {
             self.visited = 0;
             return Err(CopyFault::Overrun);
@@ -198,8 +198,8 @@ impl Compaction {
             × (slack < length (touched (now version.now) self.old.marks))) }
         ensures kept { self.new ≡ record self.old { visited = self.new.visited } }
     {
-        let _seen = self.seen.place();
-        let _place = version.place();
+        let _recalled = self.seen.place();
+        let _recalled = version.place();
         self.visited = 0;
         let Some(touched) = version.touched_since(self.update_mark, self.purge_mark) else {
             return Err(CopyFault::Overrun);

@@ -52,7 +52,7 @@ pub(crate) fn sliced(
     ensures visited { IfOk result (λ _. (k : ℕ) → k ≤ length (entries (now version.now).docs) → part.last ≡ last_id None (take k (ids_of (now version.now).docs))
         → visited.new ≡ visited.old + length (take n (drop k (ids_of (now version.now).docs)))) }
 {
-    let _place = version.place();
+    let _recalled = version.place();
     let Part {
         mut records,
         mut last,

@@ -45,7 +45,7 @@ pub(crate) fn taken_one(
     ensures taken { IfOk result (λ r. r ≡ record records { docs = taken_in records.docs (now version.now) id.now }) }
     ensures counted { visited.new ≡ visited.old + 1 }
 {
-    let _place = version.place();
+    let _recalled = version.place();
     let Some(stored) = look_up(visited, version, id) else {
         let fewer = records.remove(id)?;
         return Ok(fewer);
@@ -91,7 +91,7 @@ fn taken_purged(
     ensures visits { visited.new ≤ visited.old + length (take n (purges_since (now version.now).purges taken.purge_mark)) }
     ensures visited { IfOk result (λ _. visited.new ≡ visited.old + length (take n (purges_since (now version.now).purges taken.purge_mark))) }
 {
-    let _place = version.place();
+    let _recalled = version.place();
     let mut records = taken.records;
     let mut purge_mark = taken.purge_mark;
     let log = version.database().purges();
@@ -127,7 +127,7 @@ fn taken_updated(
     ensures visits { visited.new ≤ visited.old + n }
     ensures visited { IfOk result (λ _. visited.new ≡ visited.old + length (take n (changed_since every_id (now version.now) taken.update_mark))) }
 {
-    let _place = version.place();
+    let _recalled = version.place();
     let mut records = taken.records;
     let mut update_mark = taken.update_mark;
     let database = version.database();

@@ -48,7 +48,7 @@ impl DocIds {
         ensures ids { IfOk result (λ ids. ids ≡ ids_named (map (λ text. text.now) texts.now)) }
     {
         let ids = ids_in(alloc, texts)?;
-        read_all(&ids);
+        recall_all(&ids);
         let ids = set_of(alloc, ids)?;
         Ok(DocIds {
             ids: Arc::new(alloc, ids)?,
@@ -105,13 +105,13 @@ fn ids_in(alloc: Global, texts: &[&str]) -> Result<Vec<DocId>, AllocError>
     Ok(ids)
 }
 
-/// Reads the ranges that all ids keep: for the contract alone, since a list says nothing of what the types of its items
+/// Recalls the ranges that all ids keep: for the contract alone, since a list says nothing of what the types of its items
 /// keep.
-fn read_all(ids: &[DocId])
+fn recall_all(ids: &[DocId])
     ensures { All IsId ids.now }
 {
     for id in ids {
-        let _text = id.as_str();
+        let _recalled = id.as_str();
     }
 }
 

@@ -121,7 +121,7 @@ pub fn rev_len(rev: &RevId) -> usize
 fn hash_len(rev: &RevId) -> usize
     ensures { result ≡ length (compact_text (hash_data rev.now)) }
 {
-    let _generation = rev.generation();
+    let _recalled = rev.generation();
     HASH + QUOTES
 }
 

@@ -40,7 +40,7 @@ impl Path {
     pub(crate) fn alone(alloc: Global, rev: RevId) -> Result<Path, AllocError>
         ensures { IfOk result (λ path. path ≡ rev ∷ []) }
     {
-        let _generation = rev.generation();
+        let _recalled = rev.generation();
         let revisions = vec![in alloc; rev]?;
         Ok(Path { revisions })
     }

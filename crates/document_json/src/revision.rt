@@ -14,7 +14,7 @@ fn read_revision(text: &str) -> Option<RevId>
 {
     match RevId::parse(text) {
         Ok(rev) => {
-            let _generation = rev.generation();
+            let _recalled = rev.generation();
             Some(rev)
         }
         Err(_) => None,
@@ -42,7 +42,7 @@ pub(crate) fn read_revision_with(generation: u32, hash: &str) -> Option<RevId>
 {
     match RevId::from_parts(generation, hash) {
         Ok(rev) => {
-            let _generation = rev.generation();
+            let _recalled = rev.generation();
             Some(rev)
         }
         Err(_) => None,

@@ -92,7 +92,7 @@ fn read_write(
     let Some(body) = read_body(alloc, body)? else {
         return Ok(None);
     };
-    let _text = body.text();
+    let _recalled = body.text();
     Ok(Some(Write { id, deleted, body }))
 }
 

@@ -113,7 +113,7 @@ fn read_entry(
     let Some(seat) = read_seat(alloc, seat)? else {
         return Ok(None);
     };
-    let _kind = command.kind();
+    let _recalled = command.kind();
     Ok(Some(Entry {
         seat,
         command,

@@ -72,6 +72,6 @@ fn merge_of(write: Write, path: Vec<RevId>) -> Option<Merge>
     ensures found { (m : model.Merge) → IsMerge m → path.items ≡ m.newest ∷ m.older → write ≡ (m.id, m.deleted, m.body) → result ≡ Some m }
 {
     let merge = Merge::new(write.id, path, write.deleted, write.body)?;
-    let _path = merge.path();
+    let _recalled = merge.path();
     Some(merge)
 }

@@ -38,7 +38,7 @@ pub(crate) fn read_id(alloc: Global, text: &str) -> Result<Option<DocId>, AllocE
 {
     match DocId::new(alloc, text) {
         Ok(id) => {
-            let _text = id.as_str();
+            let _recalled = id.as_str();
             Ok(Some(id))
         }
         Err(IdFault::Length) => Ok(None),

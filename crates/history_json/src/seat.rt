@@ -43,6 +43,6 @@ fn seat_of(items: &[Json]) -> Option<Seat>
     let session = u16::try_from(number_in(&items[0])?).ok()?;
     let call = number_in(&items[1])?;
     let seat = Seat::new(session, call)?;
-    let _in_range = seat.session();
+    let _recalled = seat.session();
     Some(seat)
 }

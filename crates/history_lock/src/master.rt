@@ -91,9 +91,9 @@ fn current_or<R: Wait + Drop, J: Opening, G: Drop, W: Wait>(
 {
     let core = shared.core().lock(rt);
     let Ok(current) = core.current().share() else {
-        let _count = first.publication();
+        let _recalled = first.publication();
         return first;
     };
-    let _count = current.publication();
+    let _recalled = current.publication();
     current
 }

@@ -66,18 +66,18 @@ impl Purged {
     pub(crate) fn lost_leaves(&self) -> bool
         ensures { (seq : ℕ) → IsTrue result ↔ IsPurgeInfo (info_of (seq, self.now)) }
     {
-        let _id = self.id.as_str();
-        read_all(&self.leaves);
+        let _recalled = self.id.as_str();
+        recall_all(&self.leaves);
         !self.leaves.is_empty()
     }
 }
 
-/// Reads the ranges that all revisions keep: for the contract alone, since a list says nothing of what the types of its
+/// Recalls the ranges that all revisions keep: for the contract alone, since a list says nothing of what the types of its
 /// items keep.
-fn read_all(revs: &[RevId])
+fn recall_all(revs: &[RevId])
     ensures { All IsRev revs.now }
 {
     for rev in revs {
-        let _generation = rev.generation();
+        let _recalled = rev.generation();
     }
 }

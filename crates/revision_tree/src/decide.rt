@@ -22,7 +22,7 @@ pub(crate) fn mark_tree(nodes: &mut [Node]) -> bool
         return false;
     }
     mark(nodes);
-    read_all(nodes);
+    recall_all(nodes);
     are_rooted(nodes)
 }
 
@@ -104,20 +104,20 @@ fn has_its_body(node: &Node) -> bool
     node.inner || node.body.is_some()
 }
 
-/// Reads the ranges that all nodes keep: for the contract alone, since a list says nothing of what the types of its items
+/// Recalls the ranges that all nodes keep: for the contract alone, since a list says nothing of what the types of its items
 /// keep.
-fn read_all(nodes: &[Node])
+fn recall_all(nodes: &[Node])
     ensures { All IsNode nodes.now }
 {
     for node in nodes {
-        read_one(node);
+        recall_one(node);
     }
 }
 
-fn read_one(node: &Node)
+fn recall_one(node: &Node)
     ensures { IsNode node.now }
 {
-    let _generation = node.rev.generation();
+    let _recalled = node.rev.generation();
     read_body(node);
 }
 
@@ -127,5 +127,5 @@ fn read_body(node: &Node)
     let Some(body) = &node.body else {
         return;
     };
-    let _text = body.text();
+    let _recalled = body.text();
 }

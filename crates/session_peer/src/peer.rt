@@ -101,7 +101,7 @@ impl<'c, X, S: Viewer> SessionPeer<'c, X, S> {
         ensures { (entry : model.Entry) → HasEntryAt (S.known self.now.session) place entry
             → result.now ≡ entry.reply }
     {
-        let _place = self.session.place();
+        let _recalled = self.session.place();
         let Some(entry) = self.session.version().entry(place) else {
             unreachable!()
         };
@@ -165,7 +165,7 @@ impl<'c, X, S: Calls<X>> Peer for SessionPeer<'c, X, S> {
     }
 
     fn bulk(&mut self, alloc: Global, documents: &[Merge]) -> Result<(), PeerFault> {
-        let _place = self.session.place();
+        let _recalled = self.session.place();
         let command = bulk_of(alloc, documents)?;
         let place = self.write(command)?;
         if !are_taken(self.reply_at(place)) {
@@ -192,7 +192,7 @@ impl<'c, X, S: Calls<X>> Peer for SessionPeer<'c, X, S> {
         named: Option<u32>,
         last_seq: u64,
     ) -> Result<u32, PeerFault> {
-        let _place = self.session.place();
+        let _recalled = self.session.place();
         let command = put_of(alloc, id, named, last_seq)?;
         let place = self.write(command)?;
         match counter_in(self.reply_at(place)) {

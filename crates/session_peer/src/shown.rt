@@ -33,7 +33,7 @@ pub(crate) fn revisions(
     ensures { IfOk result (λ given. given
         ≡ all_brought (opened (now version.now) id.now (Some revs.now) with_paths)) }
 {
-    let _place = version.place();
+    let _recalled = version.place();
     let opened = open_revs(alloc, version, id, Some(revs), &WITH_PATHS)?;
     let revisions = bring_all(alloc, opened)?;
     Ok(Opened { revisions })

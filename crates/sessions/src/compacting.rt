@@ -40,11 +40,11 @@ impl<R: Wait + Drop, J: Opening, G: Gate + Drop> Session<Core<R, J>, J, G> {
         ensures pushes { self.new.pushes ≡ self.old.pushes }
     {
         if self.lost {
-            let _place = self.place();
+            let _recalled = self.place();
             return Err(Fault::Lost);
         }
         self.begin_compaction();
-        let _place = self.place();
+        let _recalled = self.place();
         self.refresh()?;
         self.compact_seen(rt)
     }
@@ -57,7 +57,7 @@ impl<R: Wait + Drop, J: Opening, G: Gate + Drop> Session<Core<R, J>, J, G> {
         ensures fault { IfErr result (λ e. Leaves J.base J.config e self.old self.new) }
         ensures pushes { self.new.pushes ≡ self.old.pushes }
     {
-        let _place = self.place();
+        let _recalled = self.place();
         let mut copy = Compaction::start(self.alloc, self.version())?;
         self.compact_with(rt, &mut copy)
     }
@@ -71,7 +71,7 @@ impl<R: Wait + Drop, J: Opening, G: Gate + Drop> Session<Core<R, J>, J, G> {
         ensures fault { IfErr result (λ e. Leaves J.base J.config e self.old self.new) }
         ensures pushes { self.new.pushes ≡ self.old.pushes }
     {
-        let _place = self.place();
+        let _recalled = self.place();
         slice_all(&self.shared, self.number, copy)?;
         for _try in 0..self.shared.tries() {
             if let Some(receipt) = self.attempt(rt, copy)? {
@@ -97,7 +97,7 @@ impl<R: Wait + Drop, J: Opening, G: Gate + Drop> Session<Core<R, J>, J, G> {
         ensures not_behind { result ≢ Err fault.Behind }
         ensures pushes { self.new.pushes ≡ self.old.pushes }
     {
-        let _place = self.place();
+        let _recalled = self.place();
         self.refresh()?;
         self.swap_seen(rt, copy)
     }
@@ -120,7 +120,7 @@ impl<R: Wait + Drop, J: Opening, G: Gate + Drop> Session<Core<R, J>, J, G> {
         ensures not_behind { result ≢ Err fault.Behind }
         ensures pushes { self.new.pushes ≡ self.old.pushes }
     {
-        let _place = self.place();
+        let _recalled = self.place();
         catch_up_all(&self.shared, copy, self.latest.version())?;
         self.shared.gate.at(Point::CaughtUp, self.number);
         let seat = self.seat();
@@ -150,7 +150,7 @@ impl<C: Drop, J: Opening, G: Drop> Session<C, J, G> {
         ensures not_behind { result ≢ Err fault.Behind }
         ensures pushes { self.new.pushes ≡ self.old.pushes }
     {
-        let _place = self.place();
+        let _recalled = self.place();
         match swapped {
             Swapped::Stood(answer) => self.receive_swap(answer, seat),
             Swapped::Behind => {
@@ -169,7 +169,7 @@ impl<C: Drop, J: Opening, G: Drop> Session<C, J, G> {
         requires few { self.old.tried < J.config.tries }
         ensures { self.new ≡ record self.old { tried = self.old.tried + 1 } }
     {
-        let _tries = self.shared.tries();
+        let _recalled = self.shared.tries();
         self.tried += 1;
     }
 
@@ -182,7 +182,7 @@ impl<C: Drop, J: Opening, G: Drop> Session<C, J, G> {
         ensures lost_same { IfErr result (λ _. self.new ≡ record self.old { lost = true }) }
         ensures pushes { self.new.pushes ≡ self.old.pushes }
     {
-        let _place = self.place();
+        let _recalled = self.place();
         let receipt = self.receive(answer, &Command::compact(), seat)?;
         Ok(Some(receipt))
     }

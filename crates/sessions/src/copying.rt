@@ -59,7 +59,7 @@ fn catch_up<C: Drop, J: Opening, G: Drop>(
     ensures seen { OnOk result (copy.new.seen ≡ version.now) }
     ensures fault { IfErr result IsOfCopy }
 {
-    let _place = version.place();
+    let _recalled = version.place();
     let n = shared.slice();
     let left = copy.catch_up(version, n)?;
     Ok(left)

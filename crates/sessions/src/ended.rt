@@ -72,7 +72,7 @@ impl<J: Opening> Ended<J> {
         if self.lost {
             return true;
         }
-        let _count = last.publication();
+        let _recalled = last.publication();
         calls_of(last.version(), self.number) != self.calls
     }
 }

@@ -156,7 +156,7 @@ impl<C: Drop, J: Opening, G: Drop> Session<C, J, G> {
             producer,
             shared: _,
         } = self;
-        let _count = latest.publication();
+        let _recalled = latest.publication();
         let seen = latest.front().again();
         let ended = Ended {
             number,
@@ -198,7 +198,7 @@ impl<C: Drop, J: Opening, G: Drop> Session<C, J, G> {
             return Err(Fault::EntryRefused);
         };
         let Some(found) = later else {
-            let _place = self.place();
+            let _recalled = self.place();
             return Ok(());
         };
         self.see(found);
@@ -237,7 +237,7 @@ impl<C: Drop, J: Opening, G: Drop> Session<C, J, G> {
         ensures same { self.new ≡ self.old }
         ensures refused { IfErr result (λ e. e ≡ fault.EntryRefused) }
     {
-        let _place = self.place();
+        let _recalled = self.place();
         if let Some(again) = self.looked_again() {
             return Ok(Snapshot::new(again, self.latest.front().again()));
         }
@@ -339,6 +339,6 @@ pub fn later_of<J: Opening>(mine: Published<J>, theirs: Published<J>) -> Publish
 pub(crate) fn calls_of(version: &Version, session: u16) -> u64
     ensures { result ≡ length (of_session session version.now.entries) }
 {
-    let _place = version.place();
+    let _recalled = version.place();
     version.database().calls_of(session)
 }

@@ -43,7 +43,7 @@ impl<C: Drop, J: Opening, G: Drop> Session<C, J, G> {
         ensures lost_same { self.old.lost ≡ true → self.new ≡ self.old }
         ensures refused { IfErr result (λ e. (e ≡ fault.Lost) ⊎ (e ≡ fault.EntryRefused)) }
     {
-        let _place = self.place();
+        let _recalled = self.place();
         self.begin_wait(turns);
         self.look_once_more(clock, 1)?;
         self.wait_more(clock, seq, turns)
@@ -74,7 +74,7 @@ impl<C: Drop, J: Opening, G: Drop> Session<C, J, G> {
         ensures looks { Looks J.base self.old self.new }
         ensures refused { IfErr result (λ e. e ≡ fault.EntryRefused) }
     {
-        let _place = self.place();
+        let _recalled = self.place();
         for turn in 1..turns {
             if self.is_past(seq) {
                 return Ok(true);

@@ -156,7 +156,7 @@ impl<C: Drop, J: Opening, G: Drop> Session<C, J, G> {
     pub(crate) fn seat(&self) -> Seat
         ensures { result ≡ next_seat self.now }
     {
-        let _place = self.latest.version().place();
+        let _recalled = self.latest.version().place();
         let Some(seat) = Seat::new(self.number, self.calls + 1) else {
             unreachable!()
         };
@@ -211,7 +211,7 @@ impl<C: Drop, J: Opening, G: Drop> Session<C, J, G> {
         if !self.latest.precedes(&found) {
             return Err(self.lose());
         }
-        let _place = found.version().place();
+        let _recalled = found.version().place();
         if !is_told(found.version(), place, seat, asked) {
             return Err(self.lose());
         }
@@ -233,7 +233,7 @@ impl<C: Drop, J: Opening, G: Drop> Session<C, J, G> {
         ensures pushes { self.new.pushes ≡ self.old.pushes }
     {
         let found = filled.into_found();
-        let _count = found.publication();
+        let _recalled = found.publication();
         if !self.latest.precedes(&found) || !self.has_own(&found) {
             return self.lose();
         }

@@ -125,7 +125,7 @@ fn child_written(
 {
     match RevId::child(alloc, parent.as_ref(), edit.deleted, &edit.body) {
         Ok(rev) => {
-            let _generation = rev.generation();
+            let _recalled = rev.generation();
             child_placed(alloc, limit, tree, edit, parent, rev)
         }
         Err(RevFault::LastGeneration) => Ok(Err(Refusal::GenerationLimit)),

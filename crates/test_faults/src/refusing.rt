@@ -72,7 +72,7 @@ impl Viewer for Refusing {
     }
 
     fn refresh(&mut self) -> Result<(), CallFault> {
-        let _place = self.place();
+        let _recalled = self.place();
         if self.lost {
             return Err(CallFault::Unavailable(Unavailable::Lost));
         }
@@ -85,7 +85,7 @@ impl Viewer for Refusing {
 
 impl<X> Calls<X> for Refusing {
     fn write(&mut self, _context: &X, command: Command) -> Result<u64, CallFault> {
-        let _place = self.place();
+        let _recalled = self.place();
         if self.lost {
             return Err(CallFault::Unavailable(Unavailable::Lost));
         }
@@ -93,7 +93,7 @@ impl<X> Calls<X> for Refusing {
     }
 
     fn wait_past(&mut self, _context: &X, seq: u64, _turns: u64) -> Result<bool, CallFault> {
-        let _place = self.place();
+        let _recalled = self.place();
         if self.lost {
             return Err(CallFault::Unavailable(Unavailable::Lost));
         }

@@ -30,8 +30,8 @@ pub fn graft(
     if !agrees(tree, path) {
         return Err(MergeFault::Contradiction);
     }
-    revs_in_range(path);
-    body_in_range(&body);
+    recall_revisions(path);
+    recall_body(&body);
     let grafted = RevTree::grafted(alloc, tree, path, body, deleted)?;
     Ok(grafted)
 }
@@ -65,18 +65,18 @@ fn fits(parent: Option<RevId>, next: RevId) -> bool
     parent == next
 }
 
-/// Each is a revision that a text can say.
-fn revs_in_range(path: &[RevId])
+/// Recalls that each is a revision that a text can say.
+fn recall_revisions(path: &[RevId])
     ensures { All IsRev path.now }
 {
     for rev in path {
-        let _generation = rev.generation();
+        let _recalled = rev.generation();
     }
 }
 
-/// It is a body that a document can have.
-fn body_in_range(body: &Body)
+/// Recalls that it is a body that a document can have.
+fn recall_body(body: &Body)
     ensures { IsBody body.now }
 {
-    let _text = body.text();
+    let _recalled = body.text();
 }

@@ -59,7 +59,7 @@ fn has_leaf(tree: &RevTree, named: &[RevId]) -> bool
     ensures tree { IsTree tree.now }
     ensures none { result ≡ false → (r : Rev) → is_known_leaf tree.now r ≡ true → among named.now r ≡ false }
 {
-    let _oldest = tree.oldest();
+    let _recalled = tree.oldest();
     for rev in named {
         if tree.is_leaf(*rev) {
             return true;

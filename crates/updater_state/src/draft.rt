@@ -63,7 +63,7 @@ impl Draft {
             place,
             reply,
         } = self;
-        let _count = front.count();
+        let _recalled = front.count();
         let found = Published::new(version, front);
         Outcome::new(OutcomeKind::Stood(Answer::new(found, place, reply)))
     }

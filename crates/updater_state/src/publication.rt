@@ -36,7 +36,7 @@ pub(crate) fn publish<J: Naming>(
     ensures drafts { IfOk result (λ p. (outcomes : List (Option Fate)) → all_drafts_stand p.found outcomes p.drafts.items ≡ all_stand p.found (length (newest current.now)) outcomes (entries_after J.base current.now jobs.now)) }
     ensures published { IfOk result (λ p. All (IsPublished J.base p.found) p.drafts.items) }
 {
-    let _count = current.publication();
+    let _recalled = current.publication();
     let latest = current.version();
     let version = apply_batch(latest, jobs)?;
     let shared = Arc::new(alloc, version)?;

@@ -58,7 +58,7 @@ fn publish_copy<J: Naming>(
     }
     let found = Published::new(shared, front.again());
     let answered = Published::new(again, front);
-    let _count = answered.publication();
+    let _recalled = answered.publication();
     Ok((
         found,
         Answer::new(answered, place, Reply::new(ReplyKind::Done)),

@@ -222,7 +222,7 @@ impl<J: Naming> Front<J> {
         ensures published { MatchBool result (self.new ≡ self.old ++ version.now.entries ∷ []) (self.new ≡ self.old) }
     {
         // Its history is legal, and has at most 4294967295 entries.
-        let _place = version.place();
+        let _recalled = version.place();
         let count = self.count;
         let next = count + 1;
         let mut seen = self.seen.again();

@@ -125,7 +125,7 @@ impl<J: Naming> Reader<J> {
         if !seen.precedes(&found) {
             return Ok(None);
         }
-        let _count = found.publication();
+        let _recalled = found.publication();
         Ok(Some(found))
     }
 }

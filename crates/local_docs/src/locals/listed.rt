@@ -62,8 +62,8 @@ fn are_local(documents: &[(DocId, LocalDoc)]) -> bool
 fn is_local(id: &DocId, document: &LocalDoc) -> bool
     ensures { IsTrue result ↔ IsLocal id.now document.now }
 {
-    let _id = id.as_str();
-    let _body = document.body.text();
+    let _recalled = id.as_str();
+    let _recalled = document.body.text();
     document.counter > 0
 }
 

@@ -27,7 +27,7 @@ pub fn read_differences(alloc: Global, body: &[u8]) -> Result<Differences, Fault
     ensures differences { Decides result (differences_of body.now) }
 {
     let value = read_json(alloc, body)?;
-    let _ordered = value.value();
+    let _recalled = value.value();
     let Some(object) = value.into_object() else {
         return Err(Fault::Refused(Reason::Shape));
     };

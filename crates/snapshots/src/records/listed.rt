@@ -26,11 +26,11 @@ impl Records {
         if !ids_rise(&documents) {
             return Ok(None);
         }
-        read_all(&documents);
+        recall_all(&documents);
         let Some(records) = numbered(alloc, documents, update_seq)? else {
             return Ok(None);
         };
-        records.read_numbers();
+        records.recall_numbers();
         Ok(Some(records))
     }
 
@@ -50,11 +50,11 @@ impl Records {
         self.by_number.get(&seq).is_none()
     }
 
-    /// Reads what the update numbers keep: for the contract alone.
-    fn read_numbers(&self)
+    /// Recalls what the update numbers keep: for the contract alone.
+    fn recall_numbers(&self)
         ensures { IsNumbered (database_of self.now) }
     {
-        let _numbers = &self.by_number;
+        let _recalled = &self.by_number;
     }
 }
 
@@ -79,18 +79,18 @@ fn numbered(
     Ok(Some(records))
 }
 
-/// Reads what the types of the ids and the records keep: for the contract alone, since a list says nothing of it.
-fn read_all(documents: &[(DocId, Record)])
+/// Recalls what the types of the ids and the records keep: for the contract alone, since a list says nothing of it.
+fn recall_all(documents: &[(DocId, Record)])
     ensures { All (λ d. IsRecord d.0 d.1) documents.now }
 {
     for (id, stored) in documents {
-        read_one(id, stored);
+        recall_one(id, stored);
     }
 }
 
-fn read_one(id: &DocId, stored: &Record)
+fn recall_one(id: &DocId, stored: &Record)
     ensures { IsRecord id.now stored.now }
 {
-    let _id = id.as_str();
-    let _nodes = stored.tree().nodes();
+    let _recalled = id.as_str();
+    let _recalled = stored.tree().nodes();
 }

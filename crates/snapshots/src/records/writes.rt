@@ -50,7 +50,7 @@ impl Records {
         requires { self.update_seq < u64.MAX }
         ensures { IfOk result (λ d. d ≡ updated self id.now tree) }
     {
-        let _index = &self.by_id;
+        let _recalled = &self.by_id;
         let seq = self.update_seq + 1;
         let updated = self.placed(alloc, id, Record::new(tree, seq), seq)?;
         Ok(updated)
@@ -85,7 +85,7 @@ impl Records {
     pub(crate) fn stripped(&self, alloc: Global) -> Result<Records, AllocError>
         ensures { IfOk result (λ d. d ≡ record self.now { docs = refine (λ id r. Some (stripped r)) self.now.docs }) }
     {
-        let _index = &self.by_id;
+        let _recalled = &self.by_id;
         let mut copied = Records::new(alloc).up_to(self.update_seq());
         for (id, stored) in self.iter() {
             copied = copied.put(alloc, id, stored.get().stripped(alloc)?)?;

@@ -35,7 +35,7 @@ impl Version {
         requires purges { (now self.now).purges.purge_seq ≤ largest_base }
         ensures successor { IfOk result (λ v. v ≡ record { base = Some (successor (now self.now)); entries = [] }) }
     {
-        let _place = self.place();
+        let _recalled = self.place();
         let database = self.database.uncalled()?;
         Version::over(self.alloc, database)
     }

@@ -19,5 +19,5 @@ returns c =
 
 pub returns-then-is_leaf : goal.returns-then-is_leaf
 returns-then-is_leaf c = subst (λ xs. IfOk c.from_slice.result (λ v. v.items ≡ xs))
-    (sym (latest_of-leaf c.args.tree.now c.oldest-oldest.ensures.tree.forest c.args.rev (sym c.is_leaf.ensures ∙ c.if-is_leaf.true)))
+    (sym (latest_of-leaf c.args.tree.now c.oldest-recalled.ensures.tree.forest c.args.rev (sym c.is_leaf.ensures ∙ c.if-is_leaf.true)))
     c.from_slice.ensures.items

@@ -24,7 +24,7 @@ loop-id-preserved c =
     record {
       taken = copied-more ids _ c.in-Some.id.now more c.args.part.records c.loop-id.records c.in_ok-records.records d c.loop-id.invariant.taken c.in_ok-records.ensures.taken;
       last = ap Some c.in_ok-share.ensures.same ∙ last-more ids _ c.in-Some.id.now more c.args.part.last;
-      coherent = subst (λ (l : Listing). IsCoherent l.docs d) (sym c.in_ok-records.ensures.taken) (IsCoherent-taken c.loop-id.records.docs d c.loop-id.invariant.coherent c.place-place.ensures.history.database.numbered c.in-Some.id.now);
+      coherent = subst (λ (l : Listing). IsCoherent l.docs d) (sym c.in_ok-records.ensures.taken) (IsCoherent-taken c.loop-id.records.docs d c.loop-id.invariant.coherent c.place-recalled.ensures.history.database.numbered c.in-Some.id.now);
       visits = omega (arith, c.in_ok-records.ensures.counted, c.loop-id.invariant.visits, length_push c.loop-id.yielded (c.in-Some.id, c.in-Some._stored));
     }
 

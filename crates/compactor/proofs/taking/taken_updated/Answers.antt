@@ -25,7 +25,7 @@ loop-number-preserved c =
     record {
       taken = taken-more ts _ t more c.args.taken.records c.loop-number.records c.in_ok-records.records d c.in-Some.changed.now.0 c.loop-number.invariant.taken refl c.in_ok-records.ensures.taken;
       marks = passed-more ts _ t more m (record { update = c.loop-number.update_mark; purge = c.args.taken.purge_mark }) c.loop-number.invariant.marks;
-      coherent = subst (λ (l : Listing). IsCoherent l.docs d) (sym c.in_ok-records.ensures.taken) (IsCoherent-taken c.loop-number.records.docs d c.loop-number.invariant.coherent c.place-place.ensures.history.database.numbered c.in-Some.changed.now.0);
+      coherent = subst (λ (l : Listing). IsCoherent l.docs d) (sym c.in_ok-records.ensures.taken) (IsCoherent-taken c.loop-number.records.docs d c.loop-number.invariant.coherent c.place-recalled.ensures.history.database.numbered c.in-Some.changed.now.0);
       visits = omega (arith, c.in_ok-records.ensures.counted, c.loop-number.invariant.visits, length_push c.loop-number.yielded (c.in-Some.number, c.in-Some.changed));
     }
 

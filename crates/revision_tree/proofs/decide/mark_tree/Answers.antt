@@ -26,7 +26,7 @@ are_rooted-requires c =
     record {
       sorted = subst IsSorted (sym c.mark.ensures.marks) (IsSorted-marked (entries_of nodes) nodes sorted);
       inner = subst (λ (ns : List Node). (n : Node) → Contains ns n → n.inner ≡ has_child (tree_of ns) n.rev) (sym c.mark.ensures.marks) (inner-marked nodes sorted);
-      ranges = c.read_all.ensures;
+      ranges = c.recall_all.ensures;
     }
 
 pub returns : goal.returns
@@ -39,6 +39,6 @@ returns c =
     let same : entries_of marked ≡ entries_of nodes = ap entries_of c.mark.ensures.marks ∙ entries-marked_by (entries_of nodes) nodes in
     record {
       entries = same;
-      nodes = λ e. record { sorted = rising; inner = inner; tree = c.are_rooted.ensures.0 e; range = range_of marked rising c.read_all.ensures };
+      nodes = λ e. record { sorted = rising; inner = inner; tree = c.are_rooted.ensures.0 e; range = range_of marked rising c.recall_all.ensures };
       tree = λ t h. c.are_rooted.ensures.1 (subst IsTree (sym (tree_of-list marked t (h.entries ∙ sym same))) h.tree);
     }

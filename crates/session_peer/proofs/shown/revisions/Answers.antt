@@ -6,4 +6,4 @@ use Rattle.session_peer.proofs.shown.revisions.Goals as goal
 
 pub bring_all-requires : goal.bring_all-requires
 bring_all-requires c =
-    subst ShowPaths (sym c.in_ok-opened.ensures.opened) (opened-shows (now c.args.version.now) c.args.id.now c.args.revs.now c.place-place.ensures.history.database)
+    subst ShowPaths (sym c.in_ok-opened.ensures.opened) (opened-shows (now c.args.version.now) c.args.id.now c.args.revs.now c.place-recalled.ensures.history.database)

@@ -15,5 +15,5 @@ returns-clause-rest g c =
     let n = c.slice-n.result in
     c.in_ok-left.ensures.left
     ∙ sym (length-drop n (touched d m))
-    ∙ ap length (sym (touched-rest d m n c.place-place.ensures.history.database.log.numbered))
+    ∙ ap length (sym (touched-rest d m n c.place-recalled.ensures.history.database.log.numbered))
     ∙ ap (λ (k : Marks). length (touched d k)) (sym c.in_ok-left.ensures.passed)

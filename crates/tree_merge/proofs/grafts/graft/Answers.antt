@@ -13,7 +13,7 @@ returns-then-not-agrees-clause-refused c =
     (λ _. graft_refused c.args.path.now (arc_value c.args.body) c.args.deleted t (sym c.agrees.ensures ∙ c.if-not-agrees.true), λ _. refl)
 
 pub grafted-requires-clause-body : goal.grafted-requires-clause-body
-grafted-requires-clause-body c = subst IsBody c.deref.ensures c.body_in_range.ensures
+grafted-requires-clause-body c = subst IsBody c.deref.ensures c.recall_body.ensures
 
 pub returns-in_err-grafted-clause-refused : goal.returns-in_err-grafted-clause-refused
 returns-in_err-grafted-clause-refused c =

@@ -41,4 +41,4 @@ returns-clause-published g c =
     (subst (IsNewest g.J.Naming.base v) (sym c.new-found.ensures.front) (is_newest g.J.Naming.base v c.again-front.result c.publish.new.self (ap (λ (k : Chronicle). k.base) made) published))
     (one_more c.new-found.result current v.entries c.place.result
     (c.new-found.ensures.front ∙ published ∙ ap (λ (l : List (List Entry)). l ++ v.entries ∷ []) (c.again-front.ensures.same ∙ c.front.ensures.front))
-    (omega (arith, c.publication-count.ensures.few, c.place.ensures.place, ap (λ (k : Chronicle). length k.entries) c.version-latest.ensures.newest)))
+    (omega (arith, c.publication-recalled.ensures.few, c.place.ensures.place, ap (λ (k : Chronicle). length k.entries) c.version-latest.ensures.newest)))

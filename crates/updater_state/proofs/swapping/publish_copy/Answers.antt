@@ -35,7 +35,7 @@ new-requires-3-clause-counted g c =
     let made = applied g.J.Naming.base v c.version-latest.result.now current (compaction_of c.args.seat ∷ []) (c.in-Ok.ensures.ok ∙ c.in_ok-version.ensures.compacted) c.version-latest.ensures.newest in
     let published = c.if-not-publish.ensures.published ∙ ap (λ (k : Chronicle). c.again-front.result ++ k.entries ∷ []) c.deref-2.ensures in
     let newest_is = is_newest g.J.Naming.base v c.again-front.result c.publish.new.self (ap (λ (k : Chronicle). k.base) made) published in
-    omega (arith, c.publication-count.ensures.few, c.place-place.ensures.place, ap (λ (k : Chronicle). length k.entries) c.deref.ensures, ap length newest_is.entries, ap (λ (l : List (List Entry)). length (newest l)) c.new-answered.ensures.front)
+    omega (arith, c.publication-recalled.ensures.few, c.place-place.ensures.place, ap (λ (k : Chronicle). length k.entries) c.deref.ensures, ap length newest_is.entries, ap (λ (l : List (List Entry)). length (newest l)) c.new-answered.ensures.front)
 
 pub new-requires-3-clause-stands : goal.new-requires-3-clause-stands
 new-requires-3-clause-stands g c =

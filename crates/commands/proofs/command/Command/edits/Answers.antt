@@ -3,4 +3,4 @@ use Rattle.model.specs.Command.{IsEdit}
 use Rattle.commands.proofs.command.Command.edits.Goals as goal
 
 pub invariant_of-result : goal.invariant_of-result
-invariant_of-result c = (omega arith, subst (All IsEdit) c.deref.ensures.value c.read_all_limits.ensures.are_edits)
+invariant_of-result c = (omega arith, subst (All IsEdit) c.deref.ensures.value c.recall_all_limits.ensures.are_edits)

@@ -13,9 +13,9 @@ invariant_of-result c =
     let parts = path-parts c.args.path.items path in (
       path,
       record {
-        id = c.as_str-text.ensures.is_id;
+        id = c.as_str-recalled.ensures.is_id;
         path = subst IsPath (sym parts) path;
         revs = subst (All IsRev) (sym parts) revs;
-        body = subst IsBody c.deref-2.ensures c.text-body.ensures.body;
+        body = subst IsBody c.deref-2.ensures c.text-recalled.ensures.body;
       },
     )

@@ -12,13 +12,13 @@ use Rattle.compactor.proofs.compaction.Compaction.catch_up.Goals as goal
 pub caught_up-outcome-requires-clause-coherent : goal.caught_up-outcome-requires-clause-coherent
 caught_up-outcome-requires-clause-coherent c =
     let f = c.self.inside in
-    let g = lags c.args.version.now f.seen f.last f.left f.update_mark f.purge_mark f.visited f.records c.args.self.now c.self.view_is c.requires.sliced c.requires.follows c.self.invariant c.place-seen.ensures.history in
+    let g = lags c.args.version.now f.seen f.last f.left f.update_mark f.purge_mark f.visited f.records c.args.self.now c.self.view_is c.requires.sliced c.requires.follows c.self.invariant c.place-recalled.ensures.history in
     coherent-later c.args.version.now f.records _ g
 
 pub caught_up-outcome-requires-clause-upto : goal.caught_up-outcome-requires-clause-upto
 caught_up-outcome-requires-clause-upto c =
     let f = c.self.inside in
-    let g = lags c.args.version.now f.seen f.last f.left f.update_mark f.purge_mark f.visited f.records c.args.self.now c.self.view_is c.requires.sliced c.requires.follows c.self.invariant c.place-seen.ensures.history in
+    let g = lags c.args.version.now f.seen f.last f.left f.update_mark f.purge_mark f.visited f.records c.args.self.now c.self.view_is c.requires.sliced c.requires.follows c.self.invariant c.place-recalled.ensures.history in
     upto-later c.args.version.now f.records _ g
 
 pub invariant_of-self-2 : goal.invariant_of-self-2
@@ -28,10 +28,10 @@ invariant_of-self-2 c =
     let later : Chronicle = c.args.version.now in
     let m : Marks = record { update = f.update_mark; purge = f.purge_mark } in
     let marks : Marks = record { update = r.update_mark; purge = r.purge_mark } in
-    let g = lags later f.seen f.last f.left f.update_mark f.purge_mark f.visited f.records c.args.self.now c.self.view_is c.requires.sliced c.requires.follows c.self.invariant c.place-seen.ensures.history in
+    let g = lags later f.seen f.last f.left f.update_mark f.purge_mark f.visited f.records c.args.self.now c.self.view_is c.requires.sliced c.requires.follows c.self.invariant c.place-recalled.ensures.history in
     let none : f.left ≡ 0 = none-left f.seen f.left f.update_mark f.purge_mark f.visited f.records.docs c.args.self.now c.self.view_is c.requires.sliced in
     let within = some-touched (is_overrun (now later).purges m.purge) (length (touched (now later) m)) c.in-Some.touched c.in-Some.ensures in
-    let database = c.place-place.ensures.history.database in
+    let database = c.place-recalled.ensures.history.database in
     let caught = IsCopy-caught_up later f.records m g database.numbered database.log.numbered within.0 c.args.n f.last r.records marks c.in_ok-taken.ensures.taken c.in_ok-taken.ensures.marks c.in_ok-taken.ensures.coherent in
     subst (λ (h : Chronicle). IsCopy (now h) f.last f.left r.records marks) (sym c.in_ok-taken.ensures.seen) (subst (λ n. IsCopy (now later) f.last n r.records marks) (sym none) caught)
 

@@ -12,7 +12,7 @@ pub invariant_of-result : goal.invariant_of-result
 invariant_of-result c =
     let set = c.in_ok-ids-2.ids in
     let made : c.in_ok-new.field-0.value ≡ set = c.in_ok-new.ensures.ok in
-    let each : All IsId c.in_ok-ids.ids.items = subst (All IsId) c.deref.ensures.value c.read_all.ensures in
+    let each : All IsId c.in_ok-ids.ids.items = subst (All IsId) c.deref.ensures.value c.recall_all.ensures in
     subst (λ (s : BTreeSet Id). AreIds s.keys) (sym made) (record {
       rising = rising names set.keys c.in_ok-ids-2.ensures.1;
       each = All-keys names c.in_ok-ids.ids.items set c.in_ok-ids-2.ensures IsId each;

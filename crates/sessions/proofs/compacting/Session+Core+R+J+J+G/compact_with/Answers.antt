@@ -6,7 +6,7 @@ use Rattle.sessions.proofs.compacting.Session+Core+R+J+J+G.compact_with.Goals as
 
 pub loop-try-init : goal.loop-try-init
 loop-try-init g c = record {
-  looked = only_looks g.J.Naming.base c.args.self.now c.place-place.ensures.legal c.place-place.ensures.own c.requires.begun.1;
+  looked = only_looks g.J.Naming.base c.args.self.now c.place-recalled.ensures.legal c.place-recalled.ensures.own c.requires.begun.1;
   known = c.requires.known;
   entered = c.requires.begun.1;
   tried = c.requires.begun.0;
@@ -19,7 +19,7 @@ returns-in_err-slice_all-clause-fault g c =
     let config = g.J.Opening.config in
     let old = c.args.self.now in
     let e = c.in_err-slice_all.field-0.0 in
-    passed_with (λ f. Leaves g.J.Naming.base config f old old) c.from_residual.result e c.from_residual.ensures.1 (of_copy-leaves g.J.Naming.base config e old old c.in_err-slice_all.ensures.fault (only_looks g.J.Naming.base old c.place-place.ensures.legal c.place-place.ensures.own c.requires.begun.1))
+    passed_with (λ f. Leaves g.J.Naming.base config f old old) c.from_residual.result e c.from_residual.ensures.1 (of_copy-leaves g.J.Naming.base config e old old c.in_err-slice_all.ensures.fault (only_looks g.J.Naming.base old c.place-recalled.ensures.legal c.place-recalled.ensures.own c.requires.begun.1))
 
 pub returns-in_err-receipt-clause-fault : goal.returns-in_err-receipt-clause-fault
 returns-in_err-receipt-clause-fault g c =

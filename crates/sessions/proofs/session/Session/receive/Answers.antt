@@ -18,7 +18,7 @@ returns-clause-receipt g c =
     let seat = c.args.seat in
     let asked = c.args.asked.now in
     let old = c.args.self.now in
-    let uncalled : (base_of g.J.Naming.base).calls ≡ empty = ap (λ (v : Chronicle). (base_of v.base).calls) (sym c.version.ensures.newest) ∙ c.place-place.ensures.history.base.uncalled in
+    let uncalled : (base_of g.J.Naming.base).calls ≡ empty = ap (λ (v : Chronicle). (base_of v.base).calls) (sym c.version.ensures.newest) ∙ c.place-recalled.ensures.history.base.uncalled in
     let receipt : Told = record { place = place; seat = seat; reply = c.into_parts-found.result.2; publication = c.publication-publication.result } in
     let t : IsTold (newest found) place seat asked = subst (λ (v : Chronicle). IsTold v.entries place seat asked) c.version-2.ensures.newest (c.if-not-is_told.ensures refl) in
     let seat_is = c.requires.seat in

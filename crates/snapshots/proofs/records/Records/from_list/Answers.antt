@@ -35,5 +35,5 @@ returns c =
     let made = at_some (λ (r : Listing). (entries r.docs ≡ c.args.documents.items) × (r.update_seq ≡ c.args.update_seq)) c.in_ok-records.field-0 c.in-Some.records c.in_ok-records.ensures.made c.in-Some.is in
     record {
       listed = λ l. listing_only c.args.documents.items c.args.update_seq c.in-Some.records l made.0 made.1
-          (subst (All (λ d. IsRecord d.0 d.1)) c.deref-2.ensures.value c.read_all.ensures) c.read_numbers.ensures;
+          (subst (All (λ d. IsRecord d.0 d.1)) c.deref-2.ensures.value c.recall_all.ensures) c.recall_numbers.ensures;
     }

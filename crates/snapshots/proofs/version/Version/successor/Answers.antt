@@ -10,7 +10,7 @@ pub over-requires : goal.over-requires
 over-requires c =
     let h : Chronicle = c.args.self.now in
     let uncalled : c.in_ok-database.database ≡ successor (now h) = c.in_ok-database.ensures ∙ ap successor (c.self.invariant.replayed ∙ ap now c.self.view_is) in
-    subst IsBase (sym uncalled) (IsBase-successor (now h) c.place-place.ensures.history.database c.requires.updates c.requires.purges)
+    subst IsBase (sym uncalled) (IsBase-successor (now h) c.place-recalled.ensures.history.database c.requires.updates c.requires.purges)
 
 pub returns : goal.returns
 returns c =

@@ -7,7 +7,7 @@ pub returns-clause-learns : goal.returns-clause-learns
 returns-clause-learns g c =
     let k = refused c.args.self.now.version c.args.self.now.lost in
     record {
-      looks = record { legal = c.place-place.ensures.legal; more = []; extends = (λ i. record k { seen = sym (append-nil k.seen) i }); none = refl };
+      looks = record { legal = c.place-recalled.ensures.legal; more = []; extends = (λ i. record k { seen = sym (append-nil k.seen) i }); none = refl };
       pushes = omega arith;
       lost = c.if-self.false ∙ sym c.fault_of.ensures.lost;
       reason = c.fault_of.ensures.refuses k c.args.command (record { there = c.if-self.false; queue = omega arith; full = refl }) (sym c.is_compaction.ensures);

@@ -9,7 +9,7 @@ pub overflow_add-next : goal.overflow_add-next
 overflow_add-next g c =
     let log = c.self.inside.seen.log in
     let longer : length (newest log) < length c.args.version.now.entries = rw c.self.view_is c.requires.longer in
-    omega (arith, few-publications g.J.Naming.base log c.self.invariant.2, longer, c.place-place.ensures.history.few, c.self.invariant.0)
+    omega (arith, few-publications g.J.Naming.base log c.self.invariant.2, longer, c.place-recalled.ensures.history.few, c.self.invariant.0)
 
 pub compare_exchange-found-requires : goal.compare_exchange-found-requires
 compare_exchange-found-requires g c =
@@ -33,7 +33,7 @@ invariant_of-self g c =
     let seen = c.again-seen.ensures in
     let found = c.compare_exchange-found in
     let e = c.args.version.now.entries in
-    let on : GoesOn g.J.Naming.base (newest log) e = goes_on g.J.Naming.base (newest log) c.args.version.now c.requires.base c.place-place.ensures.history.legal (rw c.self.view_is c.requires.extends) (rw c.self.view_is c.requires.longer) in
+    let on : GoesOn g.J.Naming.base (newest log) e = goes_on g.J.Naming.base (newest log) c.args.version.now c.requires.base c.place-recalled.ensures.history.legal (rw c.self.view_is c.requires.extends) (rw c.self.view_is c.requires.longer) in
     let said = found_old _ _ _ _ c.if-found-count.false found.ensures.7 in
     let is : found.new.seen.log ≡ log ++ e ∷ [] = said ∙ ap (λ (l : List (List Entry)). l ++ c.plain-offer.result.ask ∷ []) (ap (λ s. s.log) seen) ∙ ap (λ (x : List Entry). log ++ x ∷ []) c.plain-offer.ensures.1 in
     let more = grows_by g.J.Naming.base log found.new.seen.log e c.self.inside.count c.self.invariant.0 is on c.self.invariant.2 in

@@ -2,7 +2,7 @@
 use Rattle.std.proofs.Common.{take}
 use Rattle.std.specs.Prelude.{All}
 use Rattle.model.specs.Command.{IsId}
-use Rattle.document_id.proofs.ids.read_all.Given as goal
+use Rattle.document_id.proofs.ids.recall_all.Given as goal
 
 abbrev pub invariant-loop-id : goal.invariant-loop-id
 invariant-loop-id l = All IsId (take l.id-index l.ids)
