@@ -1,9 +1,9 @@
 -- The calls of a session, one after another, and what it knows after them.
-use Rattle.std.proofs.Common.{◌≡◌, ℕ, ◌⊎◌, max, Bool, false, List, [], ◌∷◌, ◌++◌, Option, None, Some, Ok, Err, inl, inr, refl, ap, sym, ◌∙◌, subst}
+use Rattle.std.proofs.Common.{◌≡◌, ℕ, max, Bool, false, List, [], ◌∷◌, ◌++◌, Option, None, Some, Ok, Err, inl, inr, refl, sym, subst}
 use Rattle.std.specs.Prelude.{Result, ⊤}
 use Rattle.std.specs.List.{FoldsTo}
 use Rattle.std.proofs.lemmas.Fn.{FoldsTo-push}
-use Rattle.model.specs.Command.{Command, Id}
+use Rattle.model.specs.Command.{Id}
 use Rattle.model.specs.History.{IsLegal, base_of}
 use Rattle.http_request.specs.declared.asked.Asked.{Asked as Asking}
 use Rattle.http_request.specs.declared.asked.Asked.TheVariants as asked
@@ -12,10 +12,17 @@ use Rattle.http_request.specs.declared.changes.Feed.{Feed}
 use Rattle.http_request.specs.declared.changes.Feed.TheVariants as feed
 use Rattle.http_handlers.specs.Calls.{Looks}
 use Rattle.http_handlers.specs.Deeds.{Deed, Refreshed, Wrote, Waited}
-use Rattle.http_handlers.specs.Doing.{CarriesOut, EndsTurns, FindsNone, IsReading, LooksForChanges, LooksOnce, Makes, MakesNone, MakesOnly, Polls, WaitsFor, WaitsTurn, WaitsTurns, WaitsWhereNone}
+use Rattle.http_handlers.specs.Doing.{CarriesOut, EndsTurns, FindsNone, IsReading, LooksForChanges, Makes, MakesNone, MakesOnly, Polls, WaitsFor, WaitsTurn, WaitsWhereNone}
 use Rattle.http_handlers.specs.Known.{Known, with_calls}
 use Rattle.http_handlers.specs.declared.calls.CallFault.{CallFault}
 use Rattle.http_handlers.proofs.Histories.{looks_itself, looks_only, looks_then}
+
+-- it asks for an answer, at once or as changes come
+abbrev pub IsQuery : Asking → Type 0
+IsQuery asked.Welcome = ⊥
+IsQuery (asked.Command form command) = ⊥
+IsQuery (asked.Query query) = ⊤
+IsQuery (asked.Changes changes) = ⊤
 
 pub folds-append : {P A : Type 0} (R : P → A → P → Type 0) (xs ys : List A) (p q r : P) → FoldsTo R p xs q → FoldsTo R q ys r → FoldsTo R p (xs ++ ys) r
 folds-append R [] ys p q r h k = subst (λ u. FoldsTo R u ys r) (sym h) k
@@ -137,10 +144,10 @@ module _ {S : Type 0} (goes : S → Deed → S → Type 0) (known : S → Known)
     read_sees (asked.Query query) old deeds new answer reading (looked_so, only, is) = looked old looked_so new only.1
     read_sees (asked.Changes changes) old deeds new answer reading carried = changes_see changes changes.feed old deeds new answer carried
 
-    -- a call that has no answer leaves no entry that is seen
-    pub refused_sees : (asking : Asking) (old : S) (deeds : List Deed) (new : S) (why : CallFault) → CarriesOut goes known turns asking old deeds new (Err why)
+    -- a query that has no answer leaves no entry
+    pub refused_sees : (asking : Asking) (old : S) (deeds : List Deed) (new : S) (why : CallFault) → IsQuery asking → CarriesOut goes known turns asking old deeds new (Err why)
         → Looks (with_calls (known old) (known new).pushes (known new).lost) (known new)
-    refused_sees asked.Welcome old deeds new why carried = absurd carried
-    refused_sees (asked.Command form command) old deeds new why carried = carried.1.learns.looks
-    refused_sees (asked.Query query) old deeds new why (looked_so, only, is) = looks_only (known old) (known new) (looked old looked_so new only.1)
-    refused_sees (asked.Changes changes) old deeds new why carried = looks_only (known old) (known new) (changes_see changes changes.feed old deeds new (Err why) carried)
+    refused_sees asked.Welcome old deeds new why query carried = absurd carried
+    refused_sees (asked.Command form command) old deeds new why query carried = absurd query
+    refused_sees (asked.Query query) old deeds new why is_query (looked_so, only, is) = looks_only (known old) (known new) (looked old looked_so new only.1)
+    refused_sees (asked.Changes changes) old deeds new why query carried = looks_only (known old) (known new) (changes_see changes changes.feed old deeds new (Err why) carried)

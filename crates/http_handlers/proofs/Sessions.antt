@@ -203,7 +203,7 @@ module _ (base : Option Database) (config : Config) (sessions queue : ℕ) (new 
     learns_of (Wrote command (Ok place)) (receipt, is, writes, kept, pushes) =
         subst (λ (p : ℕ). Learns (Seen old) (Wrote command (Ok p)) after) (sym is) (writes_of command receipt writes pushes, kept)
     learns_of (Wrote command (Err why)) (told, is, refused, forever) =
-        subst (λ (w : CallFault). Learns (Seen old) (Wrote command (Err w)) after) (sym is) (refuses_write command (is_compact command) refl told refused forever)
+        subst (λ (w : CallFault). Learns (Seen old) (Wrote command (Err w)) after) (sym is) (inl (refuses_write command (is_compact command) refl told refused forever))
 
 -- ---- what `sessions` proves of each call
 

@@ -23,20 +23,21 @@ use Rattle.http_request.specs.declared.changes.Feed.{Feed}
 use Rattle.http_request.specs.declared.changes.Feed.TheVariants as feed
 use Rattle.http_response.specs.Texts.{reply_text, answer_text, unavailable_text, no_memory_text}
 use Rattle.http_response.specs.declared.memory.MemoryFor.TheVariants as memory_for
-use Rattle.http_handlers.specs.Known.{Known, history_of, database_at, with_calls}
+use Rattle.http_response.specs.declared.no_service.Unavailable.TheVariants as unavailable
+use Rattle.http_handlers.specs.Known.{Known, history_of, database_at, sees_more, with_calls}
 use Rattle.http_handlers.specs.Changes.{MayWait, changes_query, has_changes, since_at}
-use Rattle.http_handlers.specs.Calls.{Looks, WritesCall}
+use Rattle.http_handlers.specs.Calls.{LeavesNone, LeavesUnsynced, Looks, WritesCall}
 use Rattle.http_handlers.specs.Deeds.{Deed, Refreshed}
 use Rattle.http_handlers.specs.Deeds as deed
 use Rattle.http_handlers.specs.Doing.{CarriesOut, IsNotContinuous, IsReading, LooksForChanges, Makes, WaitsWhereNone}
-use Rattle.http_handlers.specs.Outcome.{Outcome, Fixed, Wrote, WroteUntold, Read, Memory, Failed, Placed, AsksQuery, IsWritten, IsFixedText, HasFixedText, NamesSeen, TellsAt, after_closing, places_spoken, written}
+use Rattle.http_handlers.specs.Outcome.{Outcome, Fixed, Wrote, WroteUntold, WroteUnsynced, Read, Memory, Failed, Placed, AsksQuery, IsWritten, IsFixedText, HasFixedText, NamesSeen, TellsAt, after_closing, places_spoken, written}
 use Rattle.http_handlers.specs.Answers.{Answers, FollowsFrom, Sees}
 use Rattle.http_handlers.specs.Polling.{HasPolled}
 use Rattle.http_handlers.specs.Response.{turn_of, Sends, SaysLost, SaysFault, SendsDue}
 use Rattle.http_handlers.specs.declared.calls.CallFault.{CallFault}
 use Rattle.http_handlers.specs.declared.calls.CallFault.TheVariants as fault
 use Rattle.http_handlers.specs.declared.response.Sent.{Sent}
-use Rattle.http_handlers.proofs.Doing.{carried_runs, only_runs, read_sees, refused_sees, where_none_sees}
+use Rattle.http_handlers.proofs.Doing.{IsQuery, carried_runs, only_runs, read_sees, refused_sees, where_none_sees}
 use Rattle.http_handlers.proofs.Histories.{looks_length, looks_only, place_within, database_seen, database_before}
 
 -- a turn with no new entry of the session's own
@@ -125,13 +126,18 @@ module _ {S : Type 0} (goes : S → Deed → S → Type 0) (known : S → Known)
         (inr (asking, asks, why))
 
     -- a call has no answer
-    pub answers_fault : (why : CallFault) → CarriesOut goes known turns asking old deeds new (Err why) → SaysFault (length (known new).seen) closes why sent → Answer old request sent new
-    answers_fault fault.Memory carried says = answers_memory (Err fault.Memory) carried (refused_sees goes known turns asking old deeds new fault.Memory carried) (inl carried) says
-    answers_fault (fault.Unavailable why) carried says =
-        answers_none (Failed why) (Err (fault.Unavailable why)) carried (refused_sees goes known turns asking old deeds new (fault.Unavailable why) carried) refl refl refl (
+    pub answers_fault : (why : CallFault) → CarriesOut goes known turns asking old deeds new (Err why) → Looks (with_calls (known old) (known new).pushes (known new).lost) (known new)
+        → SaysFault (length (known new).seen) closes why sent → Answer old request sent new
+    answers_fault fault.Memory carried looks says = answers_memory (Err fault.Memory) carried looks (inl carried) says
+    answers_fault (fault.Unavailable why) carried looks says =
+        answers_none (Failed why) (Err (fault.Unavailable why)) carried looks refl refl refl (
           says.0 ∙ ap (λ (c : Bool). unavailable_text (length (known new).seen) (after_closing c) why) (sym says.1),
           says.1 ∙ sym closes_is,
         ) (asking, asks, carried)
+
+    -- a query has no answer
+    pub query_refused : (why : CallFault) → IsQuery asking → CarriesOut goes known turns asking old deeds new (Err why) → SaysFault (length (known new).seen) closes why sent → Answer old request sent new
+    query_refused why query carried says = answers_fault why carried (refused_sees goes known turns asking old deeds new why query carried) says
 
     -- the answer to a query
     module _ (reading : IsReading asking) (first : ℕ) (carried : CarriesOut goes known turns asking old deeds new (Ok first)) where
@@ -181,7 +187,7 @@ module _ {S : Type 0} (goes : S → Deed → S → Type 0) (known : S → Known)
     pub answers_refused : (why : CallFault) → Makes goes known old (Refreshed (Err why)) new → (query : Query) → decide request ≡ Ok (asked.Query query) → SaysFault (length (known new).seen) closes why sent
         → Answer old request sent new
     answers_refused why makes query asks says =
-        answers_fault old new sent request closes closes_is (asked.Query query) asks (Refreshed (Err why) ∷ []) why (Err why, (refl, makes), refl) says
+        query_refused old new sent request closes closes_is (asked.Query query) asks (Refreshed (Err why) ∷ []) why tt (Err why, (refl, makes), refl) says
 
   -- ---- changes
 
@@ -219,7 +225,7 @@ module _ {S : Type 0} (goes : S → Deed → S → Type 0) (known : S → Known)
     pub changes_refused : (f : Feed) → changes.feed ≡ f → (deeds : List Deed) (why : CallFault) → LooksForChanges goes known turns changes f old deeds new (Err why)
         → SaysFault (length (known new).seen) closes why sent → Answer old request sent new
     changes_refused f is deeds why looks says =
-        answers_fault old new sent request closes closes_is (asked.Changes changes) asks deeds why (carried_by f is deeds (Err why) looks) says
+        query_refused old new sent request closes closes_is (asked.Changes changes) asks deeds why tt (carried_by f is deeds (Err why) looks) says
 
     may_be_later : (here : S) (waits : List Deed) → WaitsWhereNone goes known turns changes here waits new (Ok (length (known here).seen))
         → now (history_of (known here)) ≡ database_at (known new) (length (known here).seen)
@@ -248,9 +254,54 @@ module _ {S : Type 0} (goes : S → Deed → S → Type 0) (known : S → Known)
   -- ---- an entry
 
   module _ (old new : S) (sent : Sent) (request : Request) (closes : Bool) (closes_is : request.closes ≡ closes) (form : Form) (command : Command) (asks : decide request ≡ Ok (asked.Command form command)) where
+    -- the entry of the command, as what is asked
+    is_written : (place : ℕ) (writes : WritesCall (known old) command place (known new)) → IsWritten (known new) (Requested request) place form writes.entry
+    is_written place writes = record {
+      asked = asks ∙ ap (λ (c : Command). Ok (asked.Command form c)) (sym writes.asked);
+      own = writes.own ∙ ap (λ (k : Known). k.number) (sym writes.extends);
+      told = writes.told;
+    }
+
+    writes_extends : (place : ℕ) (writes : WritesCall (known old) command place (known new)) → known new ≡ with_calls (sees_more (known old) writes.more) (known new).pushes (known new).lost
+    writes_extends place writes =
+        writes.extends ∙ (λ i. record (known old) { seen = (known old).seen ++ writes.more; pushes = (known new).pushes; lost = ap (λ (k : Known). k.lost) (sym writes.extends) i })
+
+    -- the entry is there, and the journal failed behind it
+    answers_unsynced : (place : ℕ) (writes : WritesCall (known old) command place (known new)) → Makes goes known old (deed.Wrote command (Err (fault.Unavailable unavailable.Journal))) new
+        → SaysFault (length (known new).seen) closes (fault.Unavailable unavailable.Journal) sent → Answer old request sent new
+    answers_unsynced place writes makes says =
+        let why : Result ℕ CallFault = Err (fault.Unavailable unavailable.Journal) in
+        let deeds : List Deed = deed.Wrote command why ∷ [] in
+        let within : place ≤ length (known new).seen = place_within (known new) place writes.entry writes.told in
+        record {
+          placed = record { place = length (known new).seen; outcome = WroteUnsynced place form writes.entry; deeds = deeds };
+          told = (
+            is_written place writes,
+            says.0 ∙ ap (λ (c : Bool). unavailable_text (length (known new).seen) (after_closing c) unavailable.Journal) (sym says.1),
+            says.1 ∙ sym closes_is,
+          );
+          goes_by = record {
+            runs = only_runs goes known old (deed.Wrote command why) deeds new (refl, makes);
+            follows = subst (λ (c : Command). CarriesOut goes known turns (asked.Command form c) old deeds new why) (sym writes.asked) (refl, makes);
+            sees = record {
+              more = writes.more;
+              extends = writes_extends place writes;
+              entries = writes.only;
+              places = (omega (arith, writes.above), (within, (omega arith, tt)));
+              names = refl;
+            };
+          };
+        }
+
     -- the call has no answer
     pub command_refused : (why : CallFault) → Makes goes known old (deed.Wrote command (Err why)) new → SaysFault (length (known new).seen) closes why sent → Answer old request sent new
-    command_refused why makes says = answers_fault old new sent request closes closes_is (asked.Command form command) asks (deed.Wrote command (Err why) ∷ []) why (refl, makes) says
+    command_refused why makes says = by_learnt makes.learns
+      where
+        by_learnt : LeavesNone (known old) command why (known new) ⊎ LeavesUnsynced (known old) command why (known new) → Answer old request sent new
+        by_learnt (inl leaves) = answers_fault old new sent request closes closes_is (asked.Command form command) asks (deed.Wrote command (Err why) ∷ []) why (refl, makes) leaves.looks says
+        by_learnt (inr leaves) =
+            answers_unsynced leaves.place leaves.writes (subst (λ (w : CallFault). Makes goes known old (deed.Wrote command (Err w)) new) leaves.why_is makes)
+            (subst (λ (w : CallFault). SaysFault (length (known new).seen) closes w sent) leaves.why_is says)
 
     module _ (place : ℕ) (makes : Makes goes known old (deed.Wrote command (Ok place)) new) where
       abbrev writes : WritesCall (known old) command place (known new)
@@ -269,20 +320,13 @@ module _ {S : Type 0} (goes : S → Deed → S → Type 0) (known : S → Known)
               follows = follows;
               sees = record {
                 more = writes.more;
-                extends = writes.extends ∙ (λ i. record (known old) { seen = (known old).seen ++ writes.more; pushes = (known new).pushes; lost = ap (λ (k : Known). k.lost) (sym writes.extends) i });
+                extends = writes_extends place writes;
                 entries = writes.only ∙ sym one;
                 places = rw spoken (omega (arith, writes.above), (place_within (known new) place writes.entry writes.told, tt));
                 names = names;
               };
             };
           }
-
-      is_written : IsWritten (known new) (Requested request) place form writes.entry
-      is_written = record {
-        asked = asks ∙ ap (λ (c : Command). Ok (asked.Command form c)) (sym writes.asked);
-        own = writes.own ∙ ap (λ (k : Known). k.number) (sym writes.extends);
-        told = writes.told;
-      }
 
       follows : CarriesOut goes known turns (asked.Command form writes.entry.command) old (deed.Wrote command (Ok place) ∷ []) new (Ok place)
       follows = subst (λ (c : Command). CarriesOut goes known turns (asked.Command form c) old (deed.Wrote command (Ok place) ∷ []) new (Ok place)) (sym writes.asked) (refl, makes)
@@ -291,8 +335,8 @@ module _ {S : Type 0} (goes : S → Deed → S → Type 0) (known : S → Known)
       pub answers_command : SendsDue (reply_text place (after_closing closes) form writes.entry.command writes.entry.reply) closes place memory_for.Reply sent → Answer old request sent new
       answers_command (inl sends) =
           answers_entry (Wrote form writes.entry) refl refl tt (
-            is_written,
+            is_written place writes,
             sends.0 ∙ ap (λ (c : Bool). reply_text place (after_closing c) form writes.entry.command writes.entry.reply) (sym sends.1),
             sends.1 ∙ sym closes_is,
           ) follows
-      answers_command (inr says) = answers_entry (WroteUntold form writes.entry) refl refl tt (is_written, says.0, says.1) follows
+      answers_command (inr says) = answers_entry (WroteUntold form writes.entry) refl refl tt (is_written place writes, says.0, says.1) follows

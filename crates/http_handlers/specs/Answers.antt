@@ -8,13 +8,13 @@ use Rattle.http_framing.specs.Input.{Item}
 use Rattle.http_request.specs.declared.asked.Asked.{Asked as Asking}
 use Rattle.http_request.specs.declared.asked.Asked.TheVariants as asked
 use Rattle.http_request.specs.declared.changes.ChangesAsked.{ChangesAsked}
+use Rattle.http_response.specs.declared.no_service.Unavailable.TheVariants as unavailable
 use Rattle.http_connection.specs.Turn.{Turn}
 use Rattle.http_handlers.specs.Deeds.{Deed}
 use Rattle.http_handlers.specs.Doing.{CarriesOut, IsReading, Makes, MakesNone}
 use Rattle.http_handlers.specs.Feeding.{Feeds}
 use Rattle.http_handlers.specs.Known.{Known, sees_more, with_calls}
-use Rattle.http_handlers.specs.Outcome.{Outcome, Fixed, Wrote, WroteUntold, Read, Fed, Memory, Failed, Placed, Asks, IsToldAt, NamesSeen, places_spoken, written}
-use Rattle.http_handlers.specs.declared.calls.CallFault.{CallFault}
+use Rattle.http_handlers.specs.Outcome.{Outcome, Fixed, Wrote, WroteUntold, WroteUnsynced, Read, Fed, Memory, Failed, Placed, Asks, IsToldAt, NamesSeen, places_spoken, written}
 use Rattle.http_handlers.specs.declared.calls.CallFault.TheVariants as fault
 
 -- What a session had seen before a turn and after it: its new entries of its own are those that were written, and the
@@ -42,6 +42,8 @@ module _ {S : Type 0} (goes : S → Deed → S → Type 0) (known : S → Known)
   FollowsFrom item place Fixed old deeds new = MakesNone old deeds new
   FollowsFrom item place (Wrote form entry) old deeds new = CarriesOut goes known turns (asked.Command form entry.command) old deeds new (Ok place)
   FollowsFrom item place (WroteUntold form entry) old deeds new = CarriesOut goes known turns (asked.Command form entry.command) old deeds new (Ok place)
+  FollowsFrom item place (WroteUnsynced at form entry) old deeds new =
+      CarriesOut goes known turns (asked.Command form entry.command) old deeds new (Err (fault.Unavailable unavailable.Journal))
   FollowsFrom item place (Read first query answer) old deeds new =
       (asking : Asking) × Asks item asking × CarriesOut goes known turns asking old deeds new (Ok first)
   FollowsFrom item place (Fed pieces ending) old deeds new =

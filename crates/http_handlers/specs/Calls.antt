@@ -1,5 +1,5 @@
 -- What the calls of a session do.
-use Rattle.std.specs.Prelude.{◌≡◌, ℕ, ◌+◌, ◌^◌, ◌<◌, ◌≤◌, ◌⊎◌, List, [], ◌∷◌, length, nat_lt, Bool, true, false, Result, Ok, Err, ⊤}
+use Rattle.std.specs.Prelude.{◌≡◌, ℕ, ◌+◌, ◌^◌, ◌<◌, ◌≤◌, ◌⊎◌, List, [], ◌∷◌, length, nat_lt, Bool, true, false, Ok, Err}
 use Rattle.model.specs.Command.{Command, Entry}
 use Rattle.model.specs.History.{IsLegal, of_session, base_of}
 use Rattle.model.specs.World.{is_compact}
@@ -41,6 +41,18 @@ RefusesLook k (fault.Unavailable unavailable.Full) = ⊥
 RefusesLook k (fault.Unavailable unavailable.Behind) = ⊥
 RefusesLook k (fault.Unavailable unavailable.Overrun) = ⊥
 RefusesLook k (fault.Unavailable unavailable.Entry) = k.lost ≡ false
+RefusesLook k (fault.Unavailable unavailable.Journal) = ⊥
+
+-- a wait: a look of it is refused, or the history is full and its epoch ends
+abbrev pub RefusesWait : Known → CallFault → Type 0
+RefusesWait k fault.Memory = ⊥
+RefusesWait k (fault.Unavailable unavailable.Busy) = ⊥
+RefusesWait k (fault.Unavailable unavailable.Lost) = k.lost ≡ true
+RefusesWait k (fault.Unavailable unavailable.Full) = k.lost ≡ false
+RefusesWait k (fault.Unavailable unavailable.Behind) = ⊥
+RefusesWait k (fault.Unavailable unavailable.Overrun) = ⊥
+RefusesWait k (fault.Unavailable unavailable.Entry) = k.lost ≡ false
+RefusesWait k (fault.Unavailable unavailable.Journal) = ⊥
 
 -- more sessions share the queue than it has places, or this one has pushed 2^62 jobs
 abbrev pub CanBeBusy : Known → Type 0
@@ -56,6 +68,7 @@ RefusesWrite old command new (fault.Unavailable unavailable.Full) = (old.lost �
 RefusesWrite old command new (fault.Unavailable unavailable.Behind) = (old.lost ≡ false) × (is_compact command ≡ true)
 RefusesWrite old command new (fault.Unavailable unavailable.Overrun) = (old.lost ≡ false) × (is_compact command ≡ true)
 RefusesWrite old command new (fault.Unavailable unavailable.Entry) = (old.lost ≡ false) × (is_compact command ≡ true)
+RefusesWrite old command new (fault.Unavailable unavailable.Journal) = old.lost ≡ false
 
 -- the reason says that the session is lost
 abbrev pub says_lost : CallFault → Bool
@@ -66,6 +79,7 @@ says_lost (fault.Unavailable unavailable.Full) = false
 says_lost (fault.Unavailable unavailable.Behind) = false
 says_lost (fault.Unavailable unavailable.Overrun) = false
 says_lost (fault.Unavailable unavailable.Entry) = false
+says_lost (fault.Unavailable unavailable.Journal) = false
 
 -- A write or a compaction has no entry that the session sees, for this reason: it may have looked, and pushed one job more
 -- at most. The session is lost from then on exactly where that is the reason.
@@ -75,12 +89,19 @@ pub record LeavesNone (old : Known) (command : Command) (why : CallFault) (new :
   pub lost : new.lost ≡ says_lost why
   pub reason : RefusesWrite old command new why
 
+-- A write or a compaction has an entry that the session sees, and the journal failed before it was known to be kept.
+pub record LeavesUnsynced (old : Known) (command : Command) (why : CallFault) (new : Known) : Type 0 where
+  pub why_is : why ≡ fault.Unavailable unavailable.Journal
+  pub place : ℕ
+  pub writes : WritesCall old command place new
+  pub kept : old.lost ≡ false
+
 -- ---- what a session knows after a call
 
 abbrev pub Learns : Known → Deed → Known → Type 0
 Learns old (Refreshed (Ok done)) new = Looks old new × (old.lost ≡ false)
 Learns old (Refreshed (Err why)) new = Looks old new × (new ≡ old) × RefusesLook old why
 Learns old (Wrote command (Ok place)) new = WritesCall old command place new × (old.lost ≡ false)
-Learns old (Wrote command (Err why)) new = LeavesNone old command why new
+Learns old (Wrote command (Err why)) new = LeavesNone old command why new ⊎ LeavesUnsynced old command why new
 Learns old (Waited seq turns (Ok past)) new = Looks old new × (old.lost ≡ false) × (past ≡ nat_lt seq (update_seq_of new))
-Learns old (Waited seq turns (Err why)) new = Looks old new × (old.lost ≡ true → new ≡ old) × RefusesLook old why
+Learns old (Waited seq turns (Err why)) new = Looks old new × (old.lost ≡ true → new ≡ old) × RefusesWait old why

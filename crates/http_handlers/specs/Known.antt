@@ -1,5 +1,5 @@
 -- What a session knows.
-use Rattle.std.specs.Prelude.{ℕ, Bool, List, [], ◌++◌, take, Option}
+use Rattle.std.specs.Prelude.{ℕ, Bool, List, ◌++◌, take, Option}
 use Rattle.model.specs.Command.{Entry}
 use Rattle.model.specs.Database.{Database}
 use Rattle.model.specs.History.{Chronicle, replay, base_of, now}

@@ -23,6 +23,7 @@ use Rattle.http_response.specs.declared.connection.Connection.{Connection as Aft
 use Rattle.http_response.specs.declared.connection.Connection.TheVariants as after
 use Rattle.http_response.specs.declared.memory.MemoryFor.TheVariants as memory_for
 use Rattle.http_response.specs.declared.no_service.Unavailable.{Unavailable}
+use Rattle.http_response.specs.declared.no_service.Unavailable.TheVariants as unavailable
 use Rattle.http_connection.specs.Turn.{Turn}
 use Rattle.http_handlers.specs.Known.{Known, HasEntryAt, database_at}
 use Rattle.http_handlers.specs.Changes.{MayWait, changes_query}
@@ -38,6 +39,8 @@ pub data Outcome : Type 0 where
   Wrote : Form → Entry → Outcome
   -- the command has this entry, and memory for the text of its reply was refused
   WroteUntold : Form → Entry → Outcome
+  -- the command has this entry, at this place, and the journal failed before it was known to be kept
+  WroteUnsynced : ℕ → Form → Entry → Outcome
   -- the query, which was asked at this place or at the one that the response names, has this answer
   Read : ℕ → Query → Answer → Outcome
   -- the rows of a feed were given, piece by piece, until it ended so
@@ -58,6 +61,7 @@ abbrev pub places_spoken : ℕ → Outcome → List ℕ
 places_spoken place Fixed = place ∷ []
 places_spoken place (Wrote form entry) = place ∷ []
 places_spoken place (WroteUntold form entry) = place ∷ []
+places_spoken place (WroteUnsynced at form entry) = at ∷ place ∷ []
 places_spoken place (Read first query answer) = first ∷ place ∷ []
 places_spoken place (Fed pieces ending) = place ∷ feed_places pieces ending
 places_spoken place Memory = place ∷ []
@@ -68,6 +72,7 @@ abbrev pub written : Outcome → List Entry
 written Fixed = []
 written (Wrote form entry) = entry ∷ []
 written (WroteUntold form entry) = entry ∷ []
+written (WroteUnsynced at form entry) = entry ∷ []
 written (Read first query answer) = []
 written (Fed pieces ending) = []
 written Memory = []
@@ -78,6 +83,7 @@ abbrev pub NamesSeen : Outcome → ℕ → List Entry → Type 0
 NamesSeen Fixed place seen = place ≡ length seen
 NamesSeen (Wrote form entry) place seen = ⊤
 NamesSeen (WroteUntold form entry) place seen = ⊤
+NamesSeen (WroteUnsynced at form entry) place seen = place ≡ length seen
 NamesSeen (Read first query answer) place seen = ⊤
 NamesSeen (Fed pieces ending) place seen = ⊤
 NamesSeen Memory place seen = place ≡ length seen
@@ -156,6 +162,10 @@ module _ (k : Known) where
       IsWritten turn.item place form entry
       × (turn.text ≡ no_memory_text place extent.Whole memory_for.Reply)
       × (turn.closes ≡ true)
+  TellsAt turn place (WroteUnsynced at form entry) =
+      IsWritten turn.item at form entry
+      × (turn.text ≡ unavailable_text place (after_closing turn.closes) unavailable.Journal)
+      × (turn.closes ≡ closes_connection turn.item)
   TellsAt turn place (Read first query answer) =
       IsRead turn.item first place query answer
       × (Some turn.text ≡ answer_text place (after_closing turn.closes) query answer)

@@ -1,6 +1,5 @@
 -- Sessions on threads, as connections see them, and what `sessions` proves of their calls.
-use Rattle.std.specs.Prelude.{◌≡◌, ℕ, ◌+◌, ◌^◌, ◌<◌, ◌≤◌, ◌⊎◌, length, nat_lt, Bool, true, false, Option, Result, Ok, Err}
-use Rattle.model.specs.Command.{Command}
+use Rattle.std.specs.Prelude.{◌≡◌, ℕ, ◌+◌, ◌^◌, ◌<◌, ◌≤◌, ◌⊎◌, length, nat_lt, Bool, true, false, Option, Ok, Err}
 use Rattle.model.specs.Database.{Database}
 use Rattle.model.specs.History.{now}
 use Rattle.model.specs.World.{Config, is_compact}

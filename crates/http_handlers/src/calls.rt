@@ -15,8 +15,9 @@ use snapshots::Version;
 pub enum CallFault {
     /// Memory was refused. The call left no entry.
     Memory,
-    /// The call has no answer for this reason. It left no entry, but for [`Unavailable::Lost`]: of the
-    /// call that lost the session one may be there, which the session never sees.
+    /// The call has no answer for this reason. It left no entry, but for two reasons. With [`Unavailable::Lost`] one of
+    /// the call that lost the session may be there, which the session never sees. With [`Unavailable::Journal`] one of the
+    /// call may be there, which the session sees, and which the journal may not have kept.
     Unavailable(Unavailable),
 }
 
@@ -57,8 +58,9 @@ pub trait Calls<X>: Viewer {
     ///
     /// # Errors
     ///
-    /// After each but [`Unavailable::Lost`] the call left no entry. After that one it may be there, the
-    /// session never sees it, and all later calls answer the same.
+    /// After each but [`Unavailable::Lost`] and [`Unavailable::Journal`] the call left no entry. After the first it may
+    /// be there, the session never sees it, and all later calls answer the same. After the second it may be there, and
+    /// the session sees it.
     fn write(&mut self, context: &X, command: Command) -> Result<u64, CallFault>
         ensures goes { Self.goes self.old (deed.Wrote command result) self.new }
         ensures learns { Learns (Self.known self.old) (deed.Wrote command result) (Self.known self.new) };
@@ -69,7 +71,8 @@ pub trait Calls<X>: Viewer {
     ///
     /// # Errors
     ///
-    /// As [`refresh`](Viewer::refresh), at the first look that is refused.
+    /// As [`refresh`](Viewer::refresh), at the first look that is refused, or [`Unavailable::Full`] where the history
+    /// is full and its epoch ends.
     fn wait_past(&mut self, context: &X, seq: u64, turns: u64) -> Result<bool, CallFault>
         ensures goes { Self.goes self.old (deed.Waited seq turns result) self.new }
         ensures learns { Learns (Self.known self.old) (deed.Waited seq turns result) (Self.known self.new) };

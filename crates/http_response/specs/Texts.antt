@@ -55,6 +55,7 @@ unavailable_reason unavailable.Full = codes "full"
 unavailable_reason unavailable.Behind = codes "behind"
 unavailable_reason unavailable.Overrun = codes "overrun"
 unavailable_reason unavailable.Entry = codes "entry"
+unavailable_reason unavailable.Journal = codes "journal"
 
 abbrev pub unavailable_body : Unavailable → List ℕ
 unavailable_body why = problem_text (codes "unavailable") (unavailable_reason why)

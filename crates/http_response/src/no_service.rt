@@ -7,7 +7,8 @@ use crate::connection::Connection;
 use crate::response::Response;
 use crate::status::StatusCode;
 
-/// Why a call has no answer, though memory was there. It left no entry, but for [`Unavailable::Lost`].
+/// Why a call has no answer, though memory was there. It left no entry, but for [`Unavailable::Lost`] and
+/// [`Unavailable::Journal`].
 #[derive(Clone, Copy, Debug, PartialEq, Eq)]
 pub enum Unavailable {
     /// The queue of commands was full.
@@ -22,6 +23,9 @@ pub enum Unavailable {
     Overrun,
     /// The session could not enter what is published, or a share of it was refused.
     Entry,
+    /// The journal of the history failed: an entry of the call, if there is one, may be lost when the server
+    /// ends.
+    Journal,
 }
 
 /// The response to a call that has no answer.
@@ -43,5 +47,6 @@ fn body_of(why: Unavailable) -> &'static str
         Unavailable::Behind => r#"{"error":"unavailable","reason":"behind"}"#,
         Unavailable::Overrun => r#"{"error":"unavailable","reason":"overrun"}"#,
         Unavailable::Entry => r#"{"error":"unavailable","reason":"entry"}"#,
+        Unavailable::Journal => r#"{"error":"unavailable","reason":"journal"}"#,
     }
 }

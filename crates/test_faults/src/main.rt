@@ -13,13 +13,14 @@ use http_response::Unavailable;
 use std::alloc::Global;
 use std::test::Fail;
 
-const REASONS: [Unavailable; 6] = [
+const REASONS: [Unavailable; 7] = [
     Unavailable::Busy,
     Unavailable::Lost,
     Unavailable::Full,
     Unavailable::Behind,
     Unavailable::Overrun,
     Unavailable::Entry,
+    Unavailable::Journal,
 ];
 
 const REQUESTS: [&str; 4] = [

@@ -124,6 +124,7 @@ fn fault_of_edit(why: Unavailable) -> CallFault
     match why {
         Unavailable::Busy => CallFault::Unavailable(Unavailable::Busy),
         Unavailable::Full => CallFault::Unavailable(Unavailable::Full),
+        Unavailable::Journal => CallFault::Unavailable(Unavailable::Journal),
         Unavailable::Lost | Unavailable::Behind | Unavailable::Overrun | Unavailable::Entry => {
             CallFault::Memory
         }
@@ -141,5 +142,6 @@ fn fault_of_compaction(why: Unavailable) -> CallFault
         Unavailable::Behind => CallFault::Unavailable(Unavailable::Behind),
         Unavailable::Overrun => CallFault::Unavailable(Unavailable::Overrun),
         Unavailable::Entry => CallFault::Unavailable(Unavailable::Entry),
+        Unavailable::Journal => CallFault::Unavailable(Unavailable::Journal),
     }
 }

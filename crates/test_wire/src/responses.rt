@@ -104,6 +104,7 @@ fn why_named(name: &str) -> Option<Unavailable> {
         "behind" => Some(Unavailable::Behind),
         "overrun" => Some(Unavailable::Overrun),
         "entry" => Some(Unavailable::Entry),
+        "journal" => Some(Unavailable::Journal),
         _ => None,
     }
 }
