@@ -317,8 +317,9 @@ def fewer_workers(times):
             process.wait()
             continue
         serving = int(said.group(1))
-        if serving == 0 and ends_within(process, 3):
-            check(process.returncode == 1, "status %s where no worker can be had", process.returncode)
+        if serving == 0:
+            check(ends_within(process, 3) and process.returncode == 1, "status %s where no worker can be had", process.returncode)
+            process.kill()
             ends += 1
             break
         # A worker that has a thread and gets its memory later serves too.

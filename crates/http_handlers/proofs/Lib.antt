@@ -7,4 +7,4 @@ pub mod Told
 pub mod Feeds
 pub mod Fed
 pub mod Sessions
-pub mod Workers
+pub mod Accepting

@@ -1,5 +1,5 @@
 -- What a worker does with the session that it is lent.
-use Rattle.std.specs.Prelude.{◌≡◌, ℕ, ◌==◌, List, length, Option, None, Some, if◌then◌else◌}
+use Rattle.std.specs.Prelude.{◌≡◌, ℕ, ◌≤◌, ◌==◌, List, length, Option, None, Some, if◌then◌else◌}
 use Rattle.std.specs.List.{FoldsTo}
 use Rattle.http_connection.specs.Served.{Streams}
 use Rattle.http_connection.specs.declared.outcome.Ended.{Ended}
@@ -33,3 +33,14 @@ module _ {S : Type 0} (goes : S → Deed → S → Type 0) (known : S → Known)
     pub accepted : List (Option Ended)
     pub runs : FoldsTo Accepts old accepted new
     pub all : length accepted ≡ most_connections connections
+
+  -- The same, but for those that are not accepted any more where they end early.
+  pub record ServesSome (connections : ℕ) (old new : S) : Type 0 where
+    pub accepted : List (Option Ended)
+    pub runs : FoldsTo Accepts old accepted new
+    pub some : length accepted ≤ most_connections connections
+
+  -- all of them, or some where there is a flag, which ends them early
+  abbrev pub ServesUntil : {F : Type 0} → Option F → ℕ → S → S → Type 0
+  ServesUntil None connections old new = ServesAll connections old new
+  ServesUntil (Some over) connections old new = ServesSome connections old new

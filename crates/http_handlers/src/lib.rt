@@ -20,12 +20,13 @@ mod setting;
 mod turn;
 mod waiting;
 mod watch;
+mod workers;
 mod writing;
 
 pub use calls::{CallFault, Calls, Viewer};
 pub use connection::serve;
 pub use listening::{Terms, listen};
-pub use muster::can_start;
 pub use setting::Setting;
 pub use sockets::Pace;
 pub use watch::Watch;
+pub use workers::Workers;

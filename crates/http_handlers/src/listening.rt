@@ -1,6 +1,6 @@
 //! Connections that come to a listener, each session with a worker of its own.
 ghost use Rattle.std.specs.Prelude.{◌≡◌, ℕ, ◌<◌, length, slice_index_or};
-ghost use Rattle.http_handlers.specs.Listening.{Serves, ServesAll, most_connections};
+ghost use Rattle.http_handlers.specs.Listening.{Serves, ServesUntil, most_connections};
 
 use crate::buffers::Buffers;
 use crate::calls::Calls;
@@ -8,10 +8,12 @@ use crate::connection::serve_in;
 use crate::muster::Muster;
 use crate::setting::Setting;
 use crate::watch::Watch;
+use crate::workers::Workers;
 use http_connection::{Cause, Ended};
-use sockets::{Pace, TimedReader, TimedWriter, hang_up};
+use sockets::{Pace, TimedReader, TimedWriter, hang_up, is_set};
 use std::net::{TcpListener, TcpStream};
 use std::sync::Wait;
+use std::sync::atomic::AtomicBool;
 use std::thread;
 use std::thread::Threads;
 use std::time::{Clock, Duration};
@@ -33,54 +35,66 @@ pub struct Terms {
 /// which accepts so many of them, one after the other, or goes on without end where the number is 0.
 /// One that can't be accepted counts, and the next is waited for a millisecond later.
 ///
+/// Where a flag is given, it ends them early: once it is set, each worker ends the connection that it has behind the
+/// request that is then awaited, for which it waits a tenth of a second, and accepts no other. One that waits for a
+/// connection is woken by one.
+///
 /// A worker takes what it keeps before it accepts its first connection, and waits where memory for it is
-/// refused. Where no thread can be made for a worker, another one serves its connections after its own. Where fewer workers are
-/// ready than there are sessions, that is said.
+/// refused; one of them has what the workers were made with. Where no thread can be made for a worker,
+/// another one serves its connections after its own. Where fewer workers are ready than there are
+/// sessions, that is said.
 pub fn listen<R: Threads + Wait + Clock + Sync, X: Sync, S: Calls<X> + Send, V: Watch + Sync>(
     rt: &R,
     listener: &TcpListener,
     sessions: &mut [S],
     terms: Terms,
+    over: Option<&AtomicBool>,
     setting: &Setting<'_, X>,
-    watch: &V,
+    workers: &Workers<'_, V>,
 )
     ensures same_number { length sessions.new ≡ length sessions.old }
     ensures each { (i : ℕ) (d : S) → i < length sessions.old
-        → ServesAll S.goes S.known setting.now terms.connections (slice_index_or sessions.old i d)
-        (slice_index_or sessions.new i d) }
+        → ServesUntil S.goes S.known setting.now over.entry terms.connections
+        (slice_index_or sessions.old i d) (slice_index_or sessions.new i d) }
 {
-    let workers = sessions.len();
-    if workers == 0 {
+    let asked = sessions.len();
+    if asked == 0 {
         return;
     }
-    let muster = Muster::new(workers as u64);
+    let muster = Muster::new(asked as u64);
     thread::for_each_mut(
         rt,
         sessions,
-        workers,
-        &|_, session| work(rt, listener, session, terms, setting, watch, &muster),
+        asked,
+        &|_, session| {
+            let mut buffers = muster.get_ready(rt, setting.alloc, workers);
+            work(rt, listener, &mut buffers, session, terms, over, setting);
+            workers.give_back(buffers);
+        },
     );
 }
 
 /// Serves connections of one session.
-fn work<R: Wait + Clock, X, S: Calls<X>, V: Watch>(
-    rt: &R,
+fn work<R: Clock, X, S: Calls<X>>(
+    clock: &R,
     listener: &TcpListener,
+    buffers: &mut Buffers,
     session: &mut S,
     terms: Terms,
+    over: Option<&AtomicBool>,
     setting: &Setting<'_, X>,
-    watch: &V,
-    muster: &Muster,
 )
-    ensures { ServesAll S.goes S.known setting.now terms.connections session.old session.new }
+    ensures { ServesUntil S.goes S.known setting.now over.entry terms.connections session.old session.new }
 {
-    let mut buffers = muster.get_ready(rt, setting.alloc, watch);
     for _ in 0..most_of(terms.connections) {
+        if is_set(over) {
+            return;
+        }
         match listener.accept() {
             Ok((socket, _peer)) => {
-                serve_socket(rt, &mut buffers, &socket, session, terms.pace, setting);
+                serve_socket(clock, buffers, &socket, session, terms.pace, over, setting);
             }
-            Err(_) => thread::sleep(rt, Duration::from_millis(REST_MILLISECONDS)),
+            Err(_) => thread::sleep(clock, Duration::from_millis(REST_MILLISECONDS)),
         }
     }
 }
@@ -96,19 +110,20 @@ fn most_of(connections: u32) -> u64
     connections as u64
 }
 
-/// Serves one connection, whose client is given up in time.
+/// Serves one connection, whose client is given up in time, and which ends once the flag is set.
 fn serve_socket<R: Clock, X, S: Calls<X>>(
     clock: &R,
     buffers: &mut Buffers,
     socket: &TcpStream,
     session: &mut S,
     pace: Pace,
+    over: Option<&AtomicBool>,
     setting: &Setting<'_, X>,
 ) -> Ended
     ensures { Serves S.goes S.known setting.now session.old result session.new }
 {
     let _nodelay = socket.set_nodelay(true);
-    let mut reader = TimedReader::new(socket, clock, pace);
+    let mut reader = TimedReader::new(socket, clock, pace, over);
     let mut writer = TimedWriter::new(socket, clock, pace.patience);
     let ended = serve_in(
         &mut buffers.window,
@@ -117,7 +132,7 @@ fn serve_socket<R: Clock, X, S: Calls<X>>(
         session,
         setting,
     );
-    if ended.cause == Cause::Closed {
+    if ended.cause == Cause::Closed || is_set(over) {
         // A request that was refused is still in the window.
         hang_up(socket, clock, buffers.window.bytes().is_empty());
     }

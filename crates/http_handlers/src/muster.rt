@@ -2,11 +2,11 @@
 
 use crate::buffers::Buffers;
 use crate::watch::Watch;
+use crate::workers::Workers;
 use std::alloc::Global;
 use std::sync::Wait;
 use std::sync::atomic::{AtomicU64, Ordering};
 use std::thread;
-use std::thread::Threads;
 use std::time::{Clock, Duration};
 
 /// How many milliseconds lie between two looks for workers that get ready.
@@ -39,27 +39,27 @@ impl Muster {
         &self,
         rt: &R,
         alloc: Global,
-        watch: &V,
+        workers: &Workers<'_, V>,
     ) -> Buffers {
         let is_first = self.started.fetch_add(1, Ordering::SeqCst) == 0;
-        let taken = Buffers::new(alloc);
+        let taken = workers.buffers(alloc);
         if taken.is_ok() {
             self.ready.fetch_add(1, Ordering::SeqCst);
         }
         if is_first {
-            self.report(rt, watch);
+            self.report(rt, workers);
         }
         match taken {
             Ok(buffers) => buffers,
-            Err(_) => Buffers::wait_for(rt, alloc),
+            Err(_) => workers.wait_for_buffers(rt, alloc),
         }
     }
 
     /// Waits for the workers, and says how many are ready where some are missing.
-    fn report<R: Clock, V: Watch>(&self, clock: &R, watch: &V) {
+    fn report<R: Clock, V: Watch>(&self, clock: &R, workers: &Workers<'_, V>) {
         let ready = self.wait_for_all(clock);
         if ready < self.asked {
-            watch.few_workers(ready, self.asked);
+            workers.report(ready, self.asked);
         }
     }
 
@@ -82,20 +82,4 @@ impl Muster {
         }
         ready
     }
-}
-
-/// Whether a server of so many workers can start: there is memory for what one keeps, and, where there are
-/// to be several, a thread can be made besides the caller's.
-pub fn can_start<R: Threads>(rt: &R, alloc: Global, workers: u16) -> bool {
-    if Buffers::new(alloc).is_err() {
-        return false;
-    }
-    if workers < 2 {
-        return true;
-    }
-    let Ok(other) = thread::spawn(rt, || ()) else {
-        return false;
-    };
-    other.join(rt);
-    true
 }

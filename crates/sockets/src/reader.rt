@@ -1,12 +1,20 @@
 //! The end of a socket that is read.
-ghost use Rattle.std.specs.Prelude.{◌≡◌, ◌-◌, ◌^◌, None};
+ghost use Rattle.std.specs.Prelude.{◌≡◌, ◌-◌, ◌≤◌, ◌^◌, None, IfOk, length};
 
 use crate::deadlines::{after, is_late, left_until};
+use crate::flag::is_set;
 use crate::pace::Pace;
 use crate::timed::Timed;
 use std::io::{Read, Result as IoResult};
+use std::sync::atomic::AtomicBool;
 use std::time::{Clock, Duration, Instant};
 use streams::{Failed, Source, Stream};
+
+/// In slices of so many milliseconds the first byte of a request is waited for where a flag may end the input.
+const SLICE_MILLISECONDS: u64 = 100;
+
+/// So many of them are waited for in a row at most: some eleven days.
+const MOST_SLICES: u64 = 10_000_000;
 
 /// What is read next.
 #[derive(Clone, Copy, Debug, PartialEq, Eq)]
@@ -19,24 +27,95 @@ enum Awaited {
     RestBy(Instant),
 }
 
+/// How many more requests are read, the one that is awaited among them.
+#[derive(Clone, Copy, Debug, PartialEq, Eq)]
+enum Requests {
+    /// All that come.
+    Any,
+    /// The one that is awaited.
+    Last,
+    /// None.
+    NoMore,
+}
+
+impl Requests {
+    /// As many where the next one is awaited.
+    fn next(self, is_over: bool) -> Requests {
+        match self {
+            Requests::Any if !is_over => Requests::Any,
+            Requests::Any => Requests::Last,
+            Requests::Last | Requests::NoMore => Requests::NoMore,
+        }
+    }
+}
+
 /// A socket whose reads end in time.
 #[derive(Drop)]
 struct Waiting<'c, T, C> {
     socket: T,
     clock: &'c C,
     pace: Pace,
+    over: Option<&'c AtomicBool>,
     awaited: Awaited,
+    requests: Requests,
     told: Option<Duration>,
 }
 
+impl<'c, T, C> Waiting<'c, T, C> {
+    /// Over this socket, whose first request is awaited.
+    fn new(socket: T, clock: &'c C, pace: Pace, over: Option<&'c AtomicBool>) -> Waiting<'c, T, C> {
+        Waiting {
+            socket,
+            clock,
+            pace,
+            over,
+            awaited: Awaited::First,
+            requests: Requests::Any,
+            told: None,
+        }
+    }
+
+    /// A next request is awaited, of which something has come or not.
+    fn awaits(&mut self, begun: bool) {
+        self.awaited = if begun { Awaited::Rest } else { Awaited::First };
+        self.requests = self.requests.next(is_set(self.over));
+    }
+}
+
 impl<'c, T: Read + Timed, C: Clock> Waiting<'c, T, C> {
-    /// Has the socket wait so long at most, which it may know already.
-    fn wait_at_most(&mut self, time: Duration) -> IoResult<()> {
+    /// Reads, and waits so long at most, which the socket may know already.
+    fn read_within(&mut self, time: Duration, buf: &mut [u8]) -> IoResult<usize>
+        ensures within { IfOk result (λ n. n ≤ length buf.new) }
+    {
         if self.told != Some(time) {
             self.socket.read_within(time)?;
             self.told = Some(time);
         }
-        Ok(())
+        self.socket.read(buf)
+    }
+
+    /// Reads the first bytes of a request. Where a flag may end the input, it is looked at after each slice of the
+    /// time in which nothing comes.
+    fn read_first(&mut self, buf: &mut [u8]) -> IoResult<usize>
+        ensures within { IfOk result (λ n. n ≤ length buf.new) }
+    {
+        let mut left = self.pace.idle;
+        if self.over.is_none() {
+            return self.read_within(left, buf);
+        }
+        for _ in 0..MOST_SLICES {
+            let slice = left.min(Duration::from_millis(SLICE_MILLISECONDS));
+            match self.read_within(slice, buf) {
+                Err(error) if is_late(&error) => {
+                    left = left.saturating_sub(slice);
+                    if left.is_zero() || is_set(self.over) {
+                        return Err(error);
+                    }
+                }
+                outcome => return outcome,
+            }
+        }
+        self.read_within(left, buf)
     }
 
     /// Until when the rest of the request is waited for, from the first read for it on.
@@ -54,14 +133,15 @@ impl<'c, T: Read + Timed, C: Clock> Read for Waiting<'c, T, C> {
     /// Where the first byte of a request doesn't come in time, the input ends; where the rest doesn't,
     /// the read fails.
     fn read(&mut self, buf: &mut [u8]) -> IoResult<usize> {
+        if self.requests == Requests::NoMore {
+            return Ok(0);
+        }
         if self.awaited != Awaited::First {
             let by = self.rest_by()?;
             let left = left_until(self.clock, by)?;
-            self.wait_at_most(left)?;
-            return self.socket.read(buf);
+            return self.read_within(left, buf);
         }
-        self.wait_at_most(self.pace.idle)?;
-        match self.socket.read(buf) {
+        match self.read_first(buf) {
             Ok(0) => Ok(0),
             Ok(len) => {
                 self.awaited = Awaited::Rest;
@@ -79,6 +159,9 @@ impl<'c, T: Read + Timed, C: Clock> Read for Waiting<'c, T, C> {
 /// the input ends. From the first read after it, the rest is waited for as long as patience
 /// lasts, however slowly it comes; then the read fails. It gives at most 2^64 - 1 bytes, and fails
 /// from then on.
+///
+/// Where a flag is given, it ends the input early: once it is set, the first byte of a request is waited for no
+/// longer than a tenth of a second, and the request behind the one that is then awaited is not read.
 #[derive(Drop)]
 pub struct TimedReader<'c, T, C> {
     waiting: Stream<Waiting<'c, T, C>>,
@@ -88,18 +171,17 @@ impl<'c, T, C> TimedReader<'c, T, C> {
     ghost use Rattle.sockets.specs.Timed.{reads_failed, bytes_left};
 
     /// Over this socket, of which nothing was read yet.
-    pub fn new(socket: T, clock: &'c C, pace: Pace) -> TimedReader<'c, T, C>
+    pub fn new(
+        socket: T,
+        clock: &'c C,
+        pace: Pace,
+        over: Option<&'c AtomicBool>,
+    ) -> TimedReader<'c, T, C>
         ensures failures { reads_failed result ≡ 0 }
         ensures budget { bytes_left result ≡ 2 ^ 64 - 1 }
     {
         TimedReader {
-            waiting: Stream::new(Waiting {
-                socket,
-                clock,
-                pace,
-                awaited: Awaited::First,
-                told: None,
-            }),
+            waiting: Stream::new(Waiting::new(socket, clock, pace, over)),
         }
     }
 }
@@ -124,7 +206,6 @@ impl<'c, T: Read + Timed, C: Clock> Source for TimedReader<'c, T, C> {
     }
 
     fn awaits(&mut self, begun: bool) {
-        let waiting = self.waiting.inner_mut();
-        waiting.awaited = if begun { Awaited::Rest } else { Awaited::First };
+        self.waiting.inner_mut().awaits(begun);
     }
 }

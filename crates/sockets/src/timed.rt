@@ -11,22 +11,22 @@ pub trait Timed {
     /// # Errors
     ///
     /// It can't be told, or the time is 0.
-    fn read_within(&self, time: Duration) -> io::Result<()>;
+    fn read_within(&mut self, time: Duration) -> io::Result<()>;
 
     /// A write that waits longer answers how many bytes were taken by then, and fails so where none were.
     ///
     /// # Errors
     ///
     /// It can't be told, or the time is 0.
-    fn write_within(&self, time: Duration) -> io::Result<()>;
+    fn write_within(&mut self, time: Duration) -> io::Result<()>;
 }
 
 impl Timed for &TcpStream {
-    fn read_within(&self, time: Duration) -> io::Result<()> {
+    fn read_within(&mut self, time: Duration) -> io::Result<()> {
         self.set_read_timeout(Some(time))
     }
 
-    fn write_within(&self, time: Duration) -> io::Result<()> {
+    fn write_within(&mut self, time: Duration) -> io::Result<()> {
         self.set_write_timeout(Some(time))
     }
 }

@@ -1,6 +1,5 @@
-use Rattle.std.proofs.Common.{◌≡◌, ℕ, [], List, Option, inl, inr, refl, ap, sym, ◌∙◌, subst, arith}
+use Rattle.std.proofs.Common.{ℕ, [], List, Option, inl, inr, refl, subst, arith}
 use Rattle.model.specs.Command.{Id}
-use Rattle.http_handlers.specs.Deeds.{Deed}
 use Rattle.http_handlers.specs.Doing.{WaitsFor}
 use Rattle.http_handlers.specs.Known.{update_seq_of}
 use Rattle.http_handlers.proofs.feed.has_more.Goals as goal

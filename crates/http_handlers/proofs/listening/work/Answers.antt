@@ -1,5 +1,5 @@
 use Rattle.std.proofs.Common.{◌+◌, [], None, Some, refl, sym, subst, arith}
-use Rattle.http_handlers.proofs.Workers.{Accepted, one_more}
+use Rattle.http_handlers.proofs.Accepting.{Accepted, one_more, served_all, served_some}
 use Rattle.http_handlers.proofs.listening.work.Goals as goal
 use Rattle.http_handlers.proofs.listening.work.Goals.{in-Ok, in-Err}
 
@@ -17,7 +17,11 @@ loop-preserved g c =
           (one_more goes known c.args.setting.now c.loop.counter _ c.loop.session _ None c.loop.invariant refl)
     ]
 
+-- the flag was set
+pub returns-then-is_set : goal.returns-then-is_set
+returns-then-is_set g c =
+    served_some g.S.Viewer.goes g.S.Viewer.known c.args.setting.now _ c.loop.counter c.args.terms.connections _ _ (c.is_set.ensures.given c.if-is_set.true) c.loop.invariant (omega (arith, c.loop.auto, c.most_of-end.ensures))
+
 pub returns : goal.returns
 returns g c =
-    let served = c.loop.invariant in
-    record { accepted = served.0; runs = served.1; all = omega (arith, served.2, c.loop-test.false, c.loop.auto, c.most_of-end.ensures) }
+    served_all g.S.Viewer.goes g.S.Viewer.known c.args.setting.now _ c.loop.counter c.args.terms.connections _ _ c.loop.invariant (omega (arith, c.loop-test.false, c.loop.auto, c.most_of-end.ensures))

@@ -1,4 +1,4 @@
-use Rattle.http_handlers.proofs.Workers.{Accepted}
+use Rattle.http_handlers.proofs.Accepting.{Accepted}
 use Rattle.http_handlers.proofs.listening.work.Given as goal
 
 -- so many connections were served, or could not be accepted, as there were turns

@@ -1,6 +1,6 @@
-use Rattle.std.proofs.Common.{◌≡◌, ℕ, [], Bool, true, false, Ok, Err, inl, inr, refl, ap, sym, ◌∙◌, subst}
+use Rattle.std.proofs.Common.{◌≡◌, ℕ, [], true, false, Ok, Err, inl, inr, refl, sym, ◌∙◌, subst}
 use Rattle.model.specs.History.{now}
-use Rattle.http_handlers.specs.Changes.{has_changes, since_at}
+use Rattle.http_handlers.specs.Changes.{has_changes}
 use Rattle.http_handlers.specs.Doing.{WaitsFor}
 use Rattle.http_handlers.specs.Known.{history_of}
 use Rattle.http_handlers.proofs.reading.wait_where_none.Goals as goal

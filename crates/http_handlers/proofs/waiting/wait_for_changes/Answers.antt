@@ -1,4 +1,4 @@
-use Rattle.std.proofs.Common.{◌≡◌, ℕ, List, [], ◌∷◌, Option, None, Some, max, refl, sym, subst}
+use Rattle.std.proofs.Common.{◌≡◌, ℕ, List, Option, None, Some, max, refl, sym, subst}
 use Rattle.model.specs.Command.{Id}
 use Rattle.http_handlers.specs.Deeds.{Deed, Waited}
 use Rattle.http_handlers.specs.Doing.{Makes, WaitsFor, WaitsTurns}

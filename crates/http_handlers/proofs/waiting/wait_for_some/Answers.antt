@@ -1,7 +1,7 @@
-use Rattle.std.proofs.Common.{◌≡◌, ℕ, [], List, Bool, true, false, Ok, Err, max, refl, ap, sym, ◌∙◌, subst, arith}
+use Rattle.std.proofs.Common.{◌≡◌, ℕ, [], Bool, true, false, Ok, Err, max, refl, ap, ◌∙◌, subst, arith}
 use Rattle.std.specs.Prelude.{Result}
 use Rattle.http_handlers.specs.Deeds.{Deed}
-use Rattle.http_handlers.specs.Doing.{WaitsTurn, WaitsTurns}
+use Rattle.http_handlers.specs.Doing.{WaitsTurn}
 use Rattle.http_handlers.specs.declared.calls.CallFault.{CallFault}
 use Rattle.http_handlers.proofs.Waits.{Passed, enough_turns, last_turn, one_more_turn}
 use Rattle.http_handlers.proofs.waiting.wait_for_some.Goals as goal

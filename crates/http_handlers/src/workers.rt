@@ -1,0 +1,92 @@
+//! What the workers of a server have in common.
+
+use crate::buffers::Buffers;
+use crate::watch::Watch;
+use std::alloc::{AllocError, Global};
+use std::sync::{Mutex, Wait};
+use std::thread;
+use std::thread::Threads;
+use std::time::{Clock, Duration};
+
+/// After so many seconds memory that was refused is asked for again.
+const RETRY_SECONDS: u64 = 1;
+
+/// The workers of a server: what one of them keeps, and who hears of them.
+///
+/// What one worker keeps is taken before any starts, and kept when one ends. So a server that can start has a
+/// worker that serves, whatever memory is refused later.
+#[derive(Drop)]
+pub struct Workers<'w, V> {
+    watch: &'w V,
+    spare: Mutex<Option<Buffers>>,
+}
+
+impl<'w, V: Watch> Workers<'w, V> {
+    /// So many workers, where they can start: there is memory for what one keeps, which is taken, and, where there are to
+    /// be several, a thread can be made besides the caller's. Where they can't, that is said.
+    pub fn new<R: Threads>(
+        rt: &R,
+        alloc: Global,
+        asked: u16,
+        watch: &'w V,
+    ) -> Option<Workers<'w, V>> {
+        let Some(spare) = start(rt, alloc, asked) else {
+            watch.few_workers(0, asked as u64);
+            return None;
+        };
+        Some(Workers {
+            watch,
+            spare: Mutex::new(Some(spare)),
+        })
+    }
+
+    /// Says how many serve, fewer than were asked for.
+    pub(crate) fn report(&self, serving: u64, asked: u64) {
+        self.watch.few_workers(serving, asked);
+    }
+
+    /// What a worker keeps: the spare one, where no other worker has it, or memory that is there.
+    ///
+    /// # Errors
+    ///
+    /// Memory was refused.
+    pub(crate) fn buffers(&self, alloc: Global) -> Result<Buffers, AllocError> {
+        match self.take_spare() {
+            Some(buffers) => Ok(buffers),
+            None => Buffers::new(alloc),
+        }
+    }
+
+    /// The same, as soon as it is there.
+    pub(crate) fn wait_for_buffers<R: Wait + Clock>(&self, rt: &R, alloc: Global) -> Buffers {
+        for _ in rt.forever() {
+            thread::sleep(rt, Duration::from_secs(RETRY_SECONDS));
+            if let Ok(buffers) = self.buffers(alloc) {
+                return buffers;
+            }
+        }
+        unreachable!()
+    }
+
+    fn take_spare(&self) -> Option<Buffers> {
+        let mut spare = self.spare.try_lock()?;
+        spare.take()
+    }
+
+    /// Keeps as the spare one what a worker had that ends.
+    pub(crate) fn give_back(&self, buffers: Buffers) {
+        if let Some(mut spare) = self.spare.try_lock() {
+            *spare = Some(buffers);
+        }
+    }
+}
+
+/// Takes what a worker keeps, where as many as are asked for can start.
+fn start<R: Threads>(rt: &R, alloc: Global, asked: u16) -> Option<Buffers> {
+    let buffers = Buffers::new(alloc).ok()?;
+    if asked > 1 {
+        let other = thread::spawn(rt, || ()).ok()?;
+        other.join(rt);
+    }
+    Some(buffers)
+}
