@@ -37,7 +37,14 @@ fn main(rt: HostRuntime) -> io::Result<ExitCode> {
                 return Ok(ExitCode::FAILURE);
             };
             let notices = Notices { rt: &rt };
-            let status = run_server(&listener, serving.workers, terms(&serving), &notices, &rt);
+            let status = run_server(
+                &listener,
+                serving.workers,
+                serving.max_places,
+                terms(&serving),
+                &notices,
+                &rt,
+            );
             Ok(ExitCode::from(status))
         }
         Ok(Run::Replicate(replicating)) => Ok(replication::replicate(&rt, &replicating)),

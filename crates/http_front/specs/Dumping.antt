@@ -25,7 +25,7 @@ WritesDump old new failed_old failed_new history right status =
 pub record DumpsDatabase (base : Option Database) (before after : Streams) (status : ℕ) : Type 0 where
   pub ended : Ended
   pub end : Ending
-  pub served : ServesDatabase base (program_config 1) (unwritten before) (unwritten after) ended end
+  pub served : ServesDatabase base program_config (unwritten before) (unwritten after) ended end
   pub written : WritesDump before.taken after.taken before.failed_writes after.failed_writes (record { base = base; entries = end.history }) (exit_status ended.cause) status
 
 abbrev pub DumpsOnce : Option Database → Streams → Streams → ℕ → Type 0

@@ -36,7 +36,7 @@ pub record ServesDatabase (base : Option Database) (config : Config) (before aft
 pub record EndsConnection (base : Option Database) (before after : Streams) (status : ℕ) : Type 0 where
   pub ended : Ended
   pub end : Ending
-  pub served : ServesDatabase base (program_config 1) before after ended end
+  pub served : ServesDatabase base program_config before after ended end
   pub tells : status ≡ exit_status ended.cause
 
 -- No database was opened, since it, its routes or a reader was refused: then nothing was read or written.

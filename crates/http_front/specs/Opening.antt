@@ -7,9 +7,13 @@ use Rattle.http_handlers.specs.Deeds.{Deed}
 use Rattle.http_handlers.specs.Known.{Known}
 use Rattle.http_handlers.specs.Sessions.{Goes, known_of as known_of_session}
 
--- the numbers of a database with so many sessions
-abbrev pub program_config : ℕ → Config
-program_config sessions = record { sessions = sessions; queue = 256; gather = 32; slice = 256; slack = 16; tries = 8; max_places = 1000000 }
+-- the numbers of a database with so many sessions, whose history may have so many entries
+abbrev pub server_config : ℕ → ℕ → Config
+server_config sessions max_places = record { sessions = sessions; queue = 256; gather = 32; slice = 256; slack = 16; tries = 8; max_places = max_places }
+
+-- the numbers of a database with one session
+abbrev pub program_config : Config
+program_config = server_config 1 1000000
 
 -- of a database over this base that was opened with these numbers
 module _ (base : Option Database) (config : Config) where

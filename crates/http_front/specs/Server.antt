@@ -5,7 +5,7 @@ use Rattle.model.specs.World.{Config}
 use Rattle.history_lock.specs.Ending.{Ending, Ends}
 use Rattle.sessions.specs.Known.{Known as KnownOfThreads, fresh}
 use Rattle.http_handlers.specs.Listening.{ServesAll}
-use Rattle.http_front.specs.Opening.{GoesBy, known_of, program_config}
+use Rattle.http_front.specs.Opening.{GoesBy, known_of, server_config}
 
 -- how often a wait for changes looks
 unfoldable pub server_turns : ℕ
@@ -28,7 +28,7 @@ server_status true = 0
 server_status false = 1
 
 -- the status says whether the sessions served
-pub record ServesListener (base : Option Database) (workers connections status : ℕ) : Type 0 where
+pub record ServesListener (base : Option Database) (workers max_places connections status : ℕ) : Type 0 where
   pub served : Bool
   pub tells : status ≡ server_status served
-  pub sessions : served ≡ true → ServesSessions base (program_config workers) server_turns connections
+  pub sessions : served ≡ true → ServesSessions base (server_config workers max_places) server_turns connections

@@ -7,7 +7,7 @@ ghost use Rattle.http_front.specs.Dumping.{DumpsOnce, WritesDump};
 
 use crate::nowhere::Nowhere;
 use crate::once::{exit_status, serve_opened};
-use crate::opening::{NOT_OPENED, config};
+use crate::opening::{MAX_PLACES, NOT_OPENED, server_config};
 use history_dump::dump_version;
 use history_lock::{Closed, Opened};
 use std::alloc::Global;
@@ -33,7 +33,7 @@ pub fn run_dump<R: Source, W: Sink, A: AllocGlobal + Wait + Clock>(
         (streams_of (R.left reader.new) (R.failed_reads reader.new) (W.taken writer.new) (W.failed_writes writer.new))
         result }
 {
-    let Ok(opened) = Opened::new(rt.alloc(), config(1)) else {
+    let Ok(opened) = Opened::new(rt.alloc(), server_config(1, MAX_PLACES)) else {
         return NOT_OPENED;
     };
     dump_opened::<Brand, &A, R, W, A>(reader, writer, rt, rt, opened)
@@ -48,7 +48,7 @@ fn dump_opened<J: Opening, T: Wait + Drop, R: Source, W: Sink, A: AllocGlobal + 
     opened: Opened,
 ) -> u8
     requires named { IsNamed J.book J.base J.table J.capacity J.sessions J.config opened }
-    requires config { opened.config ≡ program_config 1 }
+    requires config { opened.config ≡ program_config }
     ensures { DumpsOnce J.base
         (streams_of (R.left reader.old) (R.failed_reads reader.old) (W.taken writer.old) (W.failed_writes writer.old))
         (streams_of (R.left reader.new) (R.failed_reads reader.new) (W.taken writer.new) (W.failed_writes writer.new))

@@ -11,6 +11,9 @@ mod opening;
 mod server;
 
 pub use dumping::run_dump;
-pub use http_handlers::{CallFault, Calls, Pace, Setting, Terms, Viewer, Watch, listen, serve};
+pub use http_handlers::{
+    CallFault, Calls, Pace, Setting, Terms, Viewer, Watch, Workers, listen, serve,
+};
 pub use once::run_once;
-pub use server::run_server;
+pub use opening::{MAX_PLACES, server_config};
+pub use server::{SERVER_TURNS, run_server};

@@ -6,7 +6,7 @@ ghost use Rattle.history_lock.specs.Names.{IsNamed};
 ghost use Rattle.http_front.specs.Once.{ServesDatabase, ServesOnce, exit_status};
 ghost use Rattle.http_front.specs.Opening.{program_config};
 
-use crate::opening::{NOT_OPENED, config};
+use crate::opening::{MAX_PLACES, NOT_OPENED, server_config};
 use history_lock::{Closed, Opened, open};
 use http_connection::{Cause, Ended};
 use http_handlers::{Setting, serve};
@@ -42,7 +42,7 @@ pub fn run_once<R: Source, W: Sink, A: AllocGlobal + Wait + Clock>(
         (streams_of (R.left reader.new) (R.failed_reads reader.new) (W.taken writer.new) (W.failed_writes writer.new))
         result }
 {
-    let Ok(opened) = Opened::new(rt.alloc(), config(1)) else {
+    let Ok(opened) = Opened::new(rt.alloc(), server_config(1, MAX_PLACES)) else {
         return NOT_OPENED;
     };
     once_opened::<Brand, &A, R, W, A>(reader, writer, rt, rt, opened)
@@ -57,7 +57,7 @@ fn once_opened<J: Opening, T: Wait + Drop, R: Source, W: Sink, A: AllocGlobal + 
     opened: Opened,
 ) -> u8
     requires named { IsNamed J.book J.base J.table J.capacity J.sessions J.config opened }
-    requires config { opened.config ≡ program_config 1 }
+    requires config { opened.config ≡ program_config }
     ensures { ServesOnce J.base
         (streams_of (R.left reader.old) (R.failed_reads reader.old) (W.taken writer.old) (W.failed_writes writer.old))
         (streams_of (R.left reader.new) (R.failed_reads reader.new) (W.taken writer.new) (W.failed_writes writer.new))
@@ -88,8 +88,8 @@ pub(crate) fn serve_opened<
     opened: Opened,
 ) -> Option<(Ended, Closed<J>)>
     requires named { IsNamed J.book J.base J.table J.capacity J.sessions J.config opened }
-    requires config { opened.config ≡ program_config 1 }
-    ensures served { IfSome result (λ served. ServesDatabase J.base (program_config 1)
+    requires config { opened.config ≡ program_config }
+    ensures served { IfSome result (λ served. ServesDatabase J.base program_config
         (streams_of (R.left reader.old) (R.failed_reads reader.old) (W.taken writer.old) (W.failed_writes writer.old))
         (streams_of (R.left reader.new) (R.failed_reads reader.new) (W.taken writer.new) (W.failed_writes writer.new))
         served.0 served.1) }

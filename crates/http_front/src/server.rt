@@ -1,12 +1,13 @@
 //! What the program does with a listener.
 ghost use Rattle.std.specs.Prelude.{◌≡◌, ◌≤◌, IsTrue, None};
 ghost use Rattle.history_lock.specs.Names.{IsNamed};
-ghost use Rattle.http_front.specs.Opening.{program_config};
+ghost use Rattle.http_front.specs.Opening.{server_config};
 ghost use Rattle.http_front.specs.Server.{ServesListener, ServesSessions, server_status, server_turns};
 
-use crate::opening::{NOT_OPENED, config};
+use crate::opening::{NOT_OPENED, server_config};
+use commands::Config;
 use history_lock::{Opened, open};
-use http_handlers::{Setting, Terms, Watch, can_start, listen};
+use http_handlers::{Setting, Terms, Watch, Workers, listen};
 use std::marker::Brand;
 use std::net::TcpListener;
 use std::sync::Wait;
@@ -15,33 +16,35 @@ use std::time::Clock;
 use updater_state::{NoGate, Opening};
 
 /// So often a wait for changes looks, which is about two minutes.
-const TURNS: u64 = 100_000;
+pub const SERVER_TURNS: u64 = 100_000;
 
 /// The exit status after the last connection.
 const SERVED: u8 = 0;
 
-/// Serves an empty database to the connections of a listener, by so many workers (1 to 64), each with
-/// a session of its own, on these terms. Fewer workers than were asked for are said. The answer is the exit status: 0 after the
-/// last connection, or 1 where no database was opened, memory for the routes was refused, or no worker
-/// can start besides the caller's.
+/// Serves an empty database, whose history may have so many entries, to the connections of a listener, by so many
+/// workers (1 to 64), each with a session of its own, on these terms. Fewer workers than were asked for are said.
+/// The answer is the exit status: 0 after the last connection, or 1 where no database was opened, memory for the
+/// routes was refused, or no worker can start besides the caller's.
 pub fn run_server<A: AllocGlobal + Threads + Wait + Clock + Sync, V: Watch + Sync>(
     listener: &TcpListener,
     workers: u16,
+    max_places: u32,
     terms: Terms,
     watch: &V,
     rt: &A,
 ) -> u8
     requires workers { (1 ≤ workers) × (workers ≤ 64) }
-    ensures { ServesListener None workers terms.connections result }
+    requires places { 1 ≤ max_places }
+    ensures { ServesListener None workers max_places terms.connections result }
 {
-    if !can_start(rt, rt.alloc(), workers) {
-        watch.few_workers(0, workers as u64);
-        return server_status(false);
-    }
-    let Ok(opened) = Opened::new(rt.alloc(), config(workers)) else {
+    let config = server_config(workers, max_places);
+    let Some(workers) = Workers::new(rt, rt.alloc(), workers, watch) else {
         return server_status(false);
     };
-    let served = serve_opened::<Brand, &A, A, V>(listener, workers, terms, watch, rt, rt, opened);
+    let Ok(opened) = Opened::new(rt.alloc(), config) else {
+        return server_status(false);
+    };
+    let served = serve_opened::<Brand, &A, A, V>(listener, config, terms, &workers, rt, rt, opened);
     server_status(served)
 }
 
@@ -52,7 +55,7 @@ fn server_status(served: bool) -> u8
     if served { SERVED } else { NOT_OPENED }
 }
 
-/// Serves a database of so many sessions, whose writer keeps a runtime of its own, and answers whether
+/// Serves a database that was opened with these numbers, whose writer keeps a runtime of its own, and answers whether
 /// it was opened.
 #[tactic(auto, unfolding(crate::specs::Server::server_turns))]
 fn serve_opened<
@@ -62,21 +65,21 @@ fn serve_opened<
     V: Watch + Sync,
 >(
     listener: &TcpListener,
-    workers: u16,
+    config: Config,
     terms: Terms,
-    watch: &V,
+    workers: &Workers<'_, V>,
     rt: &A,
     writer_rt: R,
     opened: Opened,
 ) -> bool
     requires named { IsNamed J.book J.base J.table J.capacity J.sessions J.config opened }
-    requires config { opened.config ≡ program_config workers }
-    ensures { IsTrue result → ServesSessions J.base (program_config workers) server_turns terms.connections }
+    requires config { opened.config ≡ config }
+    ensures { IsTrue result → ServesSessions J.base config server_turns terms.connections }
 {
     let Ok((master, mut sessions)) = open::<R, J, NoGate>(writer_rt, opened, NoGate) else {
         return false;
     };
-    let Ok(setting) = Setting::new(rt.alloc(), rt, TURNS) else {
+    let Ok(setting) = Setting::new(rt.alloc(), rt, SERVER_TURNS) else {
         return false;
     };
     listen(
@@ -84,8 +87,9 @@ fn serve_opened<
         listener,
         sessions.as_mut_slice(),
         terms,
+        None,
         &setting,
-        watch,
+        workers,
     );
     let _closed = master.close(sessions, rt);
     true

@@ -4,7 +4,7 @@ use crate::client::Client;
 use crate::ended::with_status;
 use crate::ends::{Clients, Ends};
 use crate::terms::{Unheard, terms};
-use http_front::run_server;
+use http_front::{MAX_PLACES, run_server};
 use std::alloc::Global;
 use std::sync::Wait;
 use std::thread::Threads;
@@ -30,7 +30,7 @@ pub(crate) fn told<R: AllocGlobal + Threads + Wait + Clock + Sync>(
     let (told, status) = thread::join(
         rt,
         move || read_beside_writes(rt.alloc(), clients),
-        || run_server(&listener, 2, terms(), &Unheard, rt),
+        || run_server(&listener, 2, MAX_PLACES, terms(), &Unheard, rt),
     );
     with_status(told, status)
 }

@@ -2,7 +2,7 @@
 
 use crate::client::Client;
 use crate::ends::{Clients, Ends};
-use crate::terms::{Unheard, terms};
+use crate::terms::{Unheard, terms, workers};
 use http_front::{Calls, Setting, listen};
 use std::alloc::Global;
 use std::sync::Wait;
@@ -21,10 +21,11 @@ pub(crate) fn serve_full<R: AllocGlobal + Threads + Wait + Clock + Sync, S: Call
 ) -> io::Result<String> {
     let Ends { listener, clients } = ends;
     let setting = Setting::new(rt.alloc(), rt, TURNS)?;
+    let workers = workers(rt, rt.alloc(), &Unheard)?;
     let (told, ()) = thread::join(
         rt,
         move || write_twice(rt.alloc(), clients),
-        || listen(rt, &listener, sessions, terms(), &setting, &Unheard),
+        || listen(rt, &listener, sessions, terms(), None, &setting, &workers),
     );
     told
 }

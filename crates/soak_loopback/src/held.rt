@@ -3,7 +3,7 @@
 use crate::client::Client;
 use crate::ends::{Clients, Ends};
 use crate::marks::Marks;
-use crate::terms::{Unheard, terms};
+use crate::terms::{Unheard, terms, workers};
 use http_front::{Calls, Setting, listen};
 use std::alloc::Global;
 use std::sync::Wait;
@@ -23,10 +23,11 @@ pub(crate) fn serve_held<R: AllocGlobal + Threads + Wait + Clock + Sync, S: Call
 ) -> io::Result<String> {
     let Ends { listener, clients } = ends;
     let setting = Setting::new(rt.alloc(), rt, TURNS)?;
+    let workers = workers(rt, rt.alloc(), &Unheard)?;
     let (told, ()) = thread::join(
         rt,
         move || read_beside_write(rt, rt.alloc(), marks, clients),
-        || listen(rt, &listener, sessions, terms(), &setting, &Unheard),
+        || listen(rt, &listener, sessions, terms(), None, &setting, &workers),
     );
     told
 }

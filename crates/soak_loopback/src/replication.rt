@@ -5,7 +5,7 @@ use crate::ended::with_status;
 use crate::ends::{Clients, Ends};
 use crate::terms::{Unheard, terms};
 use document_id::DocId;
-use http_front::run_server;
+use http_front::{MAX_PLACES, run_server};
 use replicator::{MAX_BATCH, Progress, Worker};
 use replicator_http::HttpPeer;
 use std::alloc::Global;
@@ -38,7 +38,7 @@ pub(crate) fn told<R: AllocGlobal + Threads + Wait + Clock + Sync>(
     let (told, status) = thread::join(
         rt,
         move || serve_target(rt, clients, target),
-        || run_server(&listener, 2, terms(), &Unheard, rt),
+        || run_server(&listener, 2, MAX_PLACES, terms(), &Unheard, rt),
     );
     with_status(told, status)
 }
@@ -52,7 +52,7 @@ fn serve_target<R: AllocGlobal + Threads + Wait + Clock + Sync>(
     let (told, status) = thread::join(
         rt,
         move || replicate(rt.alloc(), source, clients),
-        || run_server(&listener, 2, terms(), &Unheard, rt),
+        || run_server(&listener, 2, MAX_PLACES, terms(), &Unheard, rt),
     );
     with_status(told, status)
 }

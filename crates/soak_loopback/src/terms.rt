@@ -1,7 +1,13 @@
 //! How these databases are served.
 
-use http_front::{Pace, Terms, Watch};
+use http_front::{Pace, Terms, Watch, Workers};
+use std::alloc::Global;
+use std::io::{self, ErrorKind};
+use std::thread::Threads;
 use std::time::Duration;
+
+/// How many workers serve.
+const WORKERS: u16 = 2;
 
 /// How many seconds a client is waited for.
 const SECONDS: u64 = 300;
@@ -22,4 +28,16 @@ pub(crate) struct Unheard;
 
 impl Watch for Unheard {
     fn few_workers(&self, _serving: u64, _asked: u64) {}
+}
+
+/// The workers that serve.
+pub(crate) fn workers<'w, R: Threads>(
+    rt: &R,
+    alloc: Global,
+    unheard: &'w Unheard,
+) -> io::Result<Workers<'w, Unheard>> {
+    match Workers::new(rt, alloc, WORKERS, unheard) {
+        Some(workers) => Ok(workers),
+        None => Err(io::Error::from(ErrorKind::OutOfMemory)),
+    }
 }
