@@ -11,6 +11,8 @@ mod peers;
 mod responses;
 mod scripts;
 mod services;
+mod ticks;
+mod waits;
 
 use std::alloc::Global;
 use std::test::Fail;
@@ -33,6 +35,9 @@ fn told(alloc: Global, words: &[&str]) -> Result<String, Fail> {
         ["digest", text] => limits::digest_told(alloc, text),
         ["serve", reading, writing, input] => services::served(alloc, reading, writing, input),
         ["read", reading, input] => peers::responses_read(alloc, reading, input),
+        ["reads", pace, script, calls] => waits::reads_told(alloc, pace, script, calls),
+        ["writes", patience, script, calls] => waits::writes_told(alloc, patience, script, calls),
+        ["drain", script] => waits::drain_told(alloc, script),
         ["cuts", input] => peers::responses_however_cut(alloc, input),
         ["calls", reading, writing, input, calls @ ..] => {
             calls::calls_told(alloc, reading, writing, input, calls)
