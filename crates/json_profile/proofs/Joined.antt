@@ -1,5 +1,5 @@
 -- The text of an object, by the texts of parts of its members, and where a special member goes.
-use Rattle.std.proofs.Common.{string_bytes, ◌≡◌, ℕ, suc, subst, ◌<◌, ◌≤◌, ◌==◌, List, [], ◌∷◌, ◌++◌, length, take, drop, ◌+◌, ◌-◌, Bool, true, false, ◌||◌, ◌&&◌, cond, nat_lt, nat_cmp, Less, Equal, Greater, Ordering, true≢false, refl, sym, ap, ◌∙◌, arith, append_assoc}
+use Rattle.std.proofs.Common.{◌≡◌, ℕ, suc, subst, ◌<◌, ◌≤◌, ◌==◌, List, [], ◌∷◌, ◌++◌, length, take, drop, ◌+◌, ◌-◌, Bool, true, false, ◌||◌, ◌&&◌, cond, nat_lt, nat_cmp, Less, Equal, Greater, Ordering, true≢false, refl, sym, ap, ◌∙◌, arith, append_assoc}
 use Rattle.std.specs.Prelude.{◌≢◌, not}
 use Rattle.std.proofs.lemmas.Bool.{and_parts, and_from, or_parts, ltb-false, ltb-true, lt-ltb, eqb-true, eq-eqb}
 use Rattle.std.proofs.lemmas.Cmp.{nat_list_cmp_total, nat_cmp_total}
@@ -10,20 +10,16 @@ use Rattle.std.proofs.Math.Seq.{take-append_seam, drop-append_seam, get_or-appen
 use Rattle.std.proofs.lemmas.List.{length-append}
 use Rattle.std.proofs.lemmas.Str.{IsCharBoundary-before_ascii}
 use Rattle.std.specs.Str.{IsCharBoundary}
-use Rattle.std.specs.List.{filter}
 use Rattle.json.specs.Print.{quoted}
 use Rattle.serde_json.specs.Events.{members_len as members_count}
-use Rattle.serde_json.specs.View.{view, members_view}
-use Rattle.serde_json.proofs.Views.{Entry}
 use Rattle.serde_json.specs.Data.{Data, object, Members, no_members, member, put}
-use Rattle.serde_json.specs.Written.{comma_if, compact_text, members_text, has_float}
-use Rattle.model.specs.Profile.{is_whole, members_whole, is_special, is_before, members_ordered, without_specials}
-use Rattle.json_profile.specs.Joined.{between, join, has_member, bare_text, is_front, front_of, back_of, all_front, all_back, fronts, split_of}
+use Rattle.serde_json.specs.Written.{comma_if, compact_text, members_text}
+use Rattle.model.specs.Profile.{is_special, is_before, members_ordered, without_specials}
+use Rattle.json_profile.specs.Joined.{between, join, has_member, bare_text, is_front, front_of, back_of, all_front, all_back}
 use Rattle.json_profile.specs.Objects.{has_special}
 use Rattle.model.proofs.ProfileLaws.{first_of, rest_of}
 use Rattle.json_profile.specs.Profiled.{ArePlain}
 use Rattle.json_profile.specs.Texts.{IsSplit}
-use Rattle.json_profile.proofs.Floats.{has_float-whole}
 
 -- ---- texts
 
@@ -173,35 +169,7 @@ all_back-of (member k d ms) ordered plain =
     at true is plain others h = h
     at false is plain others h = and_from (not (is_front k) && not (is_special k)) (all_back ms) (rw (is, plain) refl) (later k ms is (first_of k d ms ordered) (rest_of k d ms ordered) others)
 
--- ---- the test of each name finds the front
-
-no_fronts : (ms : Members) → all_back ms ≡ true → fronts ms ≡ no_members
-no_fronts no_members all = refl
-no_fronts (member k d ms) all =
-    let both = and_parts (not (is_front k) && not (is_special k)) (all_back ms) all in
-    let back = negated (is_front k) (and_parts (not (is_front k)) (not (is_special k)) both.0).0 in
-    rw back (no_fronts ms both.1)
-
-pub fronts-front_of : (ms : Members) → all_back (back_of ms) ≡ true → fronts ms ≡ front_of ms
-fronts-front_of no_members all = refl
-fronts-front_of (member k d ms) all = at (is_front k) all (fronts-front_of ms)
-  where
-    at : (b : Bool) → all_back (cond b (back_of ms) (member k d ms)) ≡ true → (all_back (back_of ms) ≡ true → fronts ms ≡ front_of ms)
-        → cond b (member k d (fronts ms)) (fronts ms) ≡ cond b (member k d (front_of ms)) no_members
-    at true h later = ap (member k d) (later h)
-    at false h later = no_fronts ms (and_parts (not (is_front k) && not (is_special k)) (all_back ms) h).1
-
-pub fronts-plain : (ms : Members) → members_ordered ms ≡ true → has_special ms ≡ false → fronts ms ≡ front_of ms
-fronts-plain ms ordered plain = fronts-front_of ms (all_back-of ms ordered plain)
-
--- the walk over a map
-front_if : (b : Bool) (e : Entry) (es : List Entry) (ms : Members) → members_view es ≡ ms → members_view (cond b (e ∷ es) es) ≡ cond b (member (string_bytes e.0) (view e.1) ms) ms
-front_if true e es ms h = ap (member (string_bytes e.0) (view e.1)) h
-front_if false e es ms h = h
-
-pub filter_front : (es : List Entry) → members_view (filter (λ e. is_front (string_bytes e.0)) es) ≡ fronts (members_view es)
-filter_front [] = refl
-filter_front (e ∷ es) = front_if (is_front (string_bytes e.0)) e (filter (λ e. is_front (string_bytes e.0)) es) (fronts (members_view es)) (filter_front es)
+-- ---- plain members
 
 -- no special name is among plain members
 plain_grows : (k : List ℕ) (d : Data) (ms ns : Members) → without_specials ns ≡ member k d ms → members_count (member k d ms) ≤ members_count ns
@@ -228,29 +196,7 @@ no_special (member k d ms) plain = at (is_special k) plain (no_special ms)
     at true is later = let grown : suc (members_count ms) ≤ members_count ms = plain_grows k d ms ms is in absurd (omega (arith, grown))
     at false is later = later (ap tail_of is)
 
--- ---- where the split is
-
-fronts-whole : (ms : Members) → members_whole ms ≡ true → members_whole (fronts ms) ≡ true
-fronts-whole no_members whole = refl
-fronts-whole (member k d ms) whole =
-    let both = and_parts (is_whole d) (members_whole ms) whole in
-    at (is_front k) both.0 (fronts-whole ms both.1)
-  where
-    at : (b : Bool) → is_whole d ≡ true → members_whole (fronts ms) ≡ true → members_whole (cond b (member k d (fronts ms)) (fronts ms)) ≡ true
-    at true here later = and_from (is_whole d) (members_whole (fronts ms)) here later
-    at false here later = later
-
-pub fronts-no_float : (ms : Members) → members_whole ms ≡ true → has_float (object (fronts ms)) ≡ false
-fronts-no_float ms whole = has_float-whole (object (fronts ms)) (fronts-whole ms whole)
-
-length-last : (xs : List ℕ) (x : ℕ) → length (xs ++ x ∷ []) ≡ suc (length xs)
-length-last [] x = refl
-length-last (y ∷ ys) x = ap suc (length-last ys x)
-
-pub length-fronts : (text : List ℕ) (ms : Members) → ArePlain ms → text ≡ compact_text (object (fronts ms)) → length text ≡ suc (split_of ms)
-length-fronts text ms plain is =
-    let same : fronts ms ≡ front_of ms = fronts-plain ms plain.ordered (no_special ms plain.plain) in
-    ap length (is ∙ ap (λ os. compact_text (object os)) same) ∙ ap (λ s. suc (length s)) (members_text-bare false (front_of ms)) ∙ ap suc (length-last (bare_text false (front_of ms)) 125)
+-- ---- the text of plain members
 
 pub plain-text : (ms : Members) → compact_text (object ms) ≡ 123 ∷ (bare_text false (front_of ms) ++ (bare_text (has_member (front_of ms)) (back_of ms) ++ 125 ∷ []))
 plain-text ms = ap (λ os. compact_text (object os)) (sym (parts ms)) ∙ text-plain (front_of ms) (back_of ms)
@@ -356,7 +302,7 @@ later-text false no_members = refl
 later-text true (member k d ms) = refl
 later-text false (member k d ms) = refl
 
-behind : (later : Bool) (ms : Members) → has_member ms ≡ true → bare_text later ms ≡ comma_if later ++ bare_text false ms
+pub behind : (later : Bool) (ms : Members) → has_member ms ≡ true → bare_text later ms ≡ comma_if later ++ bare_text false ms
 behind later no_members some = absurd (true≢false (sym some))
 behind true (member k d ms) some = refl
 behind false (member k d ms) some = refl

@@ -3,6 +3,7 @@ pub mod Joined
 pub mod Kept
 pub mod Order
 pub mod Parts
+pub mod Sides
 pub mod Specials
 pub mod Taken
 pub mod Texts

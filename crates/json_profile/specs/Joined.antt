@@ -41,11 +41,6 @@ abbrev pub all_back : Members → Bool
 all_back no_members = true
 all_back (member k d ms) = (not (is_front k) && not (is_special k)) && all_back ms
 
--- the members whose names come before `_`, by a test of each
-abbrev pub fronts : Members → Members
-fronts no_members = no_members
-fronts (member k d ms) = if is_front k then member k d (fronts ms) else fronts ms
-
 -- the special members between those that come before them and the others
 abbrev pub between : Members → Members → Members
 between body special = join (front_of body) (join special (back_of body))

@@ -1,20 +1,18 @@
 //! The body of a document.
-ghost use Rattle.std.specs.Prelude.{◌≡◌, ◌↔◌, ◌≤◌, ◌<◌, ◌≢◌, ◌-◌, Some, true, false, IfOk, string_bytes, take, drop};
+ghost use Rattle.std.specs.Prelude.{◌≡◌, ◌↔◌, ◌≤◌, ◌<◌, ◌≢◌, ◌-◌, Some, true, false, IfOk, string_bytes, take, drop, ◌∷◌, ◌++◌};
 ghost use Rattle.std.specs.Str.{IsCharBoundary};
 ghost use Rattle.serde_json.specs.Data.{Members, no_members, object, depth as nesting};
-ghost use Rattle.serde_json.specs.View.{view as data_of, members_view};
+ghost use Rattle.serde_json.specs.View.{members_view};
 ghost use Rattle.serde_json.specs.Read.{max_depth, read};
-ghost use Rattle.serde_json.specs.Written.{compact_text, has_float};
+ghost use Rattle.serde_json.specs.Written.{compact_text};
 ghost use Rattle.model.specs.Body.{IsBody, body_text};
-ghost use Rattle.model.specs.Profile.{max_body_nesting};
+ghost use Rattle.model.specs.Profile.{max_body_nesting, members_whole};
 ghost use Rattle.json_profile.specs.Joined.{bare_text, front_of, back_of, has_member, split_of};
-ghost use Rattle.json_profile.specs.Objects.{members_in};
 ghost use Rattle.json_profile.specs.Profiled.{ArePlain};
 ghost use Rattle.json_profile.specs.declared.fault.JsonFault.TheVariants.{Malformed, Number, Depth, NotAnObject};
 
 use crate::fault::JsonFault;
 use crate::measure::members_nest_within;
-use crate::members::keep_front;
 use serde_json::{Map, Value};
 use std::alloc::{AllocError, Global};
 use std::marker::Model;
@@ -75,9 +73,8 @@ impl Body {
         if !members_nest_within(&members, MAX_BODY_NESTING - 1) {
             return Err(JsonFault::Depth);
         }
-        let object = Value::Object(members);
-        let text = fitted_text(alloc, &object)?;
-        let split = place_of_specials(alloc, object)?;
+        let (mut text, split) = written(alloc, members)?;
+        text.shrink_to_fit();
         Ok(Body { text, split })
     }
 
@@ -124,41 +121,50 @@ impl Body {
     }
 }
 
-/// The compact text, which keeps no spare memory.
-fn fitted_text(alloc: Global, value: &Value) -> Result<String, AllocError>
-    ensures text { IfOk result (λ text. has_float (data_of value.now) ≡ false
-        → string_bytes text ≡ compact_text (data_of value.now)) }
-    ensures reads_back { IfOk result (λ text. nesting (data_of value.now) ≤ max_depth
-        → read (string_bytes text) ≡ Some (data_of value.now)) }
-{
-    let mut text = value.to_string(alloc)?;
-    text.shrink_to_fit();
-    Ok(text)
-}
-
-/// Where special members go in the text of an object.
-fn place_of_specials(alloc: Global, value: Value) -> Result<usize, AllocError>
-    requires { ArePlain (members_in (data_of value)) }
-    ensures { IfOk result (λ at. at ≡ split_of (members_in (data_of value))) }
-{
-    match value {
-        Value::Object(members) => end_of_front(alloc, members),
-        _ => Ok(1),
-    }
-}
-
-/// Where the text of the members ends whose names come before `_`.
-fn end_of_front(alloc: Global, members: Map<String, Value>) -> Result<usize, AllocError>
+/// The compact text of an object of these members, and where special members go in it. Each member
+/// is written once.
+fn written(alloc: Global, members: Map<String, Value>) -> Result<(String, usize), AllocError>
     requires { ArePlain (members_view members.entries) }
-    ensures { IfOk result (λ at. at ≡ split_of (members_view members.entries)) }
+    ensures text { IfOk result (λ written. string_bytes written.0 ≡ compact_text (object (members_view members.entries))) }
+    ensures reads_back { IfOk result (λ written. nesting (object (members_view members.entries)) ≤ max_depth
+        → read (string_bytes written.0) ≡ Some (object (members_view members.entries))) }
+    ensures split { IfOk result (λ written. written.1 ≡ split_of (members_view members.entries)) }
 {
-    let mut members = members;
-    keep_front(&mut members);
-    if members.is_empty() {
-        return Ok(1);
+    let mut front = members;
+    let back = front.split_off("_")?;
+    if front.is_empty() {
+        return Ok((object_text(alloc, back)?, 1));
     }
-    let text = Value::Object(members).to_string(alloc)?;
-    Ok(text.as_bytes().len() - 1)
+    let front_text = object_text(alloc, front)?;
+    let split = front_text.len() - 1;
+    if back.is_empty() {
+        return Ok((front_text, split));
+    }
+    let back_text = object_text(alloc, back)?;
+    let text = with_members_behind(front_text, split, back_text.as_str())?;
+    Ok((text, split))
+}
+
+/// The compact text of an object of these members.
+fn object_text(alloc: Global, members: Map<String, Value>) -> Result<String, AllocError>
+    requires { members_whole (members_view members.entries) ≡ true }
+    ensures { IfOk result (λ text. string_bytes text ≡ compact_text (object (members_view members.entries))) }
+{
+    Value::Object(members).to_string(alloc)
+}
+
+/// The text of an object up to its last bracket, and the text of another behind a comma in place of
+/// its first bracket.
+fn with_members_behind(front: String, bracket: usize, back: &str) -> Result<String, AllocError>
+    requires last { IsCharBoundary (string_bytes front) bracket }
+    requires first { IsCharBoundary back.now 1 }
+    ensures { IfOk result (λ text. string_bytes text ≡ take bracket (string_bytes front) ++ 44 ∷ drop 1 back.now) }
+{
+    let mut text = front;
+    text.truncate(bracket);
+    text.push_str(",")?;
+    text.push_str(&back[1..])?;
+    Ok(text)
 }
 
 fn part(text: &str, from: usize, to: usize) -> &str

@@ -3,7 +3,6 @@ ghost use Rattle.std.specs.Prelude.{◌≡◌, IfOk, option_map};
 ghost use Rattle.serde_json.specs.Find.{get_member};
 ghost use Rattle.serde_json.specs.View.{view, members_view};
 ghost use Rattle.model.specs.Profile.{is_special as begins_with_underscore, without_specials};
-ghost use Rattle.json_profile.specs.Joined.{is_front as stands_in_front, fronts};
 ghost use Rattle.json_profile.specs.Objects.{without, has_special as some_special};
 
 use serde_json::{Map, Value};
@@ -55,20 +54,4 @@ pub(crate) fn take(members: &mut Map<String, Value>, name: &str) -> Option<Value
     ensures left { members_view members.new.entries ≡ without name.now (members_view members.old.entries) }
 {
     members.remove(name)
-}
-
-pub(crate) fn is_front(name: &str) -> bool
-    ensures { result ≡ stands_in_front name.now }
-{
-    match name.as_bytes() {
-        [] => true,
-        [first, ..] => *first < b'_',
-    }
-}
-
-/// Drops the members whose names come after `_`, and moves none of the others.
-pub(crate) fn keep_front(members: &mut Map<String, Value>)
-    ensures { members_view members.new.entries ≡ fronts (members_view members.old.entries) }
-{
-    members.retain(|name, _member| is_front(name.as_str()));
 }
