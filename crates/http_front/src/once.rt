@@ -106,7 +106,7 @@ pub(crate) fn serve_opened<
         return None;
     };
     let ended = serve(rt.alloc(), reader, writer, &mut session, &setting);
-    let _place = session.place();
+    let _recalled = session.place();
     sessions.push_reserved(session);
     Some((ended, master.close(sessions, rt)))
 }

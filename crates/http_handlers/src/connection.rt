@@ -77,7 +77,7 @@ pub fn serve<R: Source, W: Sink, X, S: Calls<X>>(
         session.old session.new result }
 {
     let Ok(mut window) = Window::new(alloc) else {
-        let _place = session.place();
+        let _recalled = session.place();
         return NOTHING_READ;
     };
     serve_in(&mut window, reader, writer, session, setting)
@@ -115,6 +115,6 @@ fn serve_lent<R: Source, W: Sink, X, S: Calls<X>>(
         lent.old.session.now lent.new.session.now result }
 {
     let ended = http_connection::serve(window, reader, writer, lent, setting);
-    let _place = lent.session.place();
+    let _recalled = lent.session.place();
     ended
 }

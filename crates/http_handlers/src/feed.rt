@@ -93,7 +93,7 @@ fn go_on<X, S: Calls<X>, W: Sink>(
         (W.failed_writes writer.new) result }
 {
     let mut progress = start;
-    let _place = session.place();
+    let _recalled = session.place();
     for _turn in 0..u64::MAX {
         let Ok(given) = give(session, setting.alloc, &mut progress, writer) else {
             return Err(Failed);

@@ -29,7 +29,7 @@ impl<C: Drop, J: Opening, G: Drop> Viewer for Session<C, J, G> {
     }
 
     fn refresh(&mut self) -> Result<(), CallFault> {
-        let _place = self.place();
+        let _recalled = self.place();
         match self.refresh() {
             Ok(()) => Ok(()),
             Err(fault) => Err(call_fault(fault)),
@@ -47,7 +47,7 @@ impl<R: Wait + Drop, J: Opening, G: Gate + Drop, X: Wait + Clock> Calls<X>
     }
 
     fn wait_past(&mut self, context: &X, seq: u64, turns: u64) -> Result<bool, CallFault> {
-        let _place = self.place();
+        let _recalled = self.place();
         match self.wait_past(context, seq, turns) {
             Ok(past) => Ok(past),
             Err(fault) => Err(call_fault(fault)),
@@ -66,7 +66,7 @@ fn edit<R: Wait + Drop, J: Opening, G: Gate + Drop, X: Wait>(
     ensures learns { Learns (known_of J.base J.config J.sessions J.capacity session.old) (deed.Wrote command result)
         (known_of J.base J.config J.sessions J.capacity session.new) }
 {
-    let _place = session.place();
+    let _recalled = session.place();
     match session.write(rt, command) {
         Ok(receipt) => Ok(receipt.place),
         Err(fault) => Err(call_fault(fault)),
@@ -82,7 +82,7 @@ fn compact<R: Wait + Drop, J: Opening, G: Gate + Drop, X: Wait>(
     ensures learns { Learns (known_of J.base J.config J.sessions J.capacity session.old) (deed.Wrote Compact result)
         (known_of J.base J.config J.sessions J.capacity session.new) }
 {
-    let _place = session.place();
+    let _recalled = session.place();
     match session.compact(rt) {
         Ok(receipt) => Ok(receipt.place),
         Err(fault) => Err(call_fault(fault)),

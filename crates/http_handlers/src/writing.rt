@@ -49,7 +49,7 @@ fn tell_reply<S: Viewer>(session: &S, alloc: Global, place: u64, form: Form, clo
         → SendsDue (reply_text place (after_closing closes) form entry.command entry.reply)
         closes place memory_for.Reply result }
 {
-    let _place = session.place();
+    let _recalled = session.place();
     let Some(entry) = session.version().entry(place) else {
         unreachable!()
     };

@@ -5,4 +5,4 @@ pub returns-clause-same : goal.returns-clause-same
 returns-clause-same g c = same_name g.S.Viewer.goes g.S.Viewer.known _ (λ f. f.session.now) (λ f. f.session.ghost_name) _ _ _ c.serve-ended.ensures.runs
 
 pub returns-clause-connection : goal.returns-clause-connection
-returns-clause-connection g c = served_lent g.S.Viewer.goes g.S.Viewer.known _ (λ f. f.session.now) (λ f. f.session.ghost_name) _ _ _ _ _ c.serve-ended.ensures c.place-place.ensures.legal
+returns-clause-connection g c = served_lent g.S.Viewer.goes g.S.Viewer.known _ (λ f. f.session.now) (λ f. f.session.ghost_name) _ _ _ _ _ c.serve-ended.ensures c.place-recalled.ensures.legal

@@ -10,7 +10,7 @@ use Rattle.http_handlers.proofs.Feeds.{gave_none, gave_some, going-start, going-
 use Rattle.http_handlers.proofs.feed.go_on.Goals as goal
 
 pub loop-turn-init : goal.loop-turn-init
-loop-turn-init g c = ([], going-start g.S.Viewer.goes g.S.Viewer.known _ _ c.args.start c.place-place.ensures.legal, Appends-nil _, refl)
+loop-turn-init g c = ([], going-start g.S.Viewer.goes g.S.Viewer.known _ _ c.args.start c.place-recalled.ensures.legal, Appends-nil _, refl)
 
 pub returns-in_default-clause-goes_on : goal.returns-in_default-clause-goes_on
 returns-in_default-clause-goes_on g c =

@@ -10,7 +10,7 @@ returns-in-Ok-clause-goes g c =
     (_, ap (λ r. r.place) c.receipt.view_is, told.receipt, kept_of c.args.session.now.lost told.for_ever, omega (arith, told.pushes))
 
 pub returns-in-Ok-clause-learns : goal.returns-in-Ok-clause-learns
-returns-in-Ok-clause-learns g c = learns_of g.J.Naming.base g.J.Opening.config g.J.Queued.sessions g.J.Queued.capacity c.compact.new.self c.args.session.now c.place-place.ensures.legal c.place-place.ensures.own (Wrote Compact (Ok c.receipt.inside.place)) (returns-in-Ok-clause-goes g c)
+returns-in-Ok-clause-learns g c = learns_of g.J.Naming.base g.J.Opening.config g.J.Queued.sessions g.J.Queued.capacity c.compact.new.self c.args.session.now c.place-recalled.ensures.legal c.place-recalled.ensures.own (Wrote Compact (Ok c.receipt.inside.place)) (returns-in-Ok-clause-goes g c)
 
 pub returns-in-Err-clause-goes : goal.returns-in-Err-clause-goes
 returns-in-Err-clause-goes g c =
@@ -25,4 +25,4 @@ returns-in-Err-clause-goes g c =
     )
 
 pub returns-in-Err-clause-learns : goal.returns-in-Err-clause-learns
-returns-in-Err-clause-learns g c = learns_of g.J.Naming.base g.J.Opening.config g.J.Queued.sessions g.J.Queued.capacity c.compact.new.self c.args.session.now c.place-place.ensures.legal c.place-place.ensures.own (Wrote Compact (Err c.call_fault.result)) (returns-in-Err-clause-goes g c)
+returns-in-Err-clause-learns g c = learns_of g.J.Naming.base g.J.Opening.config g.J.Queued.sessions g.J.Queued.capacity c.compact.new.self c.args.session.now c.place-recalled.ensures.legal c.place-recalled.ensures.own (Wrote Compact (Err c.call_fault.result)) (returns-in-Err-clause-goes g c)

@@ -10,7 +10,7 @@ returns-in-Ok-clause-goes g c =
     (_, ap (λ r. r.place) c.receipt.view_is, told.receipt, kept_of c.args.session.now.lost told.for_ever, told.pushes)
 
 pub returns-in-Ok-clause-learns : goal.returns-in-Ok-clause-learns
-returns-in-Ok-clause-learns g c = learns_of g.J.Naming.base g.J.Opening.config g.J.Queued.sessions g.J.Queued.capacity c.write.new.self c.args.session.now c.place-place.ensures.legal c.place-place.ensures.own (Wrote c.args.command (Ok c.receipt.inside.place)) (returns-in-Ok-clause-goes g c)
+returns-in-Ok-clause-learns g c = learns_of g.J.Naming.base g.J.Opening.config g.J.Queued.sessions g.J.Queued.capacity c.write.new.self c.args.session.now c.place-recalled.ensures.legal c.place-recalled.ensures.own (Wrote c.args.command (Ok c.receipt.inside.place)) (returns-in-Ok-clause-goes g c)
 
 pub returns-in-Err-clause-goes : goal.returns-in-Err-clause-goes
 returns-in-Err-clause-goes g c =
@@ -27,4 +27,4 @@ returns-in-Err-clause-goes g c =
     )
 
 pub returns-in-Err-clause-learns : goal.returns-in-Err-clause-learns
-returns-in-Err-clause-learns g c = learns_of g.J.Naming.base g.J.Opening.config g.J.Queued.sessions g.J.Queued.capacity c.write.new.self c.args.session.now c.place-place.ensures.legal c.place-place.ensures.own (Wrote c.args.command (Err c.call_fault.result)) (returns-in-Err-clause-goes g c)
+returns-in-Err-clause-learns g c = learns_of g.J.Naming.base g.J.Opening.config g.J.Queued.sessions g.J.Queued.capacity c.write.new.self c.args.session.now c.place-recalled.ensures.legal c.place-recalled.ensures.own (Wrote c.args.command (Err c.call_fault.result)) (returns-in-Err-clause-goes g c)

@@ -17,7 +17,7 @@ reply_of-response-requires g c =
     let place = c.args.place in
     let entry = c.requires.0 in
     let is : c.in-Some.entry.now ≡ entry = same_Some _ _ (c.in-Some.ensures ∙ ap (λ (h : Chronicle). entry_at h.entries place) c.version.ensures ∙ entry_there k place entry c.requires.2) in
-    subst (λ (e : Entry). IsSome (reply_told c.args.form e.command e.reply)) (sym is) (entry-told k place entry c.args.form c.place-place.ensures.legal c.requires.2 c.requires.1)
+    subst (λ (e : Entry). IsSome (reply_told c.args.form e.command e.reply)) (sym is) (entry-told k place entry c.args.form c.place-recalled.ensures.legal c.requires.2 c.requires.1)
 
 pub returns : goal.returns
 returns g c =

@@ -9,7 +9,7 @@ returns-in-Ok-clause-goes g c =
     (told.looks, kept_of c.args.self.now.lost (λ lost. told.lost.1 lost), told.past, (λ is. told.looked (ap Ok is)))
 
 pub returns-in-Ok-clause-learns : goal.returns-in-Ok-clause-learns
-returns-in-Ok-clause-learns g c = learns_of g.J.Naming.base g.J.Opening.config g.J.Queued.sessions g.J.Queued.capacity c.wait_past.new.self c.args.self.now c.place-place.ensures.legal c.place-place.ensures.own (Waited c.args.seq c.args.turns (Ok c.in-Ok.past)) (returns-in-Ok-clause-goes g c)
+returns-in-Ok-clause-learns g c = learns_of g.J.Naming.base g.J.Opening.config g.J.Queued.sessions g.J.Queued.capacity c.wait_past.new.self c.args.self.now c.place-recalled.ensures.legal c.place-recalled.ensures.own (Waited c.args.seq c.args.turns (Ok c.in-Ok.past)) (returns-in-Ok-clause-goes g c)
 
 pub returns-in-Err-clause-goes : goal.returns-in-Err-clause-goes
 returns-in-Err-clause-goes g c =
@@ -20,4 +20,4 @@ returns-in-Err-clause-goes g c =
     )
 
 pub returns-in-Err-clause-learns : goal.returns-in-Err-clause-learns
-returns-in-Err-clause-learns g c = learns_of g.J.Naming.base g.J.Opening.config g.J.Queued.sessions g.J.Queued.capacity c.wait_past.new.self c.args.self.now c.place-place.ensures.legal c.place-place.ensures.own (Waited c.args.seq c.args.turns (Err c.call_fault.result)) (returns-in-Err-clause-goes g c)
+returns-in-Err-clause-learns g c = learns_of g.J.Naming.base g.J.Opening.config g.J.Queued.sessions g.J.Queued.capacity c.wait_past.new.self c.args.self.now c.place-recalled.ensures.legal c.place-recalled.ensures.own (Waited c.args.seq c.args.turns (Err c.call_fault.result)) (returns-in-Err-clause-goes g c)
