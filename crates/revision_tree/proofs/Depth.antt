@@ -82,7 +82,7 @@ module _ (t : Tree) (f : IsForest t) (limit : ℕ) (some : 0 < limit) where
       ((stems.known l).1 (record { leaf = l; at_leaf = leaf; steps = 0; few = some; leads = refl }))
       (by_cases (has_child (stem limit t) l) (λ c. let d = child_of (stem limit t) l c in absurd (no_parent_of_leaf t l d.child leaf ((stems.parents d.child l).0 d.parent).0)) (λ n. n))
 
-  climbs : (l : Rev) → is_leaf t l ≡ true → (n : ℕ) (r : Rev) → n < limit → ancestor t n (Some l) ≡ Some r → ancestor (stem limit t) n (Some l) ≡ Some r
+  pub climbs : (l : Rev) → is_leaf t l ≡ true → (n : ℕ) (r : Rev) → n < limit → ancestor t n (Some l) ≡ Some r → ancestor (stem limit t) n (Some l) ≡ Some r
   climbs l leaf zero r lt e = e
   climbs l leaf (suc n) r lt e =
       let s = last_step t n (Some l) r e in
@@ -100,7 +100,7 @@ module _ (t : Tree) (f : IsForest t) (limit : ℕ) (some : 0 < limit) where
 
 -- ---- a strip
 
-ancestor-strip : (t : Tree) (n : ℕ) (o : Option Rev) → ancestor (strip t) n o ≡ ancestor t n o
+pub ancestor-strip : (t : Tree) (n : ℕ) (o : Option Rev) → ancestor (strip t) n o ≡ ancestor t n o
 ancestor-strip t zero o = refl
 ancestor-strip t (suc n) None = ancestor-strip t n None
 ancestor-strip t (suc n) (Some r) = ancestor-strip t n (parent_of (strip t) r) ∙ ap (ancestor t n) (parent_of-strip t r)

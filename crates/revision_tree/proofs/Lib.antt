@@ -18,3 +18,4 @@ pub mod Deciding
 pub mod Depth
 pub mod Trimmed
 pub mod Forked
+pub mod Tailed

@@ -14,6 +14,7 @@ mod rows;
 mod search;
 mod shorten;
 mod strip;
+mod tails;
 mod tree;
 mod trim;
 mod walk;

@@ -7,8 +7,9 @@ ghost use Rattle.model.specs.Revision.{rev_cmp};
 ghost use Rattle.revision_tree.specs.Nodes.{IsSorted, IsPlaceOf, entry_of, row_of, rows_of, tree_of};
 ghost use Rattle.revision_tree.specs.Rows.{AreFilled, IsRows, lists_of, nodes_of};
 
+use crate::growth::has_parent;
 use crate::node::Node;
-use crate::place::piece_of;
+use crate::place::{piece_for, piece_of};
 use crate::rows::Rows;
 use revision_id::RevId;
 use std::alloc::{AllocError, Global};
@@ -110,6 +111,53 @@ pub(crate) fn forebear_of(rows: &Rows, rev: RevId, steps: u32) -> Option<Forebea
         return None;
     };
     Some(Forebear { rev, child })
+}
+
+/// A child of a revision, if there is one.
+pub(crate) fn child_of(rows: &Rows, rev: RevId) -> Option<RevId>
+    requires { IsRows rows.now }
+    ensures { IfSome result (λ child. parent_of (tree_of (nodes_of rows.now)) child ≡ Some rev) }
+{
+    let Some(child) = child_from(rows, rev) else {
+        return None;
+    };
+    if has_parent(parent_in(rows, child), rev) {
+        return Some(child);
+    }
+    None
+}
+
+/// The same, looked for among the revisions of its generation and the next.
+fn child_from(rows: &Rows, rev: RevId) -> Option<RevId>
+    requires { IsRows rows.now }
+{
+    for place in piece_for(rows, rev)..rows.older.len() {
+        let piece = &rows.older[place];
+        if begins_beyond(piece, rev) {
+            return None;
+        }
+        if let Some(child) = child_among(piece, rev) {
+            return Some(child);
+        }
+    }
+    child_among(&rows.last, rev)
+}
+
+/// Whether the first node is more than one generation below a revision.
+fn begins_beyond(nodes: &[Node], rev: RevId) -> bool {
+    let [first, ..] = nodes else {
+        return false;
+    };
+    first.rev.generation().saturating_sub(rev.generation()) > 1
+}
+
+fn child_among(nodes: &[Node], rev: RevId) -> Option<RevId> {
+    for node in nodes {
+        if has_parent(node.parent, rev) {
+            return Some(node.rev);
+        }
+    }
+    None
 }
 
 /// Whether it is the parent of a known revision.

@@ -10,6 +10,7 @@ ghost use Rattle.revision_tree.specs.Nodes.{IsListOf, IsNodes, entries_of, tree_
 ghost use Rattle.revision_tree.specs.Growth.{AreGround};
 ghost use Rattle.revision_tree.specs.Kept.{IsUnforked};
 ghost use Rattle.revision_tree.specs.Rows.{AreFilled, lists_of, nodes_of};
+ghost use Rattle.revision_tree.specs.Tails.{AreTails};
 ghost use Rattle.revision_tree.specs.Walk.{left_of};
 
 mod stems;
@@ -23,6 +24,7 @@ use crate::node::Node;
 use crate::rows::Rows;
 use crate::search::{is_parent, node_of, parent_in, path_from};
 use crate::strip::stripped;
+use crate::tails::Tails;
 use crate::walk::Nodes;
 use crate::whole::{all, count, first, last, pieces_of};
 use json_profile::Body;
@@ -40,6 +42,8 @@ pub struct RevTree {
     depth: u32,
     /// No revision of a generation above this is known to have two children.
     forks: u32,
+    /// The oldest revisions on the paths of some leaves.
+    tails: Tails,
 }
 
 /// More steps than a path can have, and the highest generation.
@@ -52,6 +56,7 @@ impl Drop for RevTree {
             one_leaf: _,
             depth: _,
             forks: _,
+            tails: _,
         } = self;
     }
 }
@@ -69,7 +74,7 @@ impl Model for RevTree {
 
     ghost view = { λ t. tree_of (nodes_of t.rows) };
 
-    ghost invariant = { λ t. IsKept t.rows t.one_leaf t.depth t.forks };
+    ghost invariant = { λ t. IsKept t.rows t.one_leaf t.depth t.forks t.tails };
 }
 
 impl RevTree {
@@ -107,6 +112,7 @@ impl RevTree {
             one_leaf,
             depth: ANY,
             forks,
+            tails: Tails::none(alloc),
         })
     }
 
@@ -127,6 +133,7 @@ impl RevTree {
     {
         let one_leaf = goes_through_leaves(tree, path);
         let forks = forks_with(tree, path);
+        let tails = tails_of(alloc, tree)?;
         let mut rows = ground(alloc, tree)?;
         grow(alloc, &mut rows, path, body, deleted)?;
         Ok(RevTree {
@@ -134,6 +141,7 @@ impl RevTree {
             one_leaf,
             depth: ANY,
             forks,
+            tails,
         })
     }
 
@@ -146,6 +154,7 @@ impl RevTree {
             one_leaf: self.one_leaf,
             depth: self.depth,
             forks: self.forks,
+            tails: self.tails.share(alloc)?,
         })
     }
 
@@ -172,6 +181,7 @@ impl RevTree {
             one_leaf: self.one_leaf,
             depth: self.depth,
             forks: self.forks,
+            tails: self.tails.share(alloc)?,
         })
     }
 
@@ -293,6 +303,16 @@ fn has_leaf(tree: &RevTree, revs: &[RevId]) -> bool
         }
     }
     false
+}
+
+/// The tails that a tree has noted, and none of no tree.
+fn tails_of(alloc: Global, tree: Option<&RevTree>) -> Result<Tails, AllocError>
+    ensures { IfOk result (λ s. AreTails s (unwrap_or (option_copied tree.entry) empty)) }
+{
+    match tree {
+        Some(tree) => tree.tails.share(alloc),
+        None => Ok(Tails::none(alloc)),
+    }
 }
 
 /// The nodes of a tree, shared, and none of no tree.

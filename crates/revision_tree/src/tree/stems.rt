@@ -1,17 +1,21 @@
 //! Stems of a tree.
-ghost use Rattle.std.specs.Prelude.{◌≡◌, ◌⊎◌, ◌<◌, ◌≤◌, Some, true, IfOk, IfSome};
+ghost use Rattle.std.specs.Prelude.{◌≡◌, ◌⊎◌, ◌<◌, ◌≤◌, Some, None, true, IfOk, IfSome};
 ghost use Rattle.model.specs.Revision.{Rev};
-ghost use Rattle.model.specs.Tree.{knows as is_known, IsNear, ancestor, is_leaf as is_known_leaf};
+ghost use Rattle.model.specs.Tree.{knows as is_known, IsNear, ancestor, is_leaf as is_known_leaf, parent_of as known_parent};
 ghost use Rattle.model.specs.TreeChange.{stem as stemming};
 
 use crate::near::has_near_leaf;
-use crate::search::forebear_of;
+use crate::search::{Forebear, child_of, forebear_of, parent_in};
 use crate::shorten::{above, are_level};
+use crate::tails::{Tail, Tails};
 use crate::tree::RevTree;
 use crate::trim::without;
 use crate::whole::last;
 use revision_id::RevId;
 use std::alloc::{AllocError, Global};
+
+/// The least limit at which a walk of a path costs more than a look at the revisions of a generation.
+const LONG: u32 = 16;
 
 impl RevTree {
     /// Whether each leaf is of the newest generation: then a stem takes the oldest revisions alone.
@@ -33,6 +37,7 @@ impl RevTree {
             one_leaf,
             depth: _,
             forks,
+            tails: _,
         } = self;
         let newest = last(&rows);
         let oldest = newest.generation().saturating_sub(limit);
@@ -41,6 +46,7 @@ impl RevTree {
             one_leaf,
             depth: limit,
             forks,
+            tails: Tails::none(alloc),
         })
     }
 
@@ -73,12 +79,14 @@ impl RevTree {
             one_leaf,
             depth: _,
             forks,
+            tails,
         } = self;
         RevTree {
             rows,
             one_leaf,
             depth: limit,
             forks,
+            tails,
         }
     }
 
@@ -96,22 +104,67 @@ impl RevTree {
         requires far { (r : Rev) → is_known self.now r ≡ true → IsNear limit self.now r ⊎ (ancestor self.now limit (Some newest) ≡ Some r) }
         ensures { IfOk result (λ stem. IfSome stem (λ t. t ≡ stemming limit self.now)) }
     {
-        let Some(far) = forebear_of(&self.rows, newest, limit) else {
+        let forks = self.forks;
+        let Some(far) = self.far_above(newest, limit) else {
             return Ok(Some(self.shared_stem(alloc, limit)?));
         };
-        if far.rev.generation() <= self.forks {
+        if far.rev.generation() <= forks {
             if !has_near_leaf(&self.rows, far.rev, limit) {
                 return Ok(None);
             }
             return Ok(Some(self.shared_stem(alloc, limit)?));
         }
+        let last = Tail {
+            leaf: newest,
+            oldest: far.child,
+        };
+        let tails = self.tails.after(alloc, &self.rows, limit - 1, last)?;
         let rows = without(alloc, &self.rows, far.rev, far.child)?;
         Ok(Some(RevTree {
             rows,
             one_leaf: false,
             depth: limit,
-            forks: self.forks,
+            forks,
+            tails,
         }))
+    }
+
+    /// The revision that is `limit` steps above another, and its child on the way.
+    fn far_above(&self, newest: RevId, limit: u32) -> Option<Forebear>
+        requires { 0 < limit }
+        ensures none { result ≡ None → ancestor self.now limit (Some newest) ≡ None }
+        ensures rev { IfSome result (λ a. ancestor self.now limit (Some newest) ≡ Some a.rev) }
+        ensures child { IfSome result (λ a. known_parent self.now a.child ≡ Some a.rev) }
+    {
+        if let Some(far) = self.noted_above(newest, limit) {
+            return Some(far);
+        }
+        forebear_of(&self.rows, newest, limit)
+    }
+
+    /// The same, where it is noted for the parent.
+    fn noted_above(&self, newest: RevId, limit: u32) -> Option<Forebear>
+        requires { 0 < limit }
+        ensures rev { IfSome result (λ a. ancestor self.now limit (Some newest) ≡ Some a.rev) }
+        ensures child { IfSome result (λ a. known_parent self.now a.child ≡ Some a.rev) }
+    {
+        let steps = self.tails.steps;
+        if limit < LONG {
+            return None;
+        }
+        if steps != limit - 1 {
+            return None;
+        }
+        let Some(parent) = parent_in(&self.rows, newest) else {
+            return None;
+        };
+        let Some(rev) = self.tails.oldest_above(parent) else {
+            return None;
+        };
+        let Some(child) = child_of(&self.rows, rev) else {
+            return None;
+        };
+        Some(Forebear { rev, child })
     }
 
     /// The same tree, which shares what it can, and of which it is known from then on that a stem keeps all.

@@ -15,4 +15,5 @@ invariant_of-result c =
       single = h.single;
       near = near_stemmed (tree_of ns) h.rows.nodes.tree.forest c.args.limit (subst (λ (t : Tree). stem c.args.limit t ≡ t) (sym c.self.view_is) c.requires);
       unforked = h.unforked;
+      tails = h.tails;
     }

@@ -3,6 +3,7 @@ use Rattle.std.specs.Prelude.{All}
 use Rattle.model.specs.Revision.{last_generation}
 use Rattle.revision_tree.specs.Kept.{HasOneLeaf, AreNear, IsUnforked}
 use Rattle.revision_tree.specs.Nodes.{IsNodes, tree_of}
+use Rattle.revision_tree.specs.Tails.{AreTails}
 use Rattle.revision_tree.proofs.Depth.{near_any}
 use Rattle.revision_tree.proofs.Kept.{IsOnly, one_listed}
 use Rattle.revision_tree.proofs.tree.RevTree.from_marked.Goals as goal
@@ -18,6 +19,7 @@ invariant_of-result c =
           subst (λ ns. HasOneLeaf (tree_of ns)) (sym whole) (one_listed nodes c.requires.nodes one.0 (subst (All (IsOnly one.0)) c.deref.ensures.value one.1));
       near = subst (λ ns. AreNear last_generation (tree_of ns)) (sym whole) (near_any (tree_of nodes) c.requires.nodes.tree.forest c.requires.nodes.range);
       unforked = subst (λ ns. IsUnforked c.args.forks (tree_of ns)) (sym whole) c.requires.forks;
+      tails = subst (λ ns. AreTails c.none.result (tree_of ns)) (sym whole) (c.none.ensures (tree_of nodes));
     }
 
 pub returns : goal.returns

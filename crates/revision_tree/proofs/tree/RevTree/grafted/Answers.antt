@@ -7,6 +7,8 @@ use Rattle.revision_tree.specs.Nodes.{tree_of}
 use Rattle.revision_tree.specs.Rows.{nodes_of}
 use Rattle.revision_tree.specs.Kept.{IsUnforkedWith}
 use Rattle.revision_tree.proofs.Depth.{near_any, unforked_grown}
+use Rattle.revision_tree.specs.Tails.{AreTails}
+use Rattle.revision_tree.proofs.Tailed.{tails_grown}
 use Rattle.revision_tree.proofs.Grafts.{grown_tree, grown_nodes}
 use Rattle.revision_tree.proofs.Kept.{one_grown}
 use Rattle.revision_tree.proofs.tree.RevTree.grafted.Goals as goal
@@ -26,6 +28,8 @@ invariant_of-result c =
       near = near_any (tree_of (nodes_of c.grow.new.rows)) nodes.tree.forest nodes.range;
       unforked = unforked_grown c.args.path.now (arc_value c.args.body) c.args.deleted t (nodes_of c.grow.new.rows) c.forks_with-forks.result c.requires.path h c.in_ok-grow.ensures.grown
           (subst (IsUnforkedWith c.forks_with-forks.result c.args.path.now) (sym c.in_ok-rows.ensures.tree) c.forks_with-forks.ensures);
+      tails = tails_grown c.args.path.now (arc_value c.args.body) c.args.deleted t (nodes_of c.grow.new.rows) c.in_ok-tails.tails c.requires.path h c.in_ok-grow.ensures.grown
+          (subst (AreTails c.in_ok-tails.tails) (sym c.in_ok-rows.ensures.tree) c.in_ok-tails.ensures);
     }
 
 pub returns : goal.returns

@@ -28,6 +28,7 @@ invariant_of-result c =
           (one_shortened (tree_of ns) c.self.invariant.rows.nodes.tree.forest c.args.limit c.requires.limit newest c.last-newest.ensures.known c.last-newest.ensures.newest level (c.self.invariant.single e));
       near = subst (AreNear c.args.limit) (sym stems) (near_stem (tree_of ns) forest c.args.limit c.requires.limit);
       unforked = subst (IsUnforked c.self.inside.forks) (sym stems) (unforked_stem (tree_of ns) forest c.args.limit c.requires.limit c.self.inside.forks c.self.invariant.unforked);
+      tails = c.none.ensures (tree_of made);
     }
 
 pub returns : goal.returns

@@ -6,6 +6,8 @@ use Rattle.revision_tree.specs.Kept.{HasOneLeaf, AreNear, IsUnforked}
 use Rattle.revision_tree.specs.Nodes.{tree_of}
 use Rattle.revision_tree.specs.Rows.{nodes_of}
 use Rattle.revision_tree.proofs.Depth.{near_strip, unforked_strip}
+use Rattle.revision_tree.specs.Tails.{AreTails}
+use Rattle.revision_tree.proofs.Tailed.{tails_again, tails_strip}
 use Rattle.revision_tree.proofs.Grown.{nodes_marked, tree_marked}
 use Rattle.revision_tree.proofs.Kept.{one_stripped}
 use Rattle.revision_tree.proofs.Stripped.{stripped_rows, stripped_marks}
@@ -25,6 +27,8 @@ invariant_of-result c =
       single = λ e. subst HasOneLeaf (sym (tree_marked made (strip t) (has_child t) is)) (one_stripped t (c.self.invariant.single e));
       near = subst (AreNear c.self.inside.depth) (sym (tree_marked made (strip t) (has_child t) is)) (near_strip t c.self.inside.depth c.self.invariant.near);
       unforked = subst (IsUnforked c.self.inside.forks) (sym (tree_marked made (strip t) (has_child t) is)) (unforked_strip t c.self.inside.forks c.self.invariant.unforked);
+      tails = tails_again c.self.inside.tails c.in_ok-share.field-0 (tree_of made) c.in_ok-share.ensures.steps c.in_ok-share.ensures.items
+          (subst (AreTails c.self.inside.tails) (sym (tree_marked made (strip t) (has_child t) is)) (tails_strip t c.self.inside.tails c.self.invariant.tails));
     }
 
 pub returns : goal.returns
