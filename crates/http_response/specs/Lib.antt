@@ -3,3 +3,5 @@ pub mod Problem
 pub mod Told
 pub mod Texts
 pub mod Feed
+pub mod Pieces
+pub mod Measured
