@@ -4,6 +4,7 @@ pub mod Waits
 pub mod Texts
 pub mod Turns
 pub mod Told
+pub mod LongAnswers
 pub mod Feeds
 pub mod Fed
 pub mod Sessions

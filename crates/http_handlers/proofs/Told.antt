@@ -17,7 +17,7 @@ use Rattle.http_connection.specs.declared.outcome.Ended.{Ended}
 use Rattle.http_handlers.specs.Deeds.{Deed}
 use Rattle.http_handlers.specs.Known.{Known, database_at, sees_more, with_calls}
 use Rattle.http_handlers.specs.Changes.{MayWait, changes_query}
-use Rattle.http_handlers.specs.Outcome.{Outcome, Fixed, Wrote, WroteUntold, WroteUnsynced, Read, Fed, Memory, Failed, Placed, AsksQuery, IsToldAt, IsWritten, IsRead, IsFed, TellsAt, places_spoken, written}
+use Rattle.http_handlers.specs.Outcome.{Outcome, Fixed, Wrote, WroteUntold, WroteUnsynced, Read, Fed, Memory, Failed, Placed, AsksQuery, IsToldAt, IsWritten, IsRead, IsFed, SaysAnswer, TellsAt, places_spoken, written}
 use Rattle.http_handlers.specs.Feed.{Piece, Ending, LastLine, LookRefused, RowsRefused, WriteFailed, GivesPiece, EndsBy, feed_start}
 use Rattle.http_handlers.specs.declared.progress.Progress.{Progress}
 use Rattle.http_handlers.specs.Answers.{Answers}
@@ -87,7 +87,7 @@ module _ (k : Known) (more : List Entry) where
   TellsAt-append turn low place (Wrote form entry) last n t = (written-append t.0, t.1, t.2)
   TellsAt-append turn low place (WroteUntold form entry) last n t = (written-append t.0, t.1, t.2)
   TellsAt-append turn low place (WroteUnsynced at form entry) last n t = (written-append t.0, t.1, t.2)
-  TellsAt-append turn low place (Read first query answer) last n t = (read-append n.1.0 t.0, t.1, t.2)
+  TellsAt-append turn low place (Read first query answer) last n t = (read-append n.1.0 t.0, t.1)
   TellsAt-append turn low place (Fed pieces ending) last n t = (fed-append t.0, t.1, t.2)
   TellsAt-append turn low place Memory last n t = t
   TellsAt-append turn low place (Failed why) last n t = t
@@ -111,7 +111,7 @@ TellsAt-calls k pushes lost turn place Fixed t = t
 TellsAt-calls k pushes lost turn place (Wrote form entry) t = (record { asked = t.0.asked; own = t.0.own; told = t.0.told }, t.1, t.2)
 TellsAt-calls k pushes lost turn place (WroteUntold form entry) t = (record { asked = t.0.asked; own = t.0.own; told = t.0.told }, t.1, t.2)
 TellsAt-calls k pushes lost turn place (WroteUnsynced at form entry) t = (record { asked = t.0.asked; own = t.0.own; told = t.0.told }, t.1, t.2)
-TellsAt-calls k pushes lost turn place (Read first query answer) t = (record { asked = asks-calls t.0.asked; told = t.0.told }, t.1, t.2)
+TellsAt-calls k pushes lost turn place (Read first query answer) t = (record { asked = asks-calls t.0.asked; told = t.0.told }, t.1)
   where
     asks-calls : AsksQuery k turn.item first place query → AsksQuery (with_calls k pushes lost) turn.item first place query
     asks-calls (inl asks) = inl asks
@@ -147,7 +147,11 @@ tells-closes k turn place Fixed t asked = subst IsTrue (sym t.1) asked
 tells-closes k turn place (Wrote form entry) t asked = subst IsTrue (sym t.2) asked
 tells-closes k turn place (WroteUntold form entry) t asked = subst IsTrue (sym t.2) search
 tells-closes k turn place (WroteUnsynced at form entry) t asked = subst IsTrue (sym t.2) asked
-tells-closes k turn place (Read first query answer) t asked = subst IsTrue (sym t.2) asked
+tells-closes k turn place (Read first query answer) t asked = read-closes t.1
+  where
+    read-closes : SaysAnswer turn.item turn.text turn.closes place query answer → IsTrue turn.closes
+    read-closes (inl says) = subst IsTrue (sym says.1) asked
+    read-closes (inr is) = subst IsTrue (sym is.closes_then) search
 tells-closes k turn place (Fed pieces ending) t asked = subst IsTrue (sym t.1) search
 tells-closes k turn place Memory t asked = subst IsTrue (sym t.1) search
 tells-closes k turn place (Failed why) t asked = subst IsTrue (sym t.1) asked

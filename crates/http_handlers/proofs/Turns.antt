@@ -1,5 +1,5 @@
 -- The turns of a session.
-use Rattle.std.proofs.Common.{◌≡◌, ℕ, ◌≤◌, ◌⊎◌, Bool, false, List, [], ◌∷◌, ◌++◌, length, take, Ok, Err, inl, inr, refl, ap, sym, ◌∙◌, subst, arith}
+use Rattle.std.proofs.Common.{true, Some, ◌≡◌, ℕ, ◌≤◌, ◌⊎◌, Bool, false, List, [], ◌∷◌, ◌++◌, length, take, Ok, Err, inl, inr, refl, ap, sym, ◌∙◌, subst, arith}
 use Rattle.std.specs.Prelude.{Result}
 use Rattle.std.proofs.lemmas.List.{append-nil, take_all}
 use Rattle.model.specs.Command.{Command, Entry}
@@ -30,12 +30,16 @@ use Rattle.http_handlers.specs.Calls.{LeavesNone, LeavesUnsynced, Looks, WritesC
 use Rattle.http_handlers.specs.Deeds.{Deed, Refreshed}
 use Rattle.http_handlers.specs.Deeds as deed
 use Rattle.http_handlers.specs.Doing.{CarriesOut, IsNotContinuous, IsReading, LooksForChanges, Makes, WaitsWhereNone}
-use Rattle.http_handlers.specs.Outcome.{Outcome, Fixed, Wrote, WroteUntold, WroteUnsynced, Read, Memory, Failed, Placed, AsksQuery, IsWritten, IsFixedText, HasFixedText, NamesSeen, TellsAt, after_closing, places_spoken, written}
+use Rattle.http_handlers.specs.Outcome.{Outcome, Fixed, Wrote, WroteUntold, WroteUnsynced, Read, Memory, Failed, Placed, AsksQuery, IsWritten, IsFixedText, HasFixedText, NamesSeen, SaysAnswer, TellsAt, after_closing, places_spoken, written}
 use Rattle.http_handlers.specs.Answers.{Answers, FollowsFrom, Sees}
 use Rattle.http_handlers.specs.Polling.{HasPolled}
 use Rattle.http_handlers.specs.Response.{turn_of, Sends, SaysLost, SaysFault, SendsDue}
 use Rattle.http_handlers.specs.declared.calls.CallFault.{CallFault}
 use Rattle.http_handlers.specs.declared.calls.CallFault.TheVariants as fault
+use Rattle.http_handlers.specs.Replies.{AnswersLong, Replies, RepliesWith}
+use Rattle.http_handlers.specs.declared.response.Long.{Long}
+use Rattle.http_handlers.specs.declared.response.Reply.{Reply}
+use Rattle.http_handlers.specs.declared.response.Reply.TheVariants as reply
 use Rattle.http_handlers.specs.declared.response.Sent.{Sent}
 use Rattle.http_handlers.proofs.Doing.{IsQuery, carried_runs, only_runs, read_sees, refused_sees, where_none_sees}
 use Rattle.http_handlers.proofs.Histories.{looks_length, looks_only, place_within, database_seen, database_before}
@@ -156,8 +160,7 @@ module _ {S : Type 0} (goes : S → Deed → S → Type 0) (known : S → Known)
             placed = placed;
             told = (
               record { asked = asks_query; told = (omega arith, ap (λ (es : List Entry). answer_to (replay (base_of k.base) es) query) (sym all)) },
-              sends.0 ∙ ap (λ (c : Bool). answer_text place (after_closing c) query answer) (sym sends.1),
-              sends.1 ∙ sym closes_is,
+              inl (sends.0 ∙ ap (λ (c : Bool). answer_text place (after_closing c) query answer) (sym sends.1), sends.1 ∙ sym closes_is),
             );
             goes_by = record {
               runs = carried_runs goes known turns asking old deeds new (Ok first) carried;
@@ -188,6 +191,50 @@ module _ {S : Type 0} (goes : S → Deed → S → Type 0) (known : S → Known)
         → Answer old request sent new
     answers_refused why makes query asks says =
         query_refused old new sent request closes closes_is (asked.Query query) asks (Refreshed (Err why) ∷ []) why tt (Err why, (refl, makes), refl) says
+
+  module _ (old new : S) (request : Request) (closes : Bool) (closes_is : request.closes ≡ closes) where
+    -- the answer to a query by what was seen last, in a turn with this text
+    answers_turn : Looked old new → (query : Query) → decide request ≡ Ok (asked.Query query) → (text : List ℕ) (after : Bool)
+        → SaysAnswer (Requested request) text after (length (known new).seen) query (answer_to (now (history_of (known new))) query)
+        → Answers goes known turns old (record { item = Requested request; text = text; closes = after; whole = true }) new
+    answers_turn makes query asks text after says =
+        let k = known new in
+        let place = length k.seen in
+        let asking = asked.Query query in
+        let deeds = Refreshed (Ok tt) ∷ [] in
+        let carried : CarriesOut goes known turns asking old deeds new (Ok place) = (Ok tt, (refl, makes), refl) in
+        let all : take place k.seen ≡ k.seen = take_all place k.seen (omega arith) in
+        let placed : Placed = record { place = place; outcome = Read place query (answer_to (now (history_of k)) query); deeds = deeds } in
+        record {
+          placed = placed;
+          told = (record { asked = inl (refl, asks); told = (omega arith, ap (λ (es : List Entry). answer_to (replay (base_of k.base) es) query) (sym all)) }, says);
+          goes_by = record {
+            runs = carried_runs goes known turns asking old deeds new (Ok place) carried;
+            follows = (asking, asks, carried);
+            sees = sees_none (known old) placed k (looks_only (known old) k makes.learns.0) refl (looks_length _ _ makes.learns.0, (omega arith, (omega arith, tt))) tt;
+          };
+        }
+
+    -- a long answer, whole or cut
+    answers_long : Looked old new → (query : Query) → decide request ≡ Ok (asked.Query query) → (long : Long)
+        → RepliesWith (length (known new).seen) closes query (answer_to (now (history_of (known new))) query) (reply.Long long) → AnswersLong goes known turns request old long new
+    answers_long makes query asks long said =
+        let place = length (known new).seen in
+        let answer = answer_to (now (history_of (known new))) query in
+        let due : Some long.pieces ≡ answer_text place (after_closing request.closes) query answer = said.1 ∙ ap (λ (c : Bool). answer_text place (after_closing c) query answer) (sym closes_is) in
+        record {
+          whole = answers_turn makes query asks long.pieces long.closes
+              (inl (said.1 ∙ ap (λ (c : Bool). answer_text place (after_closing c) query answer) (sym said.2), said.2 ∙ sym closes_is));
+          cut = λ n lt. answers_turn makes query asks (take n long.pieces) true
+              (inr (record { long = said.0; whole = long.pieces; due = due; len = n; short = lt; is_part = refl; closes_then = refl }));
+        }
+
+    -- the answer to a query by what was seen last, by its length
+    pub replies_asked : Looked old new → (query : Query) → decide request ≡ Ok (asked.Query query) → (r : Reply)
+        → RepliesWith (length (known new).seen) closes query (answer_to (now (history_of (known new))) query) r → Replies goes known turns request old r new
+    replies_asked makes query asks (reply.Sent sent) said = answers_asked old new sent request closes closes_is makes query asks said
+    replies_asked makes query asks (reply.Long long) said = answers_long makes query asks long said
+    replies_asked makes query asks (reply.Feed changes) said = absurd said
 
   -- ---- changes
 

@@ -1,5 +1,5 @@
 -- What becomes of a request, and the text that reports it.
-use Rattle.std.specs.Prelude.{◌≡◌, ℕ, ◌⊎◌, ◌≤◌, Bool, true, List, [], ◌∷◌, ◌++◌, length, Some, Result, Ok, Err, if◌then◌else◌, ⊤}
+use Rattle.std.specs.Prelude.{◌≡◌, ℕ, ◌⊎◌, ◌<◌, ◌≤◌, Bool, true, List, [], ◌∷◌, ◌++◌, length, take, Some, Result, Ok, Err, if◌then◌else◌, ⊤}
 use Rattle.std.specs.List.{FoldsTo}
 use Rattle.model.specs.Command.{Entry}
 use Rattle.model.specs.Query.{Query, Answer}
@@ -18,6 +18,7 @@ use Rattle.http_request.specs.declared.changes.ChangesAsked.{ChangesAsked}
 use Rattle.http_request.specs.declared.changes.Feed.TheVariants as feed
 use Rattle.http_request.specs.declared.rejection.Rejection.{Rejection}
 use Rattle.http_response.specs.Feed.{feed_head_text}
+use Rattle.http_response.specs.Measured.{IsLong}
 use Rattle.http_response.specs.Texts.{closing_text, refusal_text, welcome_text, reply_text, answer_text, unavailable_text, no_memory_text}
 use Rattle.http_response.specs.declared.connection.Connection.{Connection as After}
 use Rattle.http_response.specs.declared.connection.Connection.TheVariants as after
@@ -116,6 +117,25 @@ abbrev pub SaysNoMemory : ℕ → Item → List ℕ → Type 0
 SaysNoMemory place (Requested request) text = text ≡ no_memory_text place (extent_of request) memory_for.Call
 SaysNoMemory place (Refused fault) text = ⊥
 
+-- a text and whether the connection closes after it are those of the response with this answer
+abbrev pub SaysWhole : Item → List ℕ → Bool → ℕ → Query → Answer → Type 0
+SaysWhole item text closes place query answer = (Some text ≡ answer_text place (after_closing closes) query answer) × (closes ≡ closes_connection item)
+
+-- A long response with the revisions that were asked for was cut, out of memory for the rest: the text is a part of it, of any
+-- length, and the connection closes.
+pub record IsCutShort (item : Item) (text : List ℕ) (closes : Bool) (place : ℕ) (query : Query) (answer : Answer) : Type 0 where
+  pub long : IsLong query answer
+  pub whole : List ℕ
+  pub due : Some whole ≡ answer_text place (after_closing (closes_connection item)) query answer
+  pub len : ℕ
+  pub short : len < length whole
+  pub is_part : text ≡ take len whole
+  pub closes_then : closes ≡ true
+
+-- the text gives the answer, whole or cut
+abbrev pub SaysAnswer : Item → List ℕ → Bool → ℕ → Query → Answer → Type 0
+SaysAnswer item text closes place query answer = SaysWhole item text closes place query answer ⊎ IsCutShort item text closes place query answer
+
 -- by what a session knows
 module _ (k : Known) where
   -- the item asks for a command, of which what was seen has this entry of the session at the place
@@ -167,9 +187,7 @@ module _ (k : Known) where
       × (turn.text ≡ unavailable_text place (after_closing turn.closes) unavailable.Journal)
       × (turn.closes ≡ closes_connection turn.item)
   TellsAt turn place (Read first query answer) =
-      IsRead turn.item first place query answer
-      × (Some turn.text ≡ answer_text place (after_closing turn.closes) query answer)
-      × (turn.closes ≡ closes_connection turn.item)
+      IsRead turn.item first place query answer × SaysAnswer turn.item turn.text turn.closes place query answer
   TellsAt turn place (Fed pieces ending) = IsFed turn.item place pieces ending turn.text × (turn.closes ≡ true) × MayBeWhole ending turn.whole
   TellsAt turn place Memory = SaysNoMemory place turn.item turn.text × (turn.closes ≡ true)
   TellsAt turn place (Failed why) =

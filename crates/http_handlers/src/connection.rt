@@ -6,7 +6,7 @@ ghost use Rattle.http_handlers.specs.Connection.{IsConnection};
 
 use crate::calls::Calls;
 use crate::feed::follow;
-use crate::response::{Reply, send};
+use crate::response::{Reply, send, send_long};
 use crate::setting::Setting;
 use crate::turn::{refuse, respond};
 use http_connection::{Cause, Ended, Service, Window};
@@ -41,6 +41,7 @@ impl<'s, 'c, X, S: Calls<X>> Service<Setting<'c, X>> for Lent<'s, S> {
     ) -> Result<bool, Failed> {
         match respond(self.session, setting, request) {
             Reply::Sent(sent) => send(writer, &sent),
+            Reply::Long(long) => send_long(setting.alloc, writer, long),
             Reply::Feed(changes) => {
                 follow(self.session, setting, changes, request.closes(), writer)
             }
@@ -63,7 +64,9 @@ impl<'s, 'c, X, S: Calls<X>> Service<Setting<'c, X>> for Lent<'s, S> {
 
 /// Serves the requests of the reader to the writer, in order, each as soon as it is whole. Other
 /// sessions of the database may have entries meanwhile. Room for the largest request is taken first;
-/// where that is refused, nothing is read.
+/// where that is refused, nothing is read. An answer with the revisions of a document that is longer than
+/// [`PIECE`](http_response::PIECE) is written in pieces as they are made: out of memory for one of them it is
+/// cut, counts as answered, and the connection closes.
 pub fn serve<R: Source, W: Sink, X, S: Calls<X>>(
     alloc: Global,
     reader: &mut R,

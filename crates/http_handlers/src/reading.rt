@@ -15,16 +15,17 @@ ghost use Rattle.http_handlers.specs.Polling.{HasPolled, HasWaited};
 ghost use Rattle.http_handlers.specs.Known.{history_of};
 ghost use Rattle.http_handlers.specs.Changes.{since_at};
 ghost use Rattle.http_handlers.specs.Outcome.{after_closing};
+ghost use Rattle.http_handlers.specs.Replies.{Replies, RepliesWith};
 ghost use Rattle.http_handlers.specs.Response.{SendsDue, turn_of};
 
 use crate::calls::{CallFault, Calls, Viewer};
 use crate::failing::fail;
-use crate::response::{Sent, connection_after};
+use crate::response::{Long, Reply, Sent, connection_after};
 use crate::setting::Setting;
 use crate::waiting::{has_changes, wait_for_changes};
 use changes_feed::answer;
 use http_request::{Asked, ChangesAsked, Extent, Feed, Since};
-use http_response::{Connection, MemoryFor, Response};
+use http_response::{Connection, Measured, MemoryFor, Response, measure};
 use queries::{Answer, Query, QueryKind};
 use std::alloc::{AllocError, Global};
 
@@ -34,15 +35,51 @@ pub(crate) fn read<X, S: Calls<X>>(
     setting: &Setting<'_, X>,
     query: &Query,
     closes: bool,
-) -> Sent
+) -> Reply
     ensures { (request : framing.Request) → decide request ≡ Ok (Asked.Query query.now)
         → request.closes ≡ closes
-        → Answers S.goes S.known setting.now session.old (turn_of (Requested request) result) session.new }
+        → Replies S.goes S.known setting.now request session.old result session.new }
 {
     match session.refresh() {
-        Ok(()) => read_seen(session, setting.alloc, query, closes),
-        Err(fault) => fail(session, fault, closes),
+        Ok(()) => reply_seen(session, setting.alloc, query, closes),
+        Err(fault) => Reply::Sent(fail(session, fault, closes)),
     }
+}
+
+/// Answers a query by what has been seen, in pieces where the answer is long.
+fn reply_seen<S: Viewer>(session: &S, alloc: Global, query: &Query, closes: bool) -> Reply
+    ensures { RepliesWith (length (S.known session.now).seen) closes query.now
+        (answer_to (now (history_of (S.known session.now))) query.now) result }
+{
+    let place = session.place();
+    let Ok(found) = answer(alloc, session.version(), query) else {
+        return Reply::Sent(Sent::no_memory(place, Extent::Whole, MemoryFor::Call));
+    };
+    reply_by_length(alloc, place, query, found, closes)
+}
+
+/// Gives an answer at this place, in pieces where it is long.
+fn reply_by_length(alloc: Global, place: u64, query: &Query, found: Answer, closes: bool) -> Reply
+    requires { IsSome (answer_told query.now found) }
+    ensures { RepliesWith place closes query.now found result }
+{
+    let Ok(measured) = measure(alloc, place, connection_after(closes), query, found) else {
+        return Reply::Sent(Sent::no_memory(place, Extent::Whole, MemoryFor::Call));
+    };
+    match measured {
+        Measured::Long(pieces) => Reply::Long(Long { pieces, closes }),
+        Measured::Short(found) => Reply::Sent(sent_with(alloc, place, query, &found, closes)),
+    }
+}
+
+/// Gives an answer at this place, at once.
+fn sent_with(alloc: Global, place: u64, query: &Query, found: &Answer, closes: bool) -> Sent
+    requires { IsSome (answer_told query.now found.now) }
+    ensures { SendsDue (answer_text place (after_closing closes) query.now found.now) closes place
+        memory_for.Call result }
+{
+    let response = answer_with(alloc, place, connection_after(closes), query, found);
+    Sent::made(response, closes, place, MemoryFor::Call)
 }
 
 /// Answers which changes there are.
@@ -172,8 +209,7 @@ fn read_seen<S: Viewer>(session: &S, alloc: Global, query: &Query, closes: bool)
     let Ok(found) = answer(alloc, session.version(), query) else {
         return Sent::no_memory(place, Extent::Whole, MemoryFor::Call);
     };
-    let response = answer_with(alloc, place, connection_after(closes), query, &found);
-    Sent::made(response, closes, place, MemoryFor::Call)
+    sent_with(alloc, place, query, &found, closes)
 }
 
 /// The answer to a query.

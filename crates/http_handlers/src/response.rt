@@ -4,11 +4,12 @@ ghost use Rattle.streams.specs.Counts.{CountsFailure};
 ghost use Rattle.streams.specs.Writes.{Writes};
 ghost use Rattle.http_handlers.specs.Outcome.{after_closing};
 ghost use Rattle.http_handlers.specs.Response.{SaysLost, SendsDue};
+ghost use Rattle.http_handlers.specs.Replies.{SendsLong};
 
 use http_connection::write_response;
 use http_request::{ChangesAsked, Extent};
-use http_response::{Connection, MemoryFor, Response, no_memory};
-use std::alloc::AllocError;
+use http_response::{Connection, Cut, MemoryFor, Pieces, Response, no_memory};
+use std::alloc::{AllocError, Global};
 use streams::{Failed, Sink};
 
 /// What is sent, and whether the connection closes after it.
@@ -18,11 +19,20 @@ pub(crate) struct Sent {
     pub(crate) closes: bool,
 }
 
+/// A long answer, which is written in pieces, and whether the connection closes after it.
+#[derive(Drop)]
+pub(crate) struct Long {
+    pub(crate) pieces: Pieces,
+    pub(crate) closes: bool,
+}
+
 /// How a request is answered.
 #[derive(Drop)]
 pub(crate) enum Reply {
     /// By a response that is at hand.
     Sent(Sent),
+    /// By a response whose pieces are made as they are written.
+    Long(Long),
     /// By a feed that goes on as changes come.
     Feed(ChangesAsked),
 }
@@ -66,6 +76,21 @@ pub(crate) fn send<W: Sink>(writer: &mut W, sent: &Sent) -> Result<bool, Failed>
     writer.begins();
     let (head, body) = sent.response.parts();
     write_response(writer, head, body, sent.closes)
+}
+
+/// Writes a long answer, and answers whether the connection closes after it, as it also does where the
+/// answer is cut because memory for the rest is refused.
+pub(crate) fn send_long<W: Sink>(alloc: Global, writer: &mut W, long: Long) -> Result<bool, Failed>
+    ensures sends { SendsLong (W.taken writer.old) (W.taken writer.new) result long }
+    ensures failures { CountsFailure (W.failed_writes writer.old)
+        (W.failed_writes writer.new) result }
+{
+    writer.begins();
+    match long.pieces.write(alloc, writer) {
+        Ok(()) => Ok(long.closes),
+        Err(Cut::Memory) => Ok(true),
+        Err(Cut::Write) => Err(Failed),
+    }
 }
 
 /// What a response says of the connection.

@@ -57,7 +57,7 @@ fn carry_out<X, S: Calls<X>>(
         Asked::Command(form, command) => {
             Reply::Sent(write(session, setting, form, command, closes))
         }
-        Asked::Query(query) => Reply::Sent(read(session, setting, &query, closes)),
+        Asked::Query(query) => read(session, setting, &query, closes),
         Asked::Changes(changes) => tell_changes(session, setting, changes, closes),
         Asked::Welcome => {
             let response = welcome(session.place(), connection_after(closes));

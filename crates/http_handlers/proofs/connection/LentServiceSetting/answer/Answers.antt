@@ -1,7 +1,9 @@
-use Rattle.std.proofs.Common.{refl}
+use Rattle.std.proofs.Common.{false, refl}
 use Rattle.std.specs.Prelude.{is_ok}
 use Rattle.http_framing.specs.Input.{Requested}
 use Rattle.http_handlers.specs.Response.{turn_of}
+use Rattle.http_handlers.specs.Replies.{long_turn}
+use Rattle.http_handlers.proofs.LongAnswers.{long_taken}
 use Rattle.http_handlers.proofs.Told.{answers-closes, answers-whole}
 use Rattle.http_handlers.proofs.connection.LentServiceSetting.answer.Goals as goal
 
@@ -15,3 +17,13 @@ returns-in-Sent-clause-turn g c =
       refl,
       c.send.ensures.closes,
     )
+
+pub returns-in-Long-clause-turn : goal.returns-in-Long-clause-turn
+returns-in-Long-clause-turn g c =
+    let long = c.in-Long.long in
+    let turn = long_turn (Requested c.args.request.now) long in
+    let answers = c.in-Long.ensures in
+    long_taken _ _ _ c.args.request.now long _ _ c.send_long.result (answers.whole, refl) (λ n lt. (answers.cut n lt, refl))
+    (answers-whole g.S.Viewer.goes g.S.Viewer.known c.args.setting.now _ _ turn false refl answers.whole, refl)
+    (answers-closes g.S.Viewer.goes g.S.Viewer.known c.args.setting.now _ _ turn answers.whole)
+    c.send_long.ensures.sends
