@@ -1,0 +1,29 @@
+use Rattle.std.proofs.Common.{◌≡◌, rules, arith, true}
+use Rattle.journal.proofs.Replays.{judged, last_epoch, next}
+use Rattle.journal.proofs.reading.replay_all.Goals as goal
+
+pub entries-preserved : goal.entries-preserved
+entries-preserved g c =
+    let mid = g.R.Read.remaining c.entries.reader in
+    let new = g.R.Read.remaining c.replay_next.new.reader in
+    let was = c.entries.replayed in
+    let more = c.replay_next.new.replayed in
+    let yes : c.in_ok-replay_next.field-0 ≡ true = c.if-branch.true in
+    let read = c.in_ok-replay_next.ensures.entry cc in (
+      λ base start is. next base start mid new was.database more.database was.place more.place c.replay_next.new.line.items (c.entries.invariant.0 base start is) read.0 read.1,
+      omega (arith, read.1.room, read.1.place_is),
+    )
+
+pub returns-in_err-replay_next-clause-judged : goal.returns-in_err-replay_next-clause-judged
+returns-in_err-replay_next-clause-judged g c = λ base start is v err. let a = c.in_err-replay_next.ensures.judged v in let b = c.from_residual.ensures in
+    let mid = g.R.Read.remaining c.entries.reader in
+    let new = g.R.Read.remaining c.replay_next.new.reader in
+    let refused = c.in_err-replay_next.ensures.judged v (search rules) in
+    judged base start mid new c.entries.replayed.database c.entries.replayed.place (c.entries.invariant.0 base start is) c.replay_next.new.line.items v refused.0 refused.1 refused.2
+
+pub returns-in_err-replay_next-clause-too_large : goal.returns-in_err-replay_next-clause-too_large
+returns-in_err-replay_next-clause-too_large g c = λ base start is err. let a = c.in_err-replay_next in let b = c.from_residual in
+    let mid = g.R.Read.remaining c.entries.reader in
+    let new = g.R.Read.remaining c.replay_next.new.reader in
+    let large = c.in_err-replay_next.ensures.too_large (search rules) in
+    last_epoch base start mid new c.entries.replayed.database c.entries.replayed.place (c.entries.invariant.0 base start is) large.0 large.1

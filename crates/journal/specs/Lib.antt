@@ -1,0 +1,9 @@
+pub mod Appending
+pub mod Files
+pub mod Held
+pub mod Kept
+pub mod Names
+pub mod Reading
+pub mod Replaying
+pub mod Restoring
+pub mod Starting

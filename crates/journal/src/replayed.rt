@@ -1,0 +1,109 @@
+//! The database that the entries of a dump make, one after another.
+ghost use Rattle.std.specs.Prelude.{◌≡◌, ◌<◌, ◌≤◌, ◌⊎◌, ◌↔◌, ◌+◌, suc, Ok, Err, Some, true, false, IfErr, IfOk, MatchBool, OnOk};
+ghost use Rattle.model.specs.Command as model;
+ghost use Rattle.model.specs.Database.{act};
+ghost use Rattle.model.specs.History.{now, largest_base, IsNext};
+ghost use Rattle.history_json.specs.Line.{IsLine};
+ghost use Rattle.history_dump.specs.Dump.{entry_line};
+ghost use Rattle.replay_cli.specs.Places.{last_place};
+ghost use Rattle.replay_cli.specs.Successors.{HasRoom};
+ghost use Rattle.journal.specs.Replaying.{IsNextLine, IsRefused};
+
+use commands::Entry;
+use history_json::read_line;
+use replay_cli::Verdict;
+use snapshots::{Database, Version};
+use std::alloc::{AllocError, Global};
+
+/// The largest update number, and the largest purge number, that a next epoch can begin from.
+const LARGEST_BASE: u64 = 4_611_686_018_427_387_904;
+
+/// The last place of a history.
+const LAST_PLACE: u64 = 4_294_967_295;
+
+/// The database that the entries of a dump make, how many they are, and, at the end, how many bytes the last line has where
+/// it was cut. The entries are not kept, so it takes memory for the database alone.
+#[derive(Drop)]
+pub(crate) struct Replayed {
+    pub(crate) database: Database,
+    pub(crate) place: u64,
+    pub(crate) cut: u64,
+}
+
+/// What is replayed of a history that begins so.
+pub(crate) fn begin(begun: &Version) -> Result<Replayed, AllocError>
+    ensures database { IfOk result (λ r. r.database ≡ now begun.now) }
+    ensures place { IfOk result (λ r. r.place ≡ 0) }
+{
+    let database = begun.database().share()?;
+    Ok(Replayed {
+        database,
+        place: 0,
+        cut: 0,
+    })
+}
+
+/// Whether an epoch can begin from the database.
+pub(crate) fn has_room(database: &Database) -> bool
+    ensures { MatchBool result (HasRoom database.now)
+        ((largest_base < database.now.update_seq) ⊎ (largest_base < database.now.purges.purge_seq)) }
+{
+    let updates = database.documents().update_seq();
+    let purges = database.purges().purge_seq();
+    updates <= LARGEST_BASE && purges <= LARGEST_BASE
+}
+
+/// Goes on by the entry of a whole line, or else says what the line is.
+pub(crate) fn judge_line(
+    alloc: Global,
+    line: &[u8],
+    replayed: &mut Replayed,
+) -> Result<Result<(), Verdict>, AllocError>
+    requires room { HasRoom replayed.old.database }
+    requires places { replayed.old.place ≤ last_place }
+    ensures next { IfOk result (λ judged. OnOk judged (IsNextLine line.now replayed.old.database replayed.new.database replayed.old.place replayed.new.place)) }
+    ensures refused { IfOk result (λ judged. IfErr judged (IsRefused line.now replayed.old.database replayed.old.place)) }
+{
+    let before = replayed.place;
+    let Some(entry) = entry_in(alloc, line, before)? else {
+        return Ok(Err(Verdict::UnreadableLine(before + 2)));
+    };
+    if !go_on(&mut replayed.database, &entry)? {
+        return Ok(Err(Verdict::WrongAt(before + 1)));
+    }
+    replayed.place = before + 1;
+    Ok(Ok(()))
+}
+
+/// The entry of a line that has so many entries before it.
+fn entry_in(alloc: Global, line: &[u8], before: u64) -> Result<Option<Entry>, AllocError>
+    ensures { IfOk result (λ found. (entry : model.Entry) → (found ≡ Some entry)
+        ↔ ((before < last_place) × IsLine entry × (line.now ≡ entry_line entry))) }
+{
+    if before >= LAST_PLACE {
+        return Ok(None);
+    }
+    let Some((last, text)) = line.split_last() else {
+        return Ok(None);
+    };
+    if *last != b'\n' {
+        return Ok(None);
+    }
+    read_line(alloc, text)
+}
+
+/// Does the command of an entry, and answers whether that is the next one of a legal history: whether its seat is its
+/// session's next, and its reply the database's. If not, the database is of no use any more.
+fn go_on(database: &mut Database, entry: &Entry) -> Result<bool, AllocError>
+    requires room { HasRoom database.old }
+    ensures next { result ≡ Ok true → IsNext database.old entry.now
+        × (database.new ≡ act database.old entry.now.seat entry.now.command) }
+    ensures wrong { result ≡ Ok false → IsNext database.old entry.now → ⊥ }
+{
+    let calls = database.calls_of(entry.seat.session());
+    if calls.checked_add(1) != Some(entry.seat.call()) {
+        return Ok(false);
+    }
+    let reply = database.act(entry.seat, &entry.command)?;
+    Ok(reply.is_same(&entry.reply))
+}

@@ -1,0 +1,56 @@
+//! Why no epoch begins.
+
+use replay_cli::Verdict;
+use std::alloc::AllocError;
+use std::io;
+use thiserror::Error;
+
+/// Why no epoch begins.
+#[derive(Debug, Drop, Error)]
+pub enum StartFault {
+    /// A line of the newest file isn't that of the next entry of a legal history.
+    #[error("{epoch:010}.dump: {verdict}")]
+    Judged {
+        /// The number of its epoch.
+        epoch: u64,
+        /// What `replay check` says of the file up to that line.
+        verdict: Verdict,
+    },
+    /// The update number or the purge number of a database is above 4611686018427387904, so no epoch can begin from it.
+    #[error("no successor")]
+    NumbersTooLarge,
+    /// 9999999999 epochs have a file.
+    #[error("no epoch has a number above 9999999999")]
+    LastEpoch,
+    /// A file operation failed.
+    #[error("{0}")]
+    Failed(io::Error),
+    /// The new file's first line could not be written.
+    #[error("the first line of a new file could not be written")]
+    Unwritten,
+    /// Memory was refused.
+    #[error("out of memory")]
+    Memory,
+}
+
+impl From<io::Error> for StartFault {
+    ghost use Rattle.std.specs.Prelude.{◌≡◌};
+    ghost use Rattle.journal.specs.declared.start_fault.StartFault.TheVariants.{Failed};
+
+    ghost from_gives = { λ error fault. fault ≡ Failed error };
+
+    fn from(error: io::Error) -> StartFault {
+        StartFault::Failed(error)
+    }
+}
+
+impl From<AllocError> for StartFault {
+    ghost use Rattle.std.specs.Prelude.{◌≡◌};
+    ghost use Rattle.journal.specs.declared.start_fault.StartFault.TheVariants.{Memory};
+
+    ghost from_gives = { λ _ fault. fault ≡ Memory };
+
+    fn from(_refused: AllocError) -> StartFault {
+        StartFault::Memory
+    }
+}
