@@ -31,7 +31,7 @@ invariant_of-self-2 c =
     let g = lags later f.seen f.last f.left f.update_mark f.purge_mark f.visited f.records c.args.self.now c.self.view_is c.requires.sliced c.requires.follows c.self.invariant c.place-recalled.ensures.history in
     let none : f.left ≡ 0 = none-left f.seen f.left f.update_mark f.purge_mark f.visited f.records.docs c.args.self.now c.self.view_is c.requires.sliced in
     let within = some-touched (is_overrun (now later).purges m.purge) (length (touched (now later) m)) c.in-Some.touched c.in-Some.ensures in
-    let database = c.place-recalled.ensures.history.database in
+    let database = c.place-recalled-2.ensures.history.database in
     let caught = IsCopy-caught_up later f.records m g database.numbered database.log.numbered within.0 c.args.n f.last r.records marks c.in_ok-taken.ensures.taken c.in_ok-taken.ensures.marks c.in_ok-taken.ensures.coherent in
     subst (λ (h : Chronicle). IsCopy (now h) f.last f.left r.records marks) (sym c.in_ok-taken.ensures.seen) (subst (λ n. IsCopy (now later) f.last n r.records marks) (sym none) caught)
 

@@ -29,7 +29,7 @@ with_records-requires-clause-stripped c =
     let g = lags c.args.version.now f.seen f.last f.left f.update_mark f.purge_mark f.visited f.records c.args.self.now c.self.view_is c.requires.sliced c.requires.follows c.self.invariant c.place-recalled.ensures.history in
     let counted = some-touched (is_overrun new.purges m.purge) (length (touched new m)) c.in-Some.touched c.in-Some.ensures in
     let few : length (touched new m) ≤ c.args.slack = omega (arith, counted.1, c.if-touched-slack.false) in
-    let database = c.place-recalled.ensures.history.database in
+    let database = c.place-recalled-2.ensures.history.database in
     c.in_ok-taken.ensures.taken
     ∙ ap (λ (docs : Map names Record). record { docs = docs; update_seq = new.update_seq })
     (finished c.args.version.now f.records m g database.numbered database.log.numbered counted.0 c.args.slack few)
