@@ -1,10 +1,11 @@
 //! The connections of a session.
-ghost use Rattle.std.specs.Prelude.{◌≡◌};
+ghost use Rattle.std.specs.Prelude.{◌≡◌, length};
 ghost use Rattle.http_connection.specs.Served.{streams_of};
 ghost use Rattle.http_handlers.specs.Answers.{Answers};
 ghost use Rattle.http_handlers.specs.Connection.{IsConnection};
+ghost use Rattle.model.specs.History.{IsLegal, base_of};
 
-use crate::calls::Calls;
+use crate::calls::{Calls, Viewer};
 use crate::feed::follow;
 use crate::response::{Reply, send, send_long};
 use crate::setting::Setting;
@@ -23,8 +24,19 @@ const NOTHING_READ: Ended = Ended {
 
 /// A session that is lent to a connection.
 #[derive(Drop)]
-struct Lent<'s, S> {
-    session: &'s mut S,
+pub(crate) struct Lent<'s, S> {
+    pub(crate) session: &'s mut S,
+}
+
+impl<'s, S: Viewer> Lent<'s, S> {
+    /// The number of entries that the session has seen.
+    pub(crate) fn place(&self) -> u64
+        ensures place { result ≡ length (S.known self.now.session.now).seen }
+        ensures legal { IsLegal (base_of (S.known self.now.session.now).base)
+            (S.known self.now.session.now).seen }
+    {
+        self.session.place()
+    }
 }
 
 impl<'s, 'c, X, S: Calls<X>> Service<Setting<'c, X>> for Lent<'s, S> {

@@ -4,8 +4,9 @@ ghost use Rattle.http_handlers.specs.Listening.{Serves, ServesUntil, most_connec
 
 use crate::buffers::Buffers;
 use crate::calls::Calls;
-use crate::connection::serve_in;
 use crate::muster::Muster;
+use crate::noticing::{Noticing, serve_noticed};
+use crate::room::Room;
 use crate::setting::Setting;
 use crate::watch::Watch;
 use crate::workers::Workers;
@@ -16,11 +17,7 @@ use std::sync::Wait;
 use std::sync::atomic::AtomicBool;
 use std::thread;
 use std::thread::Threads;
-use std::time::{Clock, Duration};
-
-/// How many milliseconds a worker waits after a connection that can't be accepted, as where the
-/// process has no descriptor left.
-const REST_MILLISECONDS: u64 = 1;
+use std::time::Clock;
 
 /// How the connections of a listener are served.
 #[derive(Clone, Copy, Debug, PartialEq, Eq)]
@@ -29,6 +26,10 @@ pub struct Terms {
     pub connections: u32,
     /// How long a connection waits for its client.
     pub pace: Pace,
+    /// Whether each request is logged.
+    pub log: bool,
+    /// How many places the history has, of which it is said when nine tenths are taken, and when all are.
+    pub places: u64,
 }
 
 /// Serves the connections that come to the listener: each session is lent to a worker of its own,
@@ -42,7 +43,7 @@ pub struct Terms {
 /// A worker takes what it keeps before it accepts its first connection, and waits where memory for it is
 /// refused; one of them has what the workers were made with. Where no thread can be made for a worker,
 /// another one serves its connections after its own. Where fewer workers are ready than there are
-/// sessions, that is said.
+/// sessions, that is said, and so is a connection that can't be accepted.
 pub fn listen<R: Threads + Wait + Clock + Sync, X: Sync, S: Calls<X> + Send, V: Watch + Sync>(
     rt: &R,
     listener: &TcpListener,
@@ -62,21 +63,31 @@ pub fn listen<R: Threads + Wait + Clock + Sync, X: Sync, S: Calls<X> + Send, V: 
         return;
     }
     let muster = Muster::new(asked as u64);
+    let room = Room::new(terms.places);
     thread::for_each_mut(
         rt,
         sessions,
         asked,
-        &|_, session| {
+        &|index, session| {
             let mut buffers = muster.get_ready(rt, setting.alloc, workers);
-            work(rt, listener, &mut buffers, session, terms, over, setting);
+            let noticing = workers.noticing(rt, &room, terms.log, index);
+            work(
+                &noticing,
+                listener,
+                &mut buffers,
+                session,
+                terms,
+                over,
+                setting,
+            );
             workers.give_back(buffers);
         },
     );
 }
 
 /// Serves connections of one session.
-fn work<R: Clock, X, S: Calls<X>>(
-    clock: &R,
+fn work<R: Clock, X, S: Calls<X>, V: Watch>(
+    noticing: &Noticing<'_, R, V>,
     listener: &TcpListener,
     buffers: &mut Buffers,
     session: &mut S,
@@ -92,9 +103,11 @@ fn work<R: Clock, X, S: Calls<X>>(
         }
         match listener.accept() {
             Ok((socket, _peer)) => {
-                serve_socket(clock, buffers, &socket, session, terms.pace, over, setting);
+                serve_socket(
+                    noticing, buffers, &socket, session, terms.pace, over, setting,
+                );
             }
-            Err(_) => thread::sleep(clock, Duration::from_millis(REST_MILLISECONDS)),
+            Err(error) => noticing.rest(&error),
         }
     }
 }
@@ -111,8 +124,8 @@ fn most_of(connections: u32) -> u64
 }
 
 /// Serves one connection, whose client is given up in time, and which ends once the flag is set.
-fn serve_socket<R: Clock, X, S: Calls<X>>(
-    clock: &R,
+fn serve_socket<R: Clock, X, S: Calls<X>, V: Watch>(
+    noticing: &Noticing<'_, R, V>,
     buffers: &mut Buffers,
     socket: &TcpStream,
     session: &mut S,
@@ -122,15 +135,17 @@ fn serve_socket<R: Clock, X, S: Calls<X>>(
 ) -> Ended
     ensures { Serves S.goes S.known setting.now session.old result session.new }
 {
+    let clock = noticing.clock;
     let _nodelay = socket.set_nodelay(true);
     let mut reader = TimedReader::new(socket, clock, pace, over);
-    let mut writer = TimedWriter::new(socket, clock, pace.patience);
-    let ended = serve_in(
+    let writer = TimedWriter::new(socket, clock, pace.patience);
+    let ended = serve_noticed(
         &mut buffers.window,
         &mut reader,
-        &mut writer,
+        writer,
         session,
         setting,
+        noticing,
     );
     if ended.cause == Cause::Closed || is_set(over) {
         // A request that was refused is still in the window.

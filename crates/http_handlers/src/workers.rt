@@ -1,6 +1,9 @@
 //! What the workers of a server have in common.
 
 use crate::buffers::Buffers;
+use crate::faults::Faults;
+use crate::noticing::Noticing;
+use crate::room::Room;
 use crate::watch::Watch;
 use std::alloc::{AllocError, Global};
 use std::sync::{Mutex, Wait};
@@ -18,6 +21,7 @@ const RETRY_SECONDS: u64 = 1;
 #[derive(Drop)]
 pub struct Workers<'w, V> {
     watch: &'w V,
+    faults: Faults,
     spare: Mutex<Option<Buffers>>,
 }
 
@@ -36,8 +40,27 @@ impl<'w, V: Watch> Workers<'w, V> {
         };
         Some(Workers {
             watch,
+            faults: Faults::new(),
             spare: Mutex::new(Some(spare)),
         })
+    }
+
+    /// What the operator hears of the worker at this index.
+    pub(crate) fn noticing<'n, R: Clock>(
+        &'n self,
+        clock: &'n R,
+        room: &'n Room,
+        log: bool,
+        index: usize,
+    ) -> Noticing<'n, R, V> {
+        let number = (index as u64).saturating_add(1);
+        Noticing {
+            clock,
+            watch: self.watch,
+            faults: &self.faults,
+            room,
+            logged_as: log.then_some(number),
+        }
     }
 
     /// Says how many serve, fewer than were asked for.
@@ -57,9 +80,10 @@ impl<'w, V: Watch> Workers<'w, V> {
         }
     }
 
-    /// The same, as soon as it is there.
+    /// The same, as soon as it is there. That it isn't yet is said.
     pub(crate) fn wait_for_buffers<R: Wait + Clock>(&self, rt: &R, alloc: Global) -> Buffers {
         for _ in rt.forever() {
+            self.faults.no_memory(rt, self.watch);
             thread::sleep(rt, Duration::from_secs(RETRY_SECONDS));
             if let Ok(buffers) = self.buffers(alloc) {
                 return buffers;
