@@ -52,6 +52,7 @@ OPTIONS_OF_SERVE = (
     "      --idle <SECONDS>             How long a connection may send nothing of a next request [default: 15]\n"
     "      --patience <SECONDS>         How long a request may take to come, and a response to be taken [default: 60]\n"
     "      --max-places <PLACES>        How many entries a history may have [default: 1000000]\n"
+    "      --log                        Says each request on standard error\n"
     "      --data <DIR>                 Keeps the history in this folder, and goes on from what is there\n"
     "      --sync <WHEN>                When the journal is synced: 'always' before a write is answered, each 'second' (so where it is left out), or 'never' by the server\n"
     "      --keep <FILES>               How many files of the journal stay; all do where it is left out\n"
@@ -145,6 +146,9 @@ REFUSED = [
     ],
     (["serve", "--max-places", "0"], out_of_range("0", "max-places", 1, 4294967295, "PLACES")),
     (["serve", "--max-places", "4294967296"], out_of_range("4294967296", "max-places", 1, 4294967295, "PLACES")),
+    (["serve", "--log", "--log"], "error: the argument '--log' cannot be used multiple times\n" + USAGE_OF_SERVE),
+    (["serve", "--log=yes"], "error: unexpected value 'yes' for '--log' found; no more were expected\n" + USAGE_OF_SERVE),
+    (["serve", "--log", "yes"], unexpected("yes", USAGE_OF_SERVE)),
     (["serve", "--data"], "error: a value is required for '--data <DIR>' but none was supplied\n" + HINT),
     (["serve", "--sync", "always"], NO_FOLDER),
     (["serve", "--keep", "2"], NO_FOLDER),

@@ -12,6 +12,7 @@ ghost use Rattle.command_line.specs.Faults.{asks_version};
 mod arguments;
 mod doc_ids;
 mod faults;
+mod flags;
 mod journal;
 mod lines;
 mod numbers;

@@ -6,6 +6,7 @@ ghost use Rattle.command_line.specs.Numbers.{number_option};
 ghost use Rattle.command_line.specs.Serve.{serve, serve_with_counts, with_bounds, HasNumbersOf, IsServingOf};
 
 use crate::faults::{GivenFault, NO_SESSION, OUT_OF_RANGE};
+use crate::flags::{flag, flag_of};
 use crate::journal::{JournalOptions, journal_of, with_journal};
 use crate::numbers::{number_of, number_option, with_option};
 use clap::{Arg, ArgMatches, Command};
@@ -30,6 +31,8 @@ pub struct Serving {
     pub patience: u32,
     /// The most entries of a history, from 1 on.
     pub max_places: u32,
+    /// Whether each request is said on standard error.
+    pub log: bool,
     /// Where the history is kept, if it is to be.
     pub journal: Option<JournalOptions>,
 }
@@ -39,7 +42,9 @@ pub(crate) fn serve<'a>(alloc: Global) -> Result<Command<'a>, AllocError>
     ensures app { IfOk result (λ c. app_of c ≡ serve) }
     ensures local { IfOk result (λ c. (fields_of c).has_globals ≡ false) }
 {
-    with_journal(alloc, with_bounds(alloc, with_counts(alloc)?)?)
+    let log = flag(alloc, "log").help("Says each request on standard error");
+    let serve = with_bounds(alloc, with_counts(alloc)?)?;
+    with_journal(alloc, with_option(serve, log)?)
 }
 
 /// The subcommand with its port and what is counted.
@@ -112,8 +117,9 @@ pub(crate) fn serving_of(alloc: Global, options: &ArgMatches<'_>) -> Result<Serv
     ensures none { (reason : _) → result ≡ Err (GivenFault.Refused reason)
         → (serving : Serving) → IsServingOf (rows_of (found_of options.now)) serving → ⊥ }
 {
+    let log = flag_of(options, "log");
     let journal = journal_of(alloc, options)?;
-    let Some(serving) = numbers_of(options, journal) else {
+    let Some(serving) = numbers_of(options, log, journal) else {
         return Err(GivenFault::Refused(OUT_OF_RANGE));
     };
     if serving.journal.is_some() && serving.workers > WORKERS_WITH_JOURNAL {
@@ -123,8 +129,13 @@ pub(crate) fn serving_of(alloc: Global, options: &ArgMatches<'_>) -> Result<Serv
 }
 
 /// The numbers that the options give, beside these; nothing where one is out of its range.
-fn numbers_of(options: &ArgMatches<'_>, journal: Option<JournalOptions>) -> Option<Serving>
+fn numbers_of(
+    options: &ArgMatches<'_>,
+    log: bool,
+    journal: Option<JournalOptions>,
+) -> Option<Serving>
     ensures given { IfSome result (HasNumbersOf (rows_of (found_of options.now))) }
+    ensures log { IfSome result (λ serving. serving.log ≡ log) }
     ensures journal { IfSome result (λ serving. serving.journal ≡ journal) }
     ensures none { IfNone result ((serving : Serving)
         → HasNumbersOf (rows_of (found_of options.now)) serving → ⊥) }
@@ -142,6 +153,7 @@ fn numbers_of(options: &ArgMatches<'_>, journal: Option<JournalOptions>) -> Opti
         idle: idle as u32,
         patience: patience as u32,
         max_places: max_places as u32,
+        log,
         journal,
     })
 }

@@ -2,7 +2,7 @@
 
 use crate::unwritten;
 use command_line::Serving;
-use http_front::{Pace, Terms, Watch};
+use http_front::{Lines, Pace, Terms, Watch};
 use std::io;
 use std::net::{Ipv4Addr, SocketAddr, SocketAddrV4, TcpListener};
 use std::time::Duration;
@@ -13,11 +13,34 @@ pub(crate) struct Notices<'r> {
     pub(crate) rt: &'r HostRuntime,
 }
 
+impl Lines for Notices<'_> {
+    /// One write, so that the lines of workers don't mix.
+    fn write_line(&self, line: &str) {
+        let _written = self.rt.stderr().write_all(line.as_bytes());
+    }
+}
+
 impl Watch for Notices<'_> {
     fn few_workers(&self, serving: u64, asked: u64) {
         let _printed = eprintln!(self.rt;
             "couchd: {serving} of {asked} workers serve: threads or memory are refused"
         );
+    }
+
+    fn accept_failed(&self, error: &io::Error) {
+        let _printed = eprintln!(self.rt; "couchd: a connection can't be accepted: {error}");
+    }
+
+    fn no_memory(&self) {
+        let _printed = eprintln!(self.rt; "couchd: out of memory for a worker");
+    }
+
+    fn history_filling(&self, taken: u64, places: u64) {
+        let _printed = eprintln!(self.rt; "couchd: the history has {taken} of {places} places");
+    }
+
+    fn history_full(&self, places: u64) {
+        let _printed = eprintln!(self.rt; "couchd: the history is full, at {places} places");
     }
 }
 
@@ -45,5 +68,7 @@ pub(crate) fn terms(serving: &Serving) -> Terms {
             idle: Duration::from_secs(serving.idle as u64),
             patience: Duration::from_secs(serving.patience as u64),
         },
+        log: serving.log,
+        places: serving.max_places as u64,
     }
 }

@@ -12,7 +12,7 @@ mod server;
 
 pub use dumping::run_dump;
 pub use http_handlers::{
-    CallFault, Calls, Pace, Setting, Terms, Viewer, Watch, Workers, listen, serve,
+    CallFault, Calls, Lines, Pace, Setting, Terms, Viewer, Watch, Workers, listen, serve,
 };
 pub use once::run_once;
 pub use opening::{MAX_PLACES, server_config};

@@ -1,6 +1,6 @@
 //! How these databases are served.
 
-use http_front::{Pace, Terms, Watch, Workers};
+use http_front::{Lines, MAX_PLACES, Pace, Terms, Watch, Workers};
 use std::alloc::Global;
 use std::io::{self, ErrorKind};
 use std::thread::Threads;
@@ -20,14 +20,28 @@ pub(crate) fn terms() -> Terms {
             idle: Duration::from_secs(SECONDS),
             patience: Duration::from_secs(SECONDS),
         },
+        log: false,
+        places: MAX_PLACES as u64,
     }
 }
 
 /// Nobody hears what a server says.
 pub(crate) struct Unheard;
 
+impl Lines for Unheard {
+    fn write_line(&self, _line: &str) {}
+}
+
 impl Watch for Unheard {
     fn few_workers(&self, _serving: u64, _asked: u64) {}
+
+    fn accept_failed(&self, _error: &io::Error) {}
+
+    fn no_memory(&self) {}
+
+    fn history_filling(&self, _taken: u64, _places: u64) {}
+
+    fn history_full(&self, _places: u64) {}
 }
 
 /// The workers that serve.
