@@ -15,6 +15,7 @@ import resource
 import socket
 import subprocess
 import sys
+import tempfile
 import threading
 import time
 
@@ -28,11 +29,12 @@ check = CHECKS.check
 
 
 class Logged:
-    """A server, and what it writes on standard error."""
+    """A server, and the file of what it writes on standard error."""
 
     def __init__(self, couchd, *options, prepare=None):
+        self.errors = tempfile.TemporaryFile()
         self.process = subprocess.Popen(
-            [couchd, "serve", "--port", "0", *options], stdout=subprocess.PIPE, stderr=subprocess.PIPE, preexec_fn=prepare
+            [couchd, "serve", "--port", "0", *options], stdout=subprocess.PIPE, stderr=self.errors, preexec_fn=prepare
         )
         self.port = int(self.process.stdout.readline().rsplit(b":", 1)[1])
 
@@ -44,9 +46,11 @@ class Logged:
             return b"".join(iter(lambda: client.recv(1 << 16), b""))
 
     def lines(self):
-        """Its lines, when it has ended."""
+        """What it wrote, when it has ended."""
         self.process.terminate()
-        return self.process.communicate(timeout=SECONDS)[1]
+        self.process.communicate(timeout=SECONDS)
+        self.errors.seek(0)
+        return self.errors.read()
 
 
 def request(method, target, body=b""):
