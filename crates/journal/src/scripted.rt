@@ -33,6 +33,7 @@ impl<'a> ScriptedFile<'a> {
         ensures taken { result.taken.items ≡ [] }
         ensures covered { result.covered.items ≡ [] }
         ensures failures { result.failures ≡ 0 }
+        ensures script { result.script.now ≡ script.now }
     {
         ScriptedFile {
             alloc,
