@@ -16,6 +16,7 @@ mod muster;
 mod noticing;
 mod progress;
 mod reading;
+mod reserve;
 mod response;
 mod room;
 mod session;

@@ -20,6 +20,7 @@ ghost use Rattle.http_handlers.specs.Response.{SendsDue, turn_of};
 
 use crate::calls::{CallFault, Calls, Viewer};
 use crate::failing::fail;
+use crate::reserve::Reserve;
 use crate::response::{Long, Reply, Sent, connection_after};
 use crate::setting::Setting;
 use crate::waiting::{has_changes, wait_for_changes};
@@ -27,7 +28,8 @@ use changes_feed::answer;
 use http_request::{Asked, ChangesAsked, Extent, Feed, Since};
 use http_response::{Connection, Measured, MemoryFor, Response, measure};
 use queries::{Answer, Query, QueryKind};
-use std::alloc::{AllocError, Global};
+use snapshots::Version;
+use std::alloc::AllocError;
 
 /// Looks, and answers a query by what is seen then.
 pub(crate) fn read<X, S: Calls<X>>(
@@ -41,44 +43,51 @@ pub(crate) fn read<X, S: Calls<X>>(
         → Replies S.goes S.known setting.now request session.old result session.new }
 {
     match session.refresh() {
-        Ok(()) => reply_seen(session, setting.alloc, query, closes),
+        Ok(()) => reply_seen(session, &setting.reserve, query, closes),
         Err(fault) => Reply::Sent(fail(session, fault, closes)),
     }
 }
 
 /// Answers a query by what has been seen, in pieces where the answer is long.
-fn reply_seen<S: Viewer>(session: &S, alloc: Global, query: &Query, closes: bool) -> Reply
+fn reply_seen<S: Viewer>(session: &S, reserve: &Reserve, query: &Query, closes: bool) -> Reply
     ensures { RepliesWith (length (S.known session.now).seen) closes query.now
         (answer_to (now (history_of (S.known session.now))) query.now) result }
 {
     let place = session.place();
-    let Ok(found) = answer(alloc, session.version(), query) else {
+    let Ok(found) = answer_seen(reserve, session.version(), query) else {
         return Reply::Sent(Sent::no_memory(place, Extent::Whole, MemoryFor::Call));
     };
-    reply_by_length(alloc, place, query, found, closes)
+    reply_by_length(reserve, place, query, found, closes)
 }
 
 /// Gives an answer at this place, in pieces where it is long.
-fn reply_by_length(alloc: Global, place: u64, query: &Query, found: Answer, closes: bool) -> Reply
+fn reply_by_length(
+    reserve: &Reserve,
+    place: u64,
+    query: &Query,
+    found: Answer,
+    closes: bool,
+) -> Reply
     requires { IsSome (answer_told query.now found) }
     ensures { RepliesWith place closes query.now found result }
 {
+    let alloc = reserve.alloc();
     let Ok(measured) = measure(alloc, place, connection_after(closes), query, found) else {
         return Reply::Sent(Sent::no_memory(place, Extent::Whole, MemoryFor::Call));
     };
     match measured {
         Measured::Long(pieces) => Reply::Long(Long { pieces, closes }),
-        Measured::Short(found) => Reply::Sent(sent_with(alloc, place, query, &found, closes)),
+        Measured::Short(found) => Reply::Sent(sent_with(reserve, place, query, &found, closes)),
     }
 }
 
 /// Gives an answer at this place, at once.
-fn sent_with(alloc: Global, place: u64, query: &Query, found: &Answer, closes: bool) -> Sent
+fn sent_with(reserve: &Reserve, place: u64, query: &Query, found: &Answer, closes: bool) -> Sent
     requires { IsSome (answer_told query.now found.now) }
     ensures { SendsDue (answer_text place (after_closing closes) query.now found.now) closes place
         memory_for.Call result }
 {
-    let response = answer_with(alloc, place, connection_after(closes), query, found);
+    let response = answer_with(reserve, place, connection_after(closes), query, found);
     Sent::made(response, closes, place, MemoryFor::Call)
 }
 
@@ -97,7 +106,7 @@ pub(crate) fn read_changes<X, S: Calls<X>>(
     match session.refresh() {
         Ok(()) => {
             let since = since_seen(session, changes.since);
-            read_since(session, setting.alloc, since, changes, closes)
+            read_since(session, &setting.reserve, since, changes, closes)
         }
         Err(fault) => fail(session, fault, closes),
     }
@@ -116,7 +125,7 @@ pub(crate) fn poll_changes<X, S: Calls<X>>(
         → Answers S.goes S.known setting.now session.old (turn_of (Requested request) result) session.new }
 {
     match poll(session, setting, &changes) {
-        Ok(since) => read_since(session, setting.alloc, since, changes, closes),
+        Ok(since) => read_since(session, &setting.reserve, since, changes, closes),
         Err(fault) => fail(session, fault, closes),
     }
 }
@@ -166,7 +175,7 @@ pub(crate) fn since_seen<S: Viewer>(session: &S, since: Since) -> u64
 /// Answers which of the changes that are asked for have been seen above `since`.
 fn read_since<S: Viewer>(
     session: &S,
-    alloc: Global,
+    reserve: &Reserve,
     since: u64,
     changes: ChangesAsked,
     closes: bool,
@@ -177,7 +186,7 @@ fn read_since<S: Viewer>(
         closes (length (S.known session.now).seen) memory_for.Call result }
 {
     let query = changes_query(since, changes);
-    read_seen(session, alloc, &query, closes)
+    read_seen(session, reserve, &query, closes)
 }
 
 /// The query for the changes that are asked for, above `since`.
@@ -200,21 +209,28 @@ fn changes_query(since: u64, changes: ChangesAsked) -> Query
 }
 
 /// Answers a query by what has been seen.
-fn read_seen<S: Viewer>(session: &S, alloc: Global, query: &Query, closes: bool) -> Sent
+fn read_seen<S: Viewer>(session: &S, reserve: &Reserve, query: &Query, closes: bool) -> Sent
     ensures { SendsDue (answer_text (length (S.known session.now).seen) (after_closing closes)
         query.now (answer_to (now (history_of (S.known session.now))) query.now))
         closes (length (S.known session.now).seen) memory_for.Call result }
 {
     let place = session.place();
-    let Ok(found) = answer(alloc, session.version(), query) else {
+    let Ok(found) = answer_seen(reserve, session.version(), query) else {
         return Sent::no_memory(place, Extent::Whole, MemoryFor::Call);
     };
-    sent_with(alloc, place, query, &found, closes)
+    sent_with(reserve, place, query, &found, closes)
 }
 
-/// The answer to a query.
+/// The answer to a query by this version.
+fn answer_seen(reserve: &Reserve, version: &Version, query: &Query) -> Result<Answer, AllocError>
+    ensures answer { IfOk result (λ answer. answer ≡ answer_to (now version.now) query.now) }
+{
+    reserve.retried(|| answer(reserve.alloc(), version, query))
+}
+
+/// The response with an answer to a query.
 fn answer_with(
-    alloc: Global,
+    reserve: &Reserve,
     place: u64,
     connection: Connection,
     query: &Query,
@@ -224,9 +240,22 @@ fn answer_with(
     ensures { IfOk result (λ response. Some response
         ≡ answer_text place connection query.now found.now) }
 {
-    let response = http_response::answer(alloc, place, connection, query, found)?;
+    let response = response_to(reserve, place, connection, query, found)?;
     let Some(response) = response else {
         unreachable!()
     };
     Ok(response)
+}
+
+/// The response to a query, where such queries are answered so.
+fn response_to(
+    reserve: &Reserve,
+    place: u64,
+    connection: Connection,
+    query: &Query,
+    found: &Answer,
+) -> Result<Option<Response>, AllocError>
+    ensures text { IfOk result (λ response. response ≡ answer_text place connection query.now found.now) }
+{
+    reserve.retried(|| http_response::answer(reserve.alloc(), place, connection, query, found))
 }

@@ -1,6 +1,7 @@
 //! What serves connections beside a session.
 ghost use Rattle.std.specs.Prelude.{◌≡◌, IfOk};
 
+use crate::reserve::Reserve;
 use http_routing::Routes;
 use std::alloc::{AllocError, Global};
 use std::marker::Model;
@@ -12,6 +13,7 @@ pub struct Setting<'c, X> {
     pub(crate) routes: Routes,
     pub(crate) context: &'c X,
     pub(crate) turns: u64,
+    pub(crate) reserve: Reserve,
 }
 
 impl<'c, X> Model for Setting<'c, X> {
@@ -23,7 +25,7 @@ impl<'c, X> Model for Setting<'c, X> {
 }
 
 impl<'c, X> Setting<'c, X> {
-    /// Builds the routes. Calls that wait do so by the context, and a wait for changes looks at most
+    /// Builds the routes, and takes the memory that is kept back for reads. Calls that wait do so by the context, and a wait for changes looks at most
     /// so many times.
     pub fn new(alloc: Global, context: &'c X, turns: u64) -> Result<Setting<'c, X>, AllocError>
         ensures turns { IfOk result (λ setting. setting ≡ turns) }
@@ -33,6 +35,7 @@ impl<'c, X> Setting<'c, X> {
             routes: Routes::new(alloc)?,
             context,
             turns,
+            reserve: Reserve::new(alloc)?,
         })
     }
 }

@@ -1,5 +1,5 @@
 //! The turns of a session.
-ghost use Rattle.std.specs.Prelude.{◌≡◌, ℕ, Ok};
+ghost use Rattle.std.specs.Prelude.{◌≡◌, ℕ, Ok, IfOk};
 ghost use Rattle.http_framing.specs.Input.{Requested, Refused};
 ghost use Rattle.http_framing.specs.Request as framing;
 ghost use Rattle.http_request.specs.Decide.{decide};
@@ -15,8 +15,9 @@ use crate::setting::Setting;
 use crate::writing::write;
 use http_framing::FramingFault;
 use http_framing::request::Request;
-use http_request::{Asked, ChangesAsked, Feed, extent_of, read_request};
+use http_request::{Asked, ChangesAsked, Feed, Rejection, extent_of, read_request};
 use http_response::{MemoryFor, closing, refused, welcome};
+use std::alloc::AllocError;
 
 /// Does what a request asks, and answers it.
 pub(crate) fn respond<X, S: Calls<X>>(
@@ -29,7 +30,8 @@ pub(crate) fn respond<X, S: Calls<X>>(
     let place = session.place();
     let closes = request.closes();
     let extent = extent_of(request);
-    let Ok(asked) = read_request(setting.alloc, &setting.routes, request) else {
+    setting.reserve.renew();
+    let Ok(asked) = understand(setting, request) else {
         return Reply::Sent(Sent::no_memory(place, extent, MemoryFor::Call));
     };
     match asked {
@@ -39,6 +41,25 @@ pub(crate) fn respond<X, S: Calls<X>>(
             Reply::Sent(Sent { response, closes })
         }
     }
+}
+
+/// What a request asks, or why it is rejected. Only one that reads gets memory that is kept back: what others ask
+/// may keep theirs.
+fn understand<X>(
+    setting: &Setting<'_, X>,
+    request: &Request<'_>,
+) -> Result<Result<Asked, Rejection>, AllocError>
+    ensures decides { IfOk result (λ decided. decided ≡ decide request.now) }
+{
+    let Setting {
+        routes,
+        reserve,
+        ..
+    } = setting;
+    if request.method() != "GET".as_bytes() {
+        return read_request(reserve.alloc(), routes, request);
+    }
+    reserve.retried(|| read_request(reserve.alloc(), routes, request))
 }
 
 /// Does what is asked, and answers it.
