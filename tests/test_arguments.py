@@ -147,7 +147,10 @@ REFUSED = [
     (["serve", "--max-places", "0"], out_of_range("0", "max-places", 1, 4294967295, "PLACES")),
     (["serve", "--max-places", "4294967296"], out_of_range("4294967296", "max-places", 1, 4294967295, "PLACES")),
     (["serve", "--log", "--log"], "error: the argument '--log' cannot be used multiple times\n" + USAGE_OF_SERVE),
-    (["serve", "--log=yes"], "error: unexpected value 'yes' for '--log' found; no more were expected\n" + USAGE_OF_SERVE),
+    (
+        ["serve", "--log=yes"],
+        "error: unexpected value 'yes' for '--log' found; no more were expected\n\nUsage: couchd serve --log\n" + HINT,
+    ),
     (["serve", "--log", "yes"], unexpected("yes", USAGE_OF_SERVE)),
     (["serve", "--data"], "error: a value is required for '--data <DIR>' but none was supplied\n" + HINT),
     (["serve", "--sync", "always"], NO_FOLDER),
