@@ -1,0 +1,22 @@
+use Rattle.std.proofs.Common.{sym, subst}
+use Rattle.model.specs.History.{Chronicle, Extends}
+use Rattle.journal.specs.Held.{BeginsDump}
+use Rattle.journal.specs.Kept.{Kept}
+use Rattle.journal_front.specs.Keeping.{IsBehind}
+use Rattle.journal_front.proofs.Keeping.{looked, looks_behind}
+use Rattle.journal_front.proofs.keeper.append_new.Goals as goal
+
+pub returns-clause-memory : goal.returns-clause-memory
+returns-clause-memory g c = λ refused.
+    let old = g.K.Viewer.known c.args.session.now in
+    let new = g.K.Viewer.known c.refresh-looked.new.self in
+    let behind = looks_behind c.args.journal.now old new c.requires.behind (looked old new c.refresh-looked.result c.refresh-looked.ensures.learns) in
+    subst (λ (k : Kept). IsBehind k new) (sym (c.append.ensures.memory refused)) behind
+
+pub returns-clause-begins : goal.returns-clause-begins
+returns-clause-begins g c =
+    let old = g.K.Viewer.known c.args.session.now in
+    let new = g.K.Viewer.known c.refresh-looked.new.self in
+    let behind = looks_behind c.args.journal.now old new c.requires.behind (looked old new c.refresh-looked.result c.refresh-looked.ensures.learns) in
+    subst (λ (h : Chronicle). BeginsDump c.append.new.self h) c.version.ensures
+    (c.append.ensures.begins behind.history behind.holds (subst (λ (h : Chronicle). Extends h behind.history) (sym c.version.ensures) behind.extends))

@@ -1,0 +1,20 @@
+use Rattle.std.proofs.Common.{[], ◌∷◌, ◌++◌, ◌+◌, refl, subst}
+use Rattle.std.specs.Prelude.{Option, option_map}
+use Rattle.std.proofs.lemmas.Fn.{FoldsTo-push}
+use Rattle.http_front.specs.Opening.{server_config}
+use Rattle.http_front.specs.Server.{server_turns}
+use Rattle.journal_front.specs.Keeping.{IsKeptIn}
+use Rattle.journal_front.specs.Server.{EndsEpoch, GoesOnAfter, awaits}
+use Rattle.journal_front.proofs.server.run_kept.Goals as goal
+
+pub loop-init : goal.loop-init
+loop-init g c = ([], refl)
+
+pub loop-preserved : goal.loop-preserved
+loop-preserved g c =
+    let config = server_config (c.args.service.now.workers + 1) c.args.service.now.max_places in
+    let ended = subst (λ (next : Option _). EndsEpoch config (λ base. IsKeptIn g.F.Appended.told base) (awaits c.args.service.now.policy) server_turns c.args.service.now.terms.connections
+    c.loop.epoch.version.base c.in_ok-journal.journal (option_map (λ e. e.version.base) next)) c.in-Some-next.is c.in_ok-journal.ensures in
+    (c.loop.invariant.0 ++ c.in_ok-journal.journal ∷ [], FoldsTo-push
+    (GoesOnAfter config (λ base. IsKeptIn g.F.Appended.told base) (awaits c.args.service.now.policy) server_turns c.args.service.now.terms.connections)
+    c.args.first.version.base c.loop.invariant.0 c.loop.epoch.version.base c.in_ok-journal.journal c.in-Some-next.next.version.base c.loop.invariant.1 ended)
