@@ -1,13 +1,13 @@
 //! The program `couchd`: a replicating document store, served over HTTP.
 #![tactic(auto)]
 
+mod journaled;
 mod patient;
 mod replication;
 mod serving;
 
-use crate::serving::{Notices, listener_at, terms};
 use command_line::{Run, given_arguments, read_arguments, refuse_bytes};
-use http_front::{run_dump, run_once, run_server};
+use http_front::{run_dump, run_once};
 use std::io;
 use std::process::ExitCode;
 use streams::{Sink, Stream};
@@ -32,21 +32,7 @@ fn main(rt: HostRuntime) -> io::Result<ExitCode> {
             let status = run_dump(&mut reader, &mut writer, &rt);
             Ok(ended(&rt, &writer, status))
         }
-        Ok(Run::Serve(serving)) => {
-            let Some(listener) = listener_at(&rt, serving.port)? else {
-                return Ok(ExitCode::FAILURE);
-            };
-            let notices = Notices { rt: &rt };
-            let status = run_server(
-                &listener,
-                serving.workers,
-                serving.max_places,
-                terms(&serving),
-                &notices,
-                &rt,
-            );
-            Ok(ExitCode::from(status))
-        }
+        Ok(Run::Serve(serving)) => serving::serve(&rt, &rt, &serving),
         Ok(Run::Replicate(replicating)) => Ok(replication::replicate(&rt, &replicating)),
         Err(fault) => Ok(fault.tell(&rt, UNREADABLE_ARGUMENTS)),
     }

@@ -1,11 +1,15 @@
 //! `couchd serve`: what it listens on, on which terms it serves, and what it says.
+ghost use Rattle.std.specs.Prelude.{◌≡◌, ◌≤◌, true, is_some};
 
-use crate::unwritten;
+use crate::{journaled, unwritten};
 use command_line::Serving;
-use http_front::{Lines, Pace, Terms, Watch};
+use http_front::{Lines, Pace, Terms, Watch, run_server};
 use std::io;
 use std::net::{Ipv4Addr, SocketAddr, SocketAddrV4, TcpListener};
-use std::time::Duration;
+use std::process::ExitCode;
+use std::sync::Wait;
+use std::thread::Threads;
+use std::time::{Clock, Duration};
 
 /// Says on standard error what an operator is to know.
 #[derive(Clone, Copy, Drop)]
@@ -44,20 +48,60 @@ impl Watch for Notices<'_> {
     }
 }
 
-/// Listens on a port that only this machine reaches, and prints it; nothing where it is taken or the
-/// output can't be written, which is said.
-pub(crate) fn listener_at(rt: &HostRuntime, port: u16) -> io::Result<Option<TcpListener>> {
-    let address = SocketAddr::V4(SocketAddrV4::new(Ipv4Addr::LOCALHOST, port));
-    let Ok(listener) = TcpListener::bind(rt, address) else {
+/// Serves a database: an empty one, or what a journal holds. Threads are those of `threads`, since only `main` has them of the
+/// runtime.
+pub(crate) fn serve<A: AllocGlobal + Threads + Wait + Clock + Sync>(
+    rt: &HostRuntime,
+    threads: &A,
+    serving: &Serving,
+) -> io::Result<ExitCode>
+    requires workers { (1 ≤ serving.now.workers) × (serving.now.workers ≤ 64) }
+    requires places { 1 ≤ serving.now.max_places }
+    requires session { is_some serving.now.journal ≡ true → serving.now.workers ≤ 63 }
+{
+    let Some(listener) = listener_at(rt, serving.port)? else {
+        return Ok(ExitCode::FAILURE);
+    };
+    if let Some(options) = &serving.journal {
+        return journaled::serve(rt, threads, &listener, serving, options);
+    }
+    if !say_port(rt, &listener)? {
+        return Ok(ExitCode::FAILURE);
+    }
+    let notices = Notices { rt };
+    let status = run_server(
+        &listener,
+        serving.workers,
+        serving.max_places,
+        terms(serving),
+        &notices,
+        threads,
+    );
+    Ok(ExitCode::from(status))
+}
+
+/// Listens on a port that only this machine reaches; nothing where it is taken, which is said.
+fn listener_at(rt: &HostRuntime, port: u16) -> io::Result<Option<TcpListener>> {
+    let Ok(listener) = TcpListener::bind(rt, address(port)) else {
         let _printed = eprintln!(rt; "couchd: cannot listen on port {port}");
         return Ok(None);
     };
+    Ok(Some(listener))
+}
+
+/// The address of a port that only this machine reaches.
+pub(crate) fn address(port: u16) -> SocketAddr {
+    SocketAddr::V4(SocketAddrV4::new(Ipv4Addr::LOCALHOST, port))
+}
+
+/// Prints the port, and says whether the output can be written.
+pub(crate) fn say_port(rt: &HostRuntime, listener: &TcpListener) -> io::Result<bool> {
     let port = listener.local_addr()?.port();
     let Ok(()) = println!(rt; "listening 127.0.0.1:{port}") else {
         let _failure = unwritten(rt);
-        return Ok(None);
+        return Ok(false);
     };
-    Ok(Some(listener))
+    Ok(true)
 }
 
 /// The terms on which connections are served.

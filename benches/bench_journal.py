@@ -1,0 +1,127 @@
+"""Times PUTs of `couchd serve` with and without a journal, beside redis with an append-only file where it is installed.
+
+    python3 benches/bench_journal.py [--seconds N] [--rounds N] [--entries N] [--store] [COUCHD]
+
+It needs wrk. Sixteen connections PUT new documents: requests a second without `--data`, and for each `--sync`. Beside it
+`redis-benchmark` SETs as many bytes over sixteen connections, for `appendfsync everysec` and `always`. All that a row compares is
+measured in turns, so often as there are rounds, and the best of each counts. Then a journal of so many entries (100,000 where
+that is not given) is written and read: how long the writes took, and how long the start after them.
+"""
+import contextlib
+import os
+import shutil
+import socket
+import subprocess
+import sys
+import tempfile
+import time
+
+from bench_serve import PUT, load
+from shared import machine
+from shared.ratios import Ratios, with_store
+
+from lib.programs import arguments
+from lib.server import Connection, Server
+
+CONNECTIONS = 16
+LENGTH = 29  # of a body of the PUTs
+BULK = 1000  # entries are written by bulks of one document each, so many requests before their answers are read
+
+
+class Couchd:
+    """A server, with a journal or none."""
+
+    def __init__(self, program, sync):
+        self.program, self.sync = program, sync
+        self.name = "couchd, no journal" if sync is None else "couchd --sync " + sync
+
+    @contextlib.contextmanager
+    def running(self, folder):
+        words = [] if self.sync is None else ["--data", os.path.join(folder, "data"), "--sync", self.sync]
+        with Server(self.program, "--workers", "32", *words) as server:
+            yield server.port
+
+    def rate(self, folder, seconds):
+        with self.running(folder) as port:
+            script = os.path.join(folder, "requests.lua")
+            with open(script, "w") as file:
+                file.write(PUT)
+            return load("http://127.0.0.1:%d/db/" % port, CONNECTIONS, seconds, script)[1]
+
+
+class Redis:
+    """A server that appends each command to a file."""
+
+    def __init__(self, policy):
+        self.policy = policy
+        self.name = "redis, appendfsync " + policy
+
+    def rate(self, folder, seconds):
+        with socket.socket() as free:
+            free.bind(("127.0.0.1", 0))
+            port = free.getsockname()[1]
+        words = ["--port", str(port), "--appendonly", "yes", "--appendfsync", self.policy, "--save", "", "--dir", folder]
+        with subprocess.Popen(["redis-server", *words], stdout=subprocess.DEVNULL) as server:
+            time.sleep(0.5)
+            requests = str(20_000 * seconds if self.policy == "everysec" else 1_000 * seconds)
+            sets = ["-t", "set", "-c", str(CONNECTIONS), "-n", requests, "-d", str(LENGTH), "-r", "100000000", "--csv"]
+            text = subprocess.run(["redis-benchmark", "-p", str(port), *sets], capture_output=True, text=True, check=True).stdout
+            server.terminate()
+        return float(text.strip().splitlines()[-1].split(",")[1].strip('"'))
+
+
+def compared(servers, seconds, rounds, folder):
+    """The best rate of each server, measured in turns."""
+    rates = {server: 0.0 for server in servers}
+    for _ in range(rounds):
+        for server in servers:
+            with tempfile.TemporaryDirectory(dir=folder) as place:
+                rates[server] = max(rates[server], server.rate(place, seconds))
+    return rates
+
+
+def starts(program, entries, folder):
+    """Seconds to write so many entries, seconds of the start after them, and the megabytes of both runs."""
+    words = ["--data", os.path.join(folder, "long"), "--sync", "second", "--max-places", "4294967295", "--workers", "2"]
+    with Server(program, *words) as server:
+        connection = Connection(server.port)
+        began = time.monotonic()
+        for at in range(0, entries, BULK):
+            for number in range(at, min(at + BULK, entries)):
+                connection.send("PUT", "/db/d%d" % number, {"n": number, "text": "some words"})
+            for _ in range(at, min(at + BULK, entries)):
+                connection.answer()
+        written = time.monotonic() - began
+        time.sleep(2)  # until the keeper has synced
+        before = machine.megabytes(server.process.pid, "VmHWM")
+    began = time.monotonic()
+    with Server(program, *words) as server:
+        return written, time.monotonic() - began, before, machine.megabytes(server.process.pid, "VmHWM")
+
+
+def main():
+    reader = with_store(arguments(__doc__, "couchd"))
+    reader.add_argument("--seconds", type=int, default=5)
+    reader.add_argument("--rounds", type=int, default=3)
+    reader.add_argument("--entries", type=int, default=100_000)
+    given = reader.parse_args()
+    if shutil.which("wrk") is None:
+        sys.exit("bench_journal: wrk is not installed")
+    servers = [Couchd(given.couchd, sync) for sync in (None, "second", "never", "always")]
+    if shutil.which("redis-server"):
+        servers += [Redis("everysec"), Redis("always")]
+    ratios = Ratios("journal", given)
+    with tempfile.TemporaryDirectory() as folder:
+        rates = compared(servers, given.seconds, given.rounds, folder)
+        for server, rate in rates.items():
+            print("%-28s %s a second" % (server.name, format(round(rate), ",")), flush=True)
+        plain, second = (rates[server] for server in servers[:2])
+        ratios.add("PUT with --sync second to none", second / plain, more_is_better=True)
+        written, read, before, after = starts(given.couchd, given.entries, folder)
+        print("%d entries: written in %.1f s, read in %.1f s; %d and %d MB" % (given.entries, written, read, before, after))
+        ratios.add("a start to the writes before it", read / written)
+    return ratios.report()
+
+
+if __name__ == "__main__":
+    sys.exit(main())

@@ -1,0 +1,180 @@
+//! `couchd serve --data`: a database is served whose history a journal keeps.
+ghost use Rattle.std.specs.Prelude.{◌≡◌, ◌≤◌};
+
+use crate::serving::{Notices, address, say_port, terms};
+use command_line::{JournalOptions, Serving, SyncPolicy as Policy};
+use journal::{Begun, DiskFile, Folder, Journal, Started};
+use journal_front::{Epoch, Epochs, Notices as JournalNotices, Service, SyncPolicy, run_kept};
+use snapshots::Version;
+use std::io;
+use std::net::{TcpListener, TcpStream};
+use std::process::ExitCode;
+use std::sync::Wait;
+use std::thread::Threads;
+use std::time::Clock;
+
+impl JournalNotices<DiskFile> for Notices<'_> {
+    fn failed(&self, file: &DiskFile) {
+        let _printed = eprintln!(self.rt;
+            "couchd: the journal failed, and writes are refused from now on"
+        );
+        if let Some(error) = file.error() {
+            let _printed = eprintln!(self.rt; "couchd: {error}");
+        }
+    }
+
+    fn no_keeper(&self) {
+        let _printed = eprintln!(self.rt;
+            "couchd: no thread writes the journal, and writes are refused"
+        );
+    }
+}
+
+/// The epochs of a folder, and the port whose workers are woken at the end of one.
+#[derive(Drop)]
+struct Files<'r> {
+    rt: &'r HostRuntime,
+    folder: Folder,
+    epoch: u64,
+    keep: Option<u32>,
+    port: u16,
+}
+
+impl Epochs<DiskFile> for Files<'_> {
+    fn succeed(
+        &mut self,
+        _full: &Journal<DiskFile>,
+        last: &Version,
+    ) -> Option<Epoch<DiskFile>> {
+        match self.folder.succeed(self.rt, self.epoch, last) {
+            Ok(begun) => Some(self.begun(begun)),
+            Err(fault) => {
+                let _printed = eprintln!(self.rt;
+                    "couchd: no next epoch begins, and writes are refused from now on: {fault}"
+                );
+                None
+            }
+        }
+    }
+
+    fn wake(&self, workers: u16) {
+        for _ in 0..workers {
+            let _connected = TcpStream::connect(self.rt, address(self.port));
+        }
+    }
+}
+
+impl Files<'_> {
+    /// An epoch that began, after which older files are removed that are not to be kept.
+    fn begun(&mut self, begun: Begun) -> Epoch<DiskFile>
+        ensures { result.version.base ≡ begun.version.base }
+    {
+        let Begun {
+            version,
+            journal,
+            epoch,
+        } = begun;
+        self.epoch = epoch;
+        remove_old(self.rt, &self.folder, epoch, self.keep);
+        Epoch { version, journal }
+    }
+}
+
+/// Serves what the journal in the folder holds, to the connections of a listener, whose port is printed. Where the
+/// folder can't be had, or what it holds can't be gone on from, that is said. Threads are those of `threads`, since only `main`
+/// has them of the runtime.
+pub(crate) fn serve<A: AllocGlobal + Threads + Wait + Clock + Sync>(
+    rt: &HostRuntime,
+    threads: &A,
+    listener: &TcpListener,
+    serving: &Serving,
+    options: &JournalOptions,
+) -> io::Result<ExitCode>
+    requires workers { (1 ≤ serving.now.workers) × (serving.now.workers ≤ 63) }
+    requires places { 1 ≤ serving.now.max_places }
+{
+    let port = listener.local_addr()?.port();
+    let Some((folder, begun)) = begin(rt, port, options) else {
+        return Ok(ExitCode::FAILURE);
+    };
+    let mut files = Files {
+        rt,
+        folder,
+        epoch: begun.epoch,
+        keep: options.keep,
+        port,
+    };
+    let first = files.begun(begun);
+    if !say_port(rt, listener)? {
+        return Ok(ExitCode::FAILURE);
+    }
+    let service = Service {
+        listener,
+        workers: serving.workers,
+        max_places: serving.max_places,
+        terms: terms(serving),
+        policy: policy_of(options.sync),
+        notices: &Notices { rt },
+    };
+    match run_kept(&service, first, &mut files, threads) {
+        Some(journal) if !journal.is_broken() => Ok(ExitCode::SUCCESS),
+        _ => Ok(ExitCode::FAILURE),
+    }
+}
+
+/// Locks the folder, and begins the next epoch in it.
+fn begin(rt: &HostRuntime, port: u16, options: &JournalOptions) -> Option<(Folder, Begun)> {
+    let path = options.folder.as_str();
+    let folder = match Folder::open(rt, path, port) {
+        Ok(folder) => folder,
+        Err(fault) => {
+            let _printed = eprintln!(rt; "couchd: {path}: {fault}");
+            return None;
+        }
+    };
+    if let Some(left) = folder.left_by() {
+        let _printed = eprintln!(rt;
+            "couchd: {path}: a server on port {left} ended without giving it up"
+        );
+    }
+    match folder.start(rt) {
+        Ok(started) => {
+            say_cut(rt, path, &started);
+            let Started { begun, .. } = started;
+            Some((folder, begun))
+        }
+        Err(fault) => {
+            let _printed = eprintln!(rt; "couchd: {path}: {fault}");
+            None
+        }
+    }
+}
+
+/// Says where the last line was cut, if it was.
+fn say_cut(rt: &HostRuntime, path: &str, started: &Started) {
+    if let Some(cut) = &started.cut {
+        let _printed = eprintln!(rt;
+            "couchd: {path}: the last line was cut: the entry at place {}, of which {} bytes are there, is dropped",
+            cut.place, cut.bytes
+        );
+    }
+}
+
+/// Removes all but the newest files, where so many are to be kept.
+fn remove_old(rt: &HostRuntime, folder: &Folder, epoch: u64, keep: Option<u32>) {
+    let Some(count) = keep else {
+        return;
+    };
+    if let Err(fault) = folder.remove_old(rt, epoch, count as u64) {
+        let _printed = eprintln!(rt; "couchd: old files could not be removed: {fault}");
+    }
+}
+
+/// The policy of the keeper.
+fn policy_of(policy: Policy) -> SyncPolicy {
+    match policy {
+        Policy::Always => SyncPolicy::Always,
+        Policy::EverySecond => SyncPolicy::EverySecond,
+        Policy::Never => SyncPolicy::Never,
+    }
+}
