@@ -41,11 +41,7 @@ struct Files<'r> {
 }
 
 impl Epochs<DiskFile> for Files<'_> {
-    fn succeed(
-        &mut self,
-        _full: &Journal<DiskFile>,
-        last: &Version,
-    ) -> Option<Epoch<DiskFile>> {
+    fn succeed(&mut self, _full: &Journal<DiskFile>, last: &Version) -> Option<Epoch<DiskFile>> {
         match self.folder.succeed(self.rt, self.epoch, last) {
             Ok(begun) => Some(self.begun(begun)),
             Err(fault) => {

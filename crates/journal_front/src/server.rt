@@ -78,9 +78,7 @@ fn serve_epoch<
     let Ok(opened) = Opened::over(rt.alloc(), config, version) else {
         return None;
     };
-    serve_opened::<Brand, Brand, &A, A, F, L, E>(
-        service, workers, opened, journal, epochs, rt, rt,
-    )
+    serve_opened::<Brand, Brand, &A, A, F, L, E>(service, workers, opened, journal, epochs, rt, rt)
 }
 
 /// Serves an opened database, whose writer keeps a runtime of its own, and closes it.

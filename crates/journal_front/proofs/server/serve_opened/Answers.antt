@@ -36,12 +36,12 @@ returns g c =
       keeper = c.serve_beside-left.result.0.session;
       end = c.close-closed.result;
       served = serves_kept g.J.Naming.base g.N.Keeping.is_kept c.args.opened.config (awaits c.args.service.now.policy) server_turns c.args.service.now.terms.connections c.in-Ok.sessions.len
-      c.in-Ok.sessions.items c.pop.new.self.items c.in-Ok-all_durable.durable.items c.serve_beside-left.result.1.items c.requires.some c.in-Ok.ensures.sessions c.in-Ok.sessions.ok.0 c.in-Some.ensures.rest waits
-      g.J.Opening.config g.J.Queued.sessions g.J.Queued.capacity _ c.serve_beside-left.result.0.session c.all_sessions.result.items c.close-closed.result named.config_is named.sessions_is named.capacity_is
-      c.in-Ok-new.ensures.turns c.serve_beside-left.ensures.same_number c.serve_beside-left.ensures.each c.all_sessions.ensures c.close-closed.ensures.end;
+          c.in-Ok.sessions.items c.pop.new.self.items c.in-Ok-all_durable.durable.items c.serve_beside-left.result.1.items c.requires.some c.in-Ok.ensures.sessions c.in-Ok.sessions.ok.0 c.in-Some.ensures.rest waits
+          g.J.Opening.config g.J.Queued.sessions g.J.Queued.capacity _ c.serve_beside-left.result.0.session c.all_sessions.result.items c.close-closed.result named.config_is named.sessions_is named.capacity_is
+          c.in-Ok-new.ensures.turns c.serve_beside-left.ensures.same_number c.serve_beside-left.ensures.each c.all_sessions.ensures c.close-closed.ensures.end;
       begins = c.serve_beside-left.ensures.begins;
       next_is = next_over (λ e. e.version.base) c.serve_beside-left.result.0.next c.from_all.result (last_database g.J.Naming.base c.close-closed.result) _ c.place.result c.place-seen.result
-      (λ same. last_seen g.J.Naming.base c.all_sessions.result.items (map (λ (k : Waiting). k.0) c.serve_beside-left.result.1.items) c.serve_beside-left.result.0.session c.close-closed.result
-      c.place-seen.result c.place.result c.all_sessions.ensures c.close-closed.ensures.end c.place-seen.ensures.place (c.place.ensures.place ∙ ap (λ v. length v.entries) c.version.ensures) same)
-      c.serve_beside-left.ensures.next c.from_all.ensures;
+          (λ same. last_seen g.J.Naming.base c.all_sessions.result.items (map (λ (k : Waiting). k.0) c.serve_beside-left.result.1.items) c.serve_beside-left.result.0.session c.close-closed.result
+          c.place-seen.result c.place.result c.all_sessions.ensures c.close-closed.ensures.end c.place-seen.ensures.place (c.place.ensures.place ∙ ap (λ v. length v.entries) c.version.ensures) same)
+          c.serve_beside-left.ensures.next c.from_all.ensures;
     }
