@@ -1,6 +1,6 @@
 -- What a journal keeps of a history that goes on.
 use Rattle.std.proofs.Common.{◌≡◌, ℕ, ◌≤◌, [], ◌++◌, length, Ok, Err, Some, None, refl, ap, sym, ◌∙◌, subst, arith, append_assoc, length-append}
-use Rattle.std.specs.Prelude.{List, Option, Result, ⊤}
+use Rattle.std.specs.Prelude.{List, OnOk, Option, Result, ⊤}
 use Rattle.std.proofs.lemmas.List.{append-nil, nil_from_length}
 use Rattle.model.specs.Command.{Entry}
 use Rattle.model.specs.Database.{Database}
@@ -12,6 +12,11 @@ use Rattle.http_handlers.specs.declared.calls.CallFault.{CallFault}
 use Rattle.journal.specs.Kept.{Kept}
 use Rattle.journal.specs.Held.{AreDump, BeginsDump, HoldsDump}
 use Rattle.journal_front.specs.Keeping.{HoldsAll, IsBehind, IsKeptIn}
+
+-- what holds after a call that succeeded gives what follows from it
+pub on_ok : {A E P Q : Type 0} (r : Result A E) → (P → Q) → OnOk r P → OnOk r Q
+on_ok (Ok done) gives holds = gives holds
+on_ok (Err why) gives holds = holds
 
 pub looked : (old new : Known) (answer : Result ⊤ CallFault) → Learns old (Refreshed answer) new → Looks old new
 looked old new (Ok done) learns = learns.0

@@ -1,9 +1,9 @@
 use Rattle.std.proofs.Common.{sym, subst}
 use Rattle.model.specs.History.{Chronicle, Extends}
-use Rattle.journal.specs.Held.{BeginsDump}
+use Rattle.journal.specs.Held.{BeginsDump, HoldsDump}
 use Rattle.journal.specs.Kept.{Kept}
 use Rattle.journal_front.specs.Keeping.{IsBehind}
-use Rattle.journal_front.proofs.Keeping.{looked, looks_behind}
+use Rattle.journal_front.proofs.Keeping.{looked, looks_behind, on_ok}
 use Rattle.journal_front.proofs.keeper.append_new.Goals as goal
 
 pub returns-clause-memory : goal.returns-clause-memory
@@ -20,3 +20,11 @@ returns-clause-begins g c =
     let behind = looks_behind c.args.journal.now old new c.requires.behind (looked old new c.refresh-looked.result c.refresh-looked.ensures.learns) in
     subst (λ (h : Chronicle). BeginsDump c.append.new.self h) c.version.ensures
     (c.append.ensures.begins behind.history behind.holds (subst (λ (h : Chronicle). Extends h behind.history) (sym c.version.ensures) behind.extends))
+
+pub returns-clause-all : goal.returns-clause-all
+returns-clause-all g c =
+    let old = g.K.Viewer.known c.args.session.now in
+    let new = g.K.Viewer.known c.refresh-looked.new.self in
+    let behind = looks_behind c.args.journal.now old new c.requires.behind (looked old new c.refresh-looked.result c.refresh-looked.ensures.learns) in
+    on_ok c.append.result (λ holds. record { holds = subst (λ (h : Chronicle). HoldsDump c.append.new.self h) c.version.ensures holds; legal = c.place-recalled.ensures.legal })
+    (c.append.ensures.held behind.history behind.holds (subst (λ (h : Chronicle). Extends h behind.history) (sym c.version.ensures) behind.extends))
