@@ -1,0 +1,155 @@
+"""Bounds the memory of a long answer by its length, and has small documents read where the memory for writes is used up.
+
+    python3 tests/test_bounds.py [COUCHD]
+
+A document whose first 999 revisions are a chain has 2,000 leaves at the chain's tip. All of them with their paths are read as one
+answer: its length is the one that was announced, its text is that of the rules, and meanwhile the program holds a part of it alone.
+Then servers that may have 100 MB of address space take documents until they refuse one, with a heap for each thread and with one for all,
+and are read from there on, by connections old and new.
+"""
+import json
+import os
+import resource
+import subprocess
+import sys
+
+from lib.checks import Checks
+from lib.programs import arguments
+from lib.server import Connection, Server
+
+CHAIN, LEAVES = 999, 2000
+MEGABYTE = 1 << 20
+SPACE = 102400 * 1024  # bytes of address space
+REFUSALS, READS = 20, 1000
+
+
+def hash_of(number):
+    return "%032x" % number
+
+
+def paths():
+    """The path of each leaf, newest first."""
+    chain = [hash_of(generation) for generation in range(CHAIN, 0, -1)]
+    return [[hash_of(1 << 64 | leaf), *chain] for leaf in range(LEAVES)]
+
+
+def write_leaves(connection, checks):
+    """Writes the document, by bulks of which only the first has the whole chain."""
+    all_paths = paths()
+    documents = [
+        {"_id": "p", "_rev": "%d-%s" % (CHAIN + 1, path[0]), "_revisions": {"start": CHAIN + 1, "ids": path if at == 0 else path[:2]}}
+        for at, path in enumerate(all_paths)
+    ]
+    for at in range(0, LEAVES, 1000):
+        status, refused = connection.ask("POST", "/db/_bulk_docs", json.dumps({"docs": documents[at : at + 1000], "new_edits": False}).encode())
+        checks.check((status, refused) == (201, []), "a bulk of leaves: %d", status)
+
+
+def expected():
+    """The answer, from the rules: leaves by their order, the lowest first."""
+    chain = ",".join('"%s"' % hash_of(generation) for generation in range(CHAIN, 0, -1))
+    return [
+        '{"ok":{"_id":"p","_rev":"%d-%s","_revisions":{"ids":["%s",%s],"start":%d}}}' % (CHAIN + 1, path[0], path[0], chain, CHAIN + 1)
+        for path in paths()
+    ]
+
+
+def memory(process, name):
+    with open("/proc/%d/status" % process.pid) as file:
+        return next(1024 * int(line.split()[1]) for line in file if line.startswith(name + ":"))
+
+
+def body(connection, length):
+    """So many bytes behind a head, which are not copied again for each piece that comes."""
+    data = bytearray(connection.next_bytes(min(length, len(connection.rest))))
+    while len(data) < length:
+        piece = connection.socket.recv(min(MEGABYTE, length - len(data)))
+        if not piece:
+            raise EOFError("the connection ended in a body")
+        data += piece
+    return bytes(data)
+
+
+def long_answer(couchd, checks):
+    with Server(couchd, "--workers", "2") as server:
+        connection = Connection(server.port)
+        write_leaves(connection, checks)
+        before = memory(server.process, "VmRSS")
+        connection.send("GET", "/db/p?open_revs=all&revs=true")
+        status, headers = connection.head()
+        length = int(headers["Content-Length"])
+        text = body(connection, length).decode()
+        checks.check(status == 200, "status %d", status)
+        found = text[1:-1].replace('}},{"ok"', '}}\n{"ok"').split("\n")
+        checks.check(sorted(found) == sorted(expected()) and text[0] + text[-1] == "[]", "the text of the leaves")
+        checks.check(len(text) == length, "%d bytes for %d", len(text), length)
+        most, after = memory(server.process, "VmHWM") - before, memory(server.process, "VmRSS") - before
+        print("an answer of %d bytes: %d more were held, and %d are" % (length, most, after))
+        checks.check(most <= length, "%d bytes are held for an answer of %d", most, length)
+        status, _ = connection.ask("GET", "/db/p")
+        checks.check(status == 200, "the connection goes on: %d", status)
+
+
+def full_memory(couchd, checks, heaps):
+    """A server whose memory is used up by documents goes on to answer reads."""
+    process = subprocess.Popen(
+        [couchd, "serve", "--port", "0", "--workers", "4"],
+        stdin=subprocess.DEVNULL, stdout=subprocess.PIPE, env=dict(os.environ, **heaps),
+        preexec_fn=lambda: resource.setrlimit(resource.RLIMIT_AS, (SPACE, SPACE)),
+    )
+    try:
+        port = int(process.stdout.readline().decode().rsplit(":", 1)[1])
+        taken = fill(port)
+        checks.check(taken > 0, "no document is taken")
+        answered = [reads(port, taken, each_anew) for each_anew in (False, True) * 2]
+        print("%s: %d documents, then %s of %d reads are answered" % (heaps, taken, answered, READS))
+        checks.check(answered == [READS] * 4, "%s reads of %d are answered", answered, READS)
+    finally:
+        process.kill()
+        process.wait()
+
+
+def fill(port):
+    """Writes documents until so many in a row are refused, and returns how many were taken."""
+    connection, taken, refused = Connection(port), 0, 0
+    while refused < REFUSALS:
+        status, _ = connection.ask("PUT", "/db/d%d" % taken, b'{"n":1}')
+        if status == 201:
+            taken, refused = taken + 1, 0
+        else:
+            connection.close()  # as the server does behind 507
+            connection, refused = Connection(port), refused + 1
+    return taken
+
+
+def reads(port, documents, each_anew):
+    """How many reads of documents are answered: by a connection that stays, or by one each."""
+    answered = 0
+    connection = None
+    for number in range(READS):
+        try:
+            if connection is None:
+                connection = Connection(port)
+            status, document = connection.ask("GET", "/db/d%d" % (number * 7 % documents))
+            answered += status == 200 and document["n"] == 1
+            if each_anew or status != 200:
+                connection.close()
+                connection = None
+        except (OSError, EOFError, ValueError):
+            connection = None
+    if connection is not None:
+        connection.close()
+    return answered
+
+
+def main():
+    couchd = arguments(__doc__, "couchd").parse_args().couchd
+    checks = Checks()
+    long_answer(couchd, checks)
+    for heaps in ({}, {"MALLOC_ARENA_MAX": "1"}):
+        full_memory(couchd, checks, heaps)
+    return checks.report()
+
+
+if __name__ == "__main__":
+    sys.exit(main())
