@@ -20,6 +20,8 @@ pub returns-in_default-succeed-clause-begins : goal.returns-in_default-succeed-c
 returns-in_default-succeed-clause-begins g c =
     let known = g.K.Viewer.known c.args.session in
     let all : HoldsAll c.if-syncs.journal known =
-    elim c.if-syncs.branch [ then-syncs+in-Ok w ↦ subst (λ (k : Kept). HoldsAll k known) (sym w.journal-is) w.in-Ok.ensures.all
-    | else-syncs w ↦ subst (λ (k : Kept). HoldsAll k known) (sym w.journal-is) c.requires.all ] in
+    elim c.if-syncs.branch [
+      | then-syncs+in-Ok w ↦ subst (λ (k : Kept). HoldsAll k known) (sym w.journal-is) w.in-Ok.ensures.all
+      | else-syncs w ↦ subst (λ (k : Kept). HoldsAll k known) (sym w.journal-is) c.requires.all
+    ] in
     dump_begins c.if-syncs.journal (history_of known) all.holds
