@@ -33,6 +33,7 @@ use Rattle.document_json.specs.Written.{counter_text}
 use Rattle.document_json.specs.declared.fault.Reason.TheVariants as reason
 use Rattle.document_json.proofs.JsonTexts.{json_of-value}
 use Rattle.document_json.proofs.Strings.{quoted-unescaped}
+use Rattle.document_json.proofs.TextLengths.{number_unescaped}
 use Rattle.history_json.proofs.InProfile.{sound_named}
 use Rattle.history_json.proofs.Sound.{Sound, sound_none, sound_number, sound_object, sound_string, sound_text}
 use Rattle.http_request.specs.Identity.{path_id}
@@ -45,7 +46,6 @@ use Rattle.replicator_laws.specs.Calls.{IsPlainId, IsTakenAs, checkpoint_body}
 use Rattle.replicator_laws.specs.Framing.{IsMethod, request_with}
 use Rattle.replicator_laws.proofs.Bytes.{KeepsUnreserved}
 use Rattle.replicator_laws.proofs.Decided.{found, id_behind, taken}
-use Rattle.replicator_laws.proofs.Lists.{number_unescaped}
 use Rattle.replicator_laws.proofs.Paths.{is_one_segment}
 use Rattle.replicator_laws.proofs.Queried.{number_read}
 use Rattle.replicator_laws.proofs.Queries.{AreTexts, read_pairs}

@@ -1,34 +1,24 @@
 -- The revisions that a list names, as they are read back.
-use Rattle.std.proofs.Common.{◌≡◌, ℕ, ◌+◌, ◌*◌, ◌^◌, ◌<◌, ◌≤◌, true, false, List, [], ◌∷◌, length, map, decimal, refl, ap, ◌∙◌, arith, All, IsUtf8, length-append, Ok, Some, None, lit<, lit≤, suc, ◌/◌, ◌%◌}
-use Rattle.std.specs.Prelude.{codes, slice_index, if◌then◌else◌}
-use Rattle.std.specs.Char.{is_ascii_digit}
-use Rattle.std.specs.List.{list_all}
+use Rattle.std.proofs.Common.{◌≡◌, ◌+◌, ◌*◌, ◌<◌, ◌≤◌, true, false, List, [], ◌∷◌, length, map, refl, ap, ◌∙◌, arith, All, IsUtf8, length-append, Ok, Some, None, lit<, lit≤}
+use Rattle.std.specs.Prelude.{codes, if◌then◌else◌}
 use Rattle.std.specs.Str.{bytes_eq}
-use Rattle.std.proofs.lemmas.Bool.{agree_below, agree_below_at, and_from}
-use Rattle.std.proofs.lemmas.Bool.Decides.{nat_tests}
 use Rattle.std.proofs.lemmas.Fmt.{length-decimal-le}
-use Rattle.std.proofs.lemmas.List.Elements.{All-head, All-tail, All-weaker}
-use Rattle.std.proofs.lemmas.List.Folds.{list_all-append}
-use Rattle.std.proofs.lemmas.List.Sums.{list_all-from_AllPass}
-use Rattle.hex.specs.Hex.{IsBytes, encode_lower, encode_with, lower_digits}
-use Rattle.hex.proofs.HexLemmas.{length-encode_with}
+use Rattle.std.proofs.lemmas.List.Elements.{All-head, All-tail}
 use Rattle.serde_json.specs.View.{items_of}
 use Rattle.serde_json.specs.Written.{compact_text, items_text}
 use Rattle.model.specs.Profile.{IsTextOf}
 use Rattle.model.specs.Revision.{Rev, IsRev, rev_text}
 use Rattle.document_json.specs.Each.{each}
 use Rattle.document_json.specs.Steps.{Checked, and_then, or_refused}
-use Rattle.document_json.specs.Text.{is_unescaped}
 use Rattle.document_json.specs.Written.{rev_data, revs_data}
 use Rattle.document_json.specs.declared.fault.Reason.TheVariants as reason
 use Rattle.document_json.proofs.JsonTexts.{json_of-value}
 use Rattle.document_json.proofs.RevisionTexts.{rev_named-is}
-use Rattle.document_json.proofs.Strings.{quoted-unescaped}
+use Rattle.document_json.proofs.TextLengths.{length-rev as exact_length}
 use Rattle.api_json.specs.TextLists.{are_texts, rev_in, text_list_of, texts_found, texts_in}
 use Rattle.api_json.proofs.NamedRevisions.{listed-texts}
 use Rattle.history_json.proofs.InProfile.{sound_revs}
 use Rattle.history_json.proofs.Sound.{Sound, sound_text}
-use Rattle.replicator_laws.proofs.Heads.{digits}
 
 -- ---- a check of each
 
@@ -80,42 +70,12 @@ not_all revs = refl
 
 -- ---- its length
 
-digit_unescaped : (b : ℕ) → is_ascii_digit b ≡ true → is_unescaped b ≡ true
-digit_unescaped b h = grind (arith, nat_tests)
-
-hex_below : agree_below (λ d. is_unescaped (slice_index lower_digits d)) (λ d. true) 16 ≡ true
-hex_below = refl
-
-hex_unescaped : (hash : List ℕ) → IsBytes hash → list_all is_unescaped (encode_lower hash) ≡ true
-unfolding encode_with
-hex_unescaped [] bytes = refl
-hex_unescaped (b ∷ hash) bytes =
-    let small = bytes 0 in
-    let high = agree_below_at (λ d. is_unescaped (slice_index lower_digits d)) (λ d. true) 16 (b / 16) hex_below (omega (arith, small)) in
-    let low = agree_below_at (λ d. is_unescaped (slice_index lower_digits d)) (λ d. true) 16 (b % 16) hex_below (omega arith) in
-    and_from _ _ high (and_from _ _ low (hex_unescaped hash (λ i. bytes (suc i))))
-
-pub number_unescaped : (n : ℕ) → n < 2 ^ 64 → list_all is_unescaped (decimal n) ≡ true
-number_unescaped n small =
-    list_all-from_AllPass is_unescaped (decimal n) (All-weaker (λ b. is_ascii_digit b ≡ true) (λ b. is_unescaped b ≡ true) digit_unescaped (decimal n) (digits n small))
-
-rev_unescaped : (rev : Rev) → IsRev rev → list_all is_unescaped (rev_text rev) ≡ true
-rev_unescaped rev h =
-    let top = h.in_range in
-    let small : rev.generation < 2 ^ 64 = omega arith in
-    list_all-append is_unescaped (decimal rev.generation) (45 ∷ encode_lower rev.hash)
-    ∙ and_from _ _ (number_unescaped rev.generation small) (hex_unescaped rev.hash h.bytes)
-
 length-rev : (rev : Rev) → IsRev rev → length (compact_text (rev_data rev)) ≤ 45
 length-rev rev h =
     let top = h.in_range in
     let number = length-decimal-le 10 rev.generation (lit< tt) (omega arith) (omega arith) in
-    let hex = length-encode_with lower_digits rev.hash in
-    let size = h.size in
-    let text = length-append (decimal rev.generation) (45 ∷ encode_lower rev.hash) in
-    let quotes = length-append (rev_text rev) (34 ∷ []) in
-    let whole = ap length (quoted-unescaped (rev_text rev) (rev_unescaped rev h)) in
-    omega (arith, number, hex, size, text, quotes, whole)
+    let exact = exact_length rev h in
+    omega (arith, number, exact)
 
 length-rest : (revs : List Rev) → All IsRev revs → length (items_text true (items_of (map rev_data revs))) ≤ 46 * length revs + 1
 length-rest [] h = lit≤ tt
