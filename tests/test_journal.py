@@ -6,8 +6,8 @@
 start, and with `--sync second` what is lost are the last writes of about a second. Each file of the folder is audited by
 `replay check`. Then a disk that is full, a file that is cut at each byte of its last two lines, a byte that is changed at
 each place of a small file, two servers on one folder, a folder that can't be made, and what goes on over a start: documents,
-update numbers, purges, limits and local documents. At last epochs of 1,000 places, one after another, under clients that write
-and follow. With `--long` 200 kills for each policy, each byte and 20 epochs, else a few.
+update numbers, purges, limits and local documents. At last full histories: how many files stay, a next file that can't be made, and epochs
+of 1,000 places, one after another, under clients that write and follow. With `--long` 200 kills for each policy, each byte and 20 epochs, else a few.
 """
 import os
 import random
@@ -80,16 +80,29 @@ def files(folder):
     return sorted(name for name in os.listdir(folder) if name.endswith(".dump"))
 
 
-def audit(replay, folder, cut_may_be):
-    """Each file is the dump of a legal history; the newest may have a last line that was cut."""
-    names = files(folder)
-    for name in names:
-        path = os.path.join(folder, name)
-        with open(path, "rb") as file:
-            text = file.read()
-        whole = text[: text.rfind(b"\n") + 1] if cut_may_be and name == names[-1] else text
+def whole_lines(folder, name):
+    """What a file has up to its last line feed: a last line that was cut is no line."""
+    with open(os.path.join(folder, name), "rb") as file:
+        text = file.read()
+    return text[: text.rfind(b"\n") + 1]
+
+
+def audit(replay, folder):
+    """Each file is the dump of a legal history, but for a last line that was cut, and begins with the base that the one before ends
+    with."""
+    base = None
+    for name in files(folder):
+        whole = whole_lines(folder, name)
         ran = run([replay, "check"], whole)
         check(ran.status == 0 and ran.output.startswith(b"legal "), "%s: %r, status %d", name, ran.output, ran.status)
+        check(base is None or whole.startswith(base), "%s does not go on from the one before", name)
+        base = run([replay, "base"], whole).output
+
+
+def none_is_cut(folder):
+    """No file has a last line that was cut."""
+    for name in files(folder):
+        check(os.path.getsize(os.path.join(folder, name)) == len(whole_lines(folder, name)), "%s ends with a cut line", name)
 
 
 # ---- kills
@@ -161,7 +174,7 @@ def kills(program, replay, policy, rounds, dice):
                 connection.close()
                 last, since = killed(server, dice.uniform(0.05, 1.2), "k%d" % number)
                 written += len(last)
-        audit(replay, folder, cut_may_be=True)
+        audit(replay, folder)
         check(written > rounds, "only %d writes in %d rounds", written, rounds)
 
 
@@ -200,7 +213,7 @@ def full_disk(program, replay, policy):
             check(other.ask("DELETE", "/db/%s?rev=%s" % kept[0])[0] == 503, "another worker writes on a full disk")
             check(other.ask("GET", "/db/_changes")[0] == 200, "the feed is not answered on a full disk")
             check("journal" in server.told(), "standard error says %r of a full disk", server.told())
-        audit(replay, folder, cut_may_be=True)
+        audit(replay, folder)
         with Server(program, folder) as server:
             check(server.port is not None, "no start after a full disk: %r", server.told())
             connection = Connection(server.port)
@@ -310,6 +323,7 @@ def folders(program):
             check(Connection(server.port).ask("PUT", "/db/a", {})[0] == 201, "the first server does not go on")
         with Server(program, folder) as server:
             check(server.port is not None, "the lock of a killed server is not taken over: %r", server.told())
+            check("ended without giving it up" in server.told(), "of a server that was killed: %r", server.told())
         blocked = os.path.join(top, "file")
         with open(blocked, "w", encoding="utf-8"):
             pass
@@ -353,11 +367,8 @@ def goes_on(program, replay):
             status, value = connection.ask("GET", "/db/gone")
             check(status == 404, "a purged document is back: %r", value)
         check(files(folder) == [FILE, "0000000002.dump"], "the files are %r", files(folder))
-        audit(replay, folder, cut_may_be=False)
-        with open(os.path.join(folder, FILE), "rb") as file:
-            base = run([replay, "base"], file.read()).output
-        with open(os.path.join(folder, "0000000002.dump"), "rb") as file:
-            check(file.readline() == base, "the second file does not go on from the first")
+        audit(replay, folder)
+        none_is_cut(folder)
 
 
 def told_of(connection):
@@ -472,7 +483,7 @@ def full_histories(program, replay, count):
             again = replicated(program, server, target)
             check("documents read 0, written 0" in str(again), "a second replication says %r", again)
         check(server.process.returncode is not None, "the server goes on")
-        chain(replay, folder)
+        audit(replay, folder)
 
 
 def settle(port, reader, writers):
@@ -490,15 +501,63 @@ def settle(port, reader, writers):
         check(not missed, "a feed skips %d of %d documents, as %r", len(missed), len(writer.written), missed[:1])
 
 
-def chain(replay, folder):
-    """Each file is legal, and begins with the base that the one before ends with."""
-    names = files(folder)
-    audit(replay, folder, cut_may_be=True)
-    for one, other in zip(names, names[1:]):
-        with open(os.path.join(folder, one), "rb") as file:
-            base = run([replay, "base"], file.read()).output
-        with open(os.path.join(folder, other), "rb") as file:
-            check(file.readline() == base, "%s does not go on from %s", other, one)
+def write_over(port, count):
+    """Writes so many documents, over as many connections as that takes, and answers what each was told."""
+    told = {}
+    connection = Connection(port)
+    while len(told) < count:
+        id = "d%d" % len(told)
+        try:
+            status, value = connection.ask("PUT", "/db/" + id, {})
+        except (OSError, EOFError):
+            connection = Connection(port)
+            continue
+        if status == 201:
+            told[id] = value["rev"]
+        elif status == 409:  # it was written by a request whose connection ended before its answer
+            told[id] = connection.ask("GET", "/db/" + id)[1]["_rev"]
+        else:
+            check((status, value["reason"]) == (503, "full"), "%d, %r for a write", status, value)
+    return told
+
+
+def keeps(program, replay):
+    """As many files stay as are to be kept, the newest, and nothing is lost with the others."""
+    with tempfile.TemporaryDirectory() as folder:
+        with Server(program, folder, "--sync", "always", "--max-places", "20", "--keep", "2") as server:
+            told = write_over(server.port, 130)
+        names = files(folder)
+        check(len(names) == 2 and names[0] >= "0000000005.dump", "of some seven files %r stay", names)
+        audit(replay, folder)
+        with Server(program, folder, "--keep", "1") as server:
+            connection = Connection(server.port)
+            lost = [id for id, rev in told.items() if not is_there(connection, id, rev)]
+            check(not lost, "%d of %d documents went with old files", len(lost), len(told))
+        check(len(files(folder)) == 1, "the files %r stay, of which one is to be kept", files(folder))
+
+
+def no_next_epoch(program, replay):
+    """Where the file of the next epoch can't be made, writes are refused by the reason `journal`, and reads go on."""
+    with tempfile.TemporaryDirectory() as folder:
+        with Server(program, folder, "--sync", "always", "--max-places", "20") as server:
+            os.mkdir(os.path.join(folder, "0000000002.dump.new"))
+            told = write_over(server.port, 20)
+            connection = Connection(server.port)
+            by = time.monotonic() + SECONDS
+            reason = "full"
+            while reason == "full" and time.monotonic() < by:
+                status, value = connection.ask("PUT", "/db/more", {})
+                check(status == 503, "%d for a write to a full history", status)
+                reason = value["reason"]
+            check(reason == "journal", "where no next epoch begins a write is refused as %r", reason)
+            check(all(is_there(connection, id, rev) for id, rev in told.items()), "a read is not answered where no next epoch begins")
+            check("no next epoch begins" in server.told(), "where no next epoch begins: %r", server.told())
+        os.rmdir(os.path.join(folder, "0000000002.dump.new"))
+        with Server(program, folder) as server:
+            connection = Connection(server.port)
+            check(all(is_there(connection, id, rev) for id, rev in told.items()), "a document is lost where no next epoch began")
+            check(connection.ask("PUT", "/db/more", {})[0] == 201, "no write at the next start")
+        audit(replay, folder)
 
 
 def plain_server(program):
@@ -521,6 +580,8 @@ def main():
     for policy in ("always", "second"):
         kills(given.couchd, given.replay, policy, rounds, dice)
         full_disk(given.couchd, given.replay, policy)
+    keeps(given.couchd, given.replay)
+    no_next_epoch(given.couchd, given.replay)
     full_histories(given.couchd, given.replay, 20 if given.long else 4)
     return CHECKS.report()
 
