@@ -11,9 +11,9 @@ from .requests import request
 class Server:
     """A running `couchd serve`, on a port that was free."""
 
-    def __init__(self, program, *options, env=None):
+    def __init__(self, program, *options, env=None, errors=None):
         self.process = subprocess.Popen(
-            [program, "serve", "--port", "0", *options], stdin=subprocess.DEVNULL, stdout=subprocess.PIPE, env=env
+            [program, "serve", "--port", "0", *options], stdin=subprocess.DEVNULL, stdout=subprocess.PIPE, stderr=errors, env=env
         )
         self.line = self.process.stdout.readline().decode()  # which names the port
         self.port = int(self.line.rsplit(":", 1)[1])
