@@ -5,7 +5,8 @@
 It needs wrk. Sixteen connections PUT new documents: requests a second without `--data`, and for each `--sync`. Beside it
 `redis-benchmark` SETs as many bytes over sixteen connections, for `appendfsync everysec` and `always`. All that a row compares is
 measured in turns, so often as there are rounds, and the best of each counts. Then a journal of so many entries (100,000 where
-that is not given) is written and read: how long the writes took, and how long the start after them.
+that is not given) is written and read: how long the writes took, and how long the start after them. At last an epoch of as many documents
+is full: how long no write is taken until the next one is there.
 """
 import contextlib
 import os
@@ -25,7 +26,7 @@ from lib.server import Connection, Server
 
 CONNECTIONS = 16
 LENGTH = 29  # of a body of the PUTs
-BULK = 1000  # entries are written by bulks of one document each, so many requests before their answers are read
+BULK = 1000  # so many requests are sent before their answers are read, and so many documents are in one
 
 
 class Couchd:
@@ -99,6 +100,33 @@ def starts(program, entries, folder):
         return written, time.monotonic() - began, before, machine.megabytes(server.process.pid, "VmHWM")
 
 
+def pause(program, documents, folder):
+    """Seconds in which no write is taken while an epoch of so many documents ends and the next one begins."""
+    bulks = documents // BULK
+    words = ["--data", os.path.join(folder, "full"), "--sync", "second", "--max-places", str(bulks + 1000), "--workers", "2"]
+    with Server(program, *words) as server:
+        connection = Connection(server.port)
+        for bulk in range(bulks):
+            docs = [{"_id": "d%d-%d" % (bulk, number), "n": number, "text": "some words"} for number in range(BULK)]
+            connection.ask("POST", "/db/_bulk_docs", {"docs": docs})
+        number, last, longest, places = 0, time.monotonic(), 0.0, []
+        while len(places) < 2 or places[-1] != 100:  # until 100 writes behind the new beginning
+            try:
+                status, _ = connection.ask("PUT", "/db/p%d" % number, {})
+            except (OSError, EOFError):
+                connection = Connection(server.port)
+                continue
+            if status == 503:
+                continue
+            now = time.monotonic()
+            longest, last = max(longest, now - last), now
+            if not places or connection.place < places[-1]:
+                places.append(connection.place)
+            places[-1] = connection.place
+            number += 1
+        return longest
+
+
 def main():
     reader = with_store(arguments(__doc__, "couchd"))
     reader.add_argument("--seconds", type=int, default=5)
@@ -120,6 +148,7 @@ def main():
         written, read, before, after = starts(given.couchd, given.entries, folder)
         print("%d entries: written in %.1f s, read in %.1f s; %d and %d MB" % (given.entries, written, read, before, after))
         ratios.add("a start to the writes before it", read / written)
+        print("a new epoch over %d documents: no write for %.2f s" % (given.entries, pause(given.couchd, given.entries, folder)))
     return ratios.report()
 
 
