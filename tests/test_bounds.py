@@ -4,14 +4,16 @@
 
 A document whose first 999 revisions are a chain has 2,000 leaves at the chain's tip. All of them with their paths are read as one
 answer: its length is the one that was announced, its text is that of the rules, and meanwhile the program holds a part of it alone.
-Then servers that may have 100 MB of address space take documents until they refuse one, with a heap for each thread and with one for all,
-and are read from there on, by connections old and new.
+Then a server that may have 100 MB of address space takes documents until it refuses them, and is read from there on, by connections old
+and new: documents of 20 bytes, and of 20 kB, which take more than what a refused write gave back. Its threads have one heap; where some
+have none, they may be refused a read, but are never silent.
 """
 import json
 import os
 import resource
 import subprocess
 import sys
+from collections import Counter
 
 from lib.checks import Checks
 from lib.programs import arguments
@@ -21,6 +23,8 @@ CHAIN, LEAVES = 999, 2000
 MEGABYTE = 1 << 20
 SPACE = 102400 * 1024  # bytes of address space
 REFUSALS, READS = 20, 1000
+LARGE, LARGE_SIZE = 50, 20_000
+ONE_HEAP = {"MALLOC_ARENA_MAX": "1"}
 
 
 def hash_of(number):
@@ -99,14 +103,26 @@ def full_memory(couchd, checks, heaps):
     )
     try:
         port = int(process.stdout.readline().decode().rsplit(":", 1)[1])
+        write_large(port, checks)
         taken = fill(port)
         checks.check(taken > 0, "no document is taken")
-        answered = [reads(port, taken, each_anew) for each_anew in (False, True) * 2]
-        print("%s: %d documents, then %s of %d reads are answered" % (heaps, taken, answered, READS))
-        checks.check(answered == [READS] * 4, "%s reads of %d are answered", answered, READS)
+        for name, count in ("d", taken), ("large", LARGE):
+            for each_anew in (False, True):
+                statuses = reads(port, name, count, each_anew)
+                print("%s: %d documents, then reads of %s: %s" % (heaps, taken, name, dict(statuses)))
+                checks.check(set(statuses) <= {200, 507}, "reads: %s", statuses)
+                checks.check(heaps != ONE_HEAP or set(statuses) == {200}, "reads with one heap: %s", statuses)
     finally:
         process.kill()
         process.wait()
+
+
+def write_large(port, checks):
+    connection = Connection(port)
+    for number in range(LARGE):
+        status, _ = connection.ask("PUT", "/db/large%d" % number, json.dumps({"t": "x" * LARGE_SIZE}).encode())
+        checks.check(status == 201, "a large document: %d", status)
+    connection.close()
 
 
 def fill(port):
@@ -122,31 +138,31 @@ def fill(port):
     return taken
 
 
-def reads(port, documents, each_anew):
-    """How many reads of documents are answered: by a connection that stays, or by one each."""
-    answered = 0
+def reads(port, name, documents, each_anew):
+    """The statuses of reads of documents, by a connection that stays, or by one each; 0 stands for no answer."""
+    statuses = Counter()
     connection = None
     for number in range(READS):
         try:
             if connection is None:
                 connection = Connection(port)
-            status, document = connection.ask("GET", "/db/d%d" % (number * 7 % documents))
-            answered += status == 200 and document["n"] == 1
-            if each_anew or status != 200:
-                connection.close()
-                connection = None
+            status, _ = connection.ask("GET", "/db/%s%d" % (name, number * 7 % documents))
         except (OSError, EOFError, ValueError):
+            status = 0
+        statuses[status] += 1
+        if connection is not None and (each_anew or status != 200):
+            connection.close()
             connection = None
     if connection is not None:
         connection.close()
-    return answered
+    return statuses
 
 
 def main():
     couchd = arguments(__doc__, "couchd").parse_args().couchd
     checks = Checks()
     long_answer(couchd, checks)
-    for heaps in ({}, {"MALLOC_ARENA_MAX": "1"}):
+    for heaps in ({}, ONE_HEAP):
         full_memory(couchd, checks, heaps)
     return checks.report()
 
