@@ -11,7 +11,10 @@ use std::net::{TcpListener, TcpStream};
 use std::process::ExitCode;
 use std::sync::Wait;
 use std::thread::Threads;
-use std::time::Clock;
+use std::time::{Clock, Duration};
+
+/// So many milliseconds a connection may take that wakes a worker.
+const WAKE_MILLISECONDS: u64 = 100;
 
 impl JournalNotices<DiskFile> for Notices<'_> {
     fn failed(&self, file: &DiskFile) {
@@ -53,9 +56,13 @@ impl Epochs<DiskFile> for Files<'_> {
         }
     }
 
+    /// Where a connection doesn't come in time, as many wait as can, and no worker waits for one.
     fn wake(&self, workers: u16) {
+        let time = Duration::from_millis(WAKE_MILLISECONDS);
         for _ in 0..workers {
-            let _connected = TcpStream::connect(self.rt, address(self.port));
+            if TcpStream::connect_timeout(self.rt, &address(self.port), time).is_err() {
+                return;
+            }
         }
     }
 }
