@@ -16,7 +16,7 @@ import sys
 from collections import Counter
 
 from lib.checks import Checks
-from lib.programs import arguments
+from lib.programs import arguments, memory
 from lib.server import Connection, Server
 
 CHAIN, LEAVES = 999, 2000
@@ -56,11 +56,6 @@ def expected():
         '{"ok":{"_id":"p","_rev":"%d-%s","_revisions":{"ids":["%s",%s],"start":%d}}}' % (CHAIN + 1, path[0], path[0], chain, CHAIN + 1)
         for path in paths()
     ]
-
-
-def memory(process, name):
-    with open("/proc/%d/status" % process.pid) as file:
-        return next(1024 * int(line.split()[1]) for line in file if line.startswith(name + ":"))
 
 
 def body(connection, length):

@@ -14,7 +14,7 @@ import threading
 
 from lib.checks import Checks
 from lib.messages import Messages
-from lib.programs import arguments
+from lib.programs import arguments, memory
 from lib.requests import request
 
 FIRST, ALL = 20000, 100000  # overwrites after which the memory is read
@@ -54,8 +54,7 @@ class Program:
 
     def most_memory(self):
         """The most bytes that it has held."""
-        with open("/proc/%d/status" % self.process.pid) as file:
-            return next(1024 * int(line.split()[1]) for line in file if line.startswith("VmHWM:"))
+        return memory(self.process, "VmHWM")
 
 
 def main():

@@ -66,3 +66,9 @@ def run_once(program, data):
         return ran.output, "status %d" % ran.status
     except subprocess.TimeoutExpired:
         return b"", "no end after %d seconds" % SECONDS
+
+
+def memory(process, name):
+    """The bytes that a running program holds (`VmRSS`), or the most that it has held (`VmHWM`)."""
+    with open("/proc/%d/status" % process.pid) as file:
+        return next(1024 * int(line.split()[1]) for line in file if line.startswith(name + ":"))
