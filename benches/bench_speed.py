@@ -1,19 +1,25 @@
 """Times `couchd once` over pipes at databases of several sizes, of one build or of some side by side, and prints a table.
 
-    python3 benches/bench_speed.py [--sizes 1000,10000,100000] [--store] [COUCHD ...]
+    python3 benches/bench_speed.py [--sizes 1000,10000,100000] [--runs N] [--only TEXT ..] [--store] [COUCHD ...]
 
 A figure is the processor time of the program for one operation, in microseconds; of several programs they are behind one
 another, with the ratio of the last to the first. The requests of a row are cut into pieces, at most 20, which go to each
 program in turn; a figure is that of the best piece. Every program runs on the last processor. Requests are sent without
 waiting for the response before. The database has so many documents when a row's measurement begins; the rows that write make
 it larger, and come last. The ratios are of the largest database to the smallest.
+
+With `--runs`, figures and ratios are the medians of so many runs, each of which begins with empty databases. With `--only`, which
+may be given several times, only the rows are measured whose names contain one of the texts, over the documents that are put
+first. A program beside others may be any server that reads requests from its standard input when it is run as `PROGRAM once`: a row
+that one of them answers with another status is left out, and a line says so.
 """
 import hashlib
 import json
 import random
+import statistics
 import sys
 
-from shared.pipe import Program, compared, figure, least
+from shared.pipe import OtherStatus, Program, compared, figure, least
 from shared.ratios import Ratios, with_store
 
 from lib.programs import arguments, built, existing
@@ -21,6 +27,8 @@ from lib.requests import bulk, merge, request
 
 OPERATIONS = 10000  # of the rows for single documents
 PIECES = 20
+FIRST = "to put the documents, in bulks of 1,000, for each"
+MEMORY = "most memory, megabytes"
 COMPARED = ["GET of a document", "PUT of a new document", "PUT of a next revision", "bulk of 1,000, for each document", "merge of 100 conflicts, for each"]
 
 
@@ -70,7 +78,7 @@ def listed(documents, source, size, which):
 def rows(size, source, documents):
     """Each measurement: its name, the requests, their status, and how many operations each is."""
     loads = [bulk([documents.new_in_bulk() for _ in range(min(1000, size - at))]) for at in range(0, size, 1000)]
-    yield "to put the documents, in bulks of 1,000, for each", loads, 201, min(1000, size)
+    yield FIRST, loads, 201, min(1000, size)
 
     def some():
         return source.randrange(size)
@@ -97,7 +105,7 @@ def rows(size, source, documents):
         rev, body = documents.edit(number)
         edits.append(request("PUT", "/db/%s?rev=%s" % (documents.id(number), rev), body))
     yield "PUT of a next revision", edits, 201, 1
-    yield "PUT refused as a conflict", [request("PUT", "/db/" + documents.id(some()), {}) for _ in range(1000)], 409, 1
+    yield "PUT refused as a conflict", [request("PUT", "/db/" + documents.id(some()), {}) for _ in range(OPERATIONS)], 409, 1
     bulks = [bulk([documents.new_in_bulk() for _ in range(100)]) for _ in range(20)]
     yield "bulk of 100, for each document", bulks, 201, 100
     bulks = [bulk([documents.new_in_bulk() for _ in range(1000)]) for _ in range(5)]
@@ -117,39 +125,68 @@ def pieces(requests):
     return [requests[at : at + size] for at in range(0, len(requests), size)]
 
 
-def measure(paths, size):
-    """The rows of one size: names, and the figure of each program."""
-    programs = [Program(path) for path in paths]
-    table = []
-    for name, requests, status, operations in rows(size, random.Random(size), Documents()):
-        found = least(programs, [(piece, len(piece) * operations) for piece in pieces(requests)], status)
-        table.append((name, [seconds * 1e6 for seconds in found], figure))
-    table.append(("most memory, megabytes", [each.most_megabytes() for each in programs], lambda found: "%.0f" % found))
-    for program in programs:
-        program.close()
-    return table
+class Bench:
+    """Runs of some programs side by side, over the rows whose names contain one of the texts, or over all where there are none."""
+
+    def __init__(self, paths, texts):
+        self.paths, self.texts = paths, texts
+        self.left_out = {}  # by the name of a row, why
+
+    def wants(self, name):
+        return name == FIRST or not self.texts or any(text in name for text in self.texts)
+
+    def measure(self, programs, name, requests, status, operations):
+        """The figure of each program, or None if the row is left out."""
+        try:
+            found = least(programs, [(piece, len(piece) * operations) for piece in pieces(requests)], status)
+        except OtherStatus as other:
+            if name == FIRST or len(programs) == 1:
+                raise
+            self.left_out[name] = other
+            return None
+        return [seconds * 1e6 for seconds in found]
+
+    def run(self, size):
+        """One run at one size: the figure of each program, by the name of the row."""
+        programs = [Program(path) for path in self.paths]
+        table = {}
+        for row in rows(size, random.Random(size), Documents()):
+            if self.wants(row[0]) and row[0] not in self.left_out:
+                table[row[0]] = self.measure(programs, *row)
+        table[MEMORY] = [each.most_megabytes() for each in programs]
+        for program in programs:
+            program.close()
+        return table
 
 
-def print_table(sizes, columns):
+def print_table(sizes, names, runs):
     print("| Operation | " + " | ".join("{:,} documents".format(size) for size in sizes) + " |")
     print("|---" * (len(sizes) + 1) + "|")
-    for cells in zip(*columns):
-        print("| %s | %s |" % (cells[0][0], " | ".join(compared(figures, shown) for _, figures, shown in cells)))
+    columns = list(zip(*runs))  # of each size the table of each run
+    for name in names:
+        shown = "{:.0f}".format if name == MEMORY else figure
+        print("| %s | %s |" % (name, " | ".join(compared([table[name] for table in tables], shown) for tables in columns)))
 
 
 def main():
     reader = with_store(arguments(__doc__))
     reader.add_argument("--sizes", default="1000,10000,100000")
+    reader.add_argument("--runs", type=int, default=1)
+    reader.add_argument("--only", action="append", default=[], metavar="TEXT")
     reader.add_argument("programs", nargs="*", type=existing, default=[built("couchd")])
     given = reader.parse_args()
     sizes = [int(size) for size in given.sizes.split(",")]
-    columns = [measure(given.programs, size) for size in sizes]
-    print_table(sizes, columns)
+    bench = Bench(given.programs, given.only)
+    runs = [[bench.run(size) for size in sizes] for _ in range(given.runs)]
+    names = [name for name in runs[0][0] if name not in bench.left_out]
+    print_table(sizes, names, runs)
+    for name, why in bench.left_out.items():
+        print("left out: %s: %s" % (name, why))
     ratios = Ratios("speed", given)
-    for cells in zip(*columns):
-        name, figures, _ = cells[0]
-        if name in COMPARED:
-            ratios.add("%s, %d documents of %d" % (name, sizes[-1], sizes[0]), cells[-1][1][-1] / figures[-1])
+    for name in COMPARED:
+        if name in names:
+            growth = statistics.median(tables[-1][name][-1] / tables[0][name][-1] for tables in runs)
+            ratios.add("%s, %d documents of %d" % (name, sizes[-1], sizes[0]), growth)
     return ratios.report()
 
 

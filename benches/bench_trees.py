@@ -181,7 +181,7 @@ def main():
             program.answer(before, 201)
         found = [seconds * unit for seconds in least(programs, [(piece, operations) for piece in pieces], status)]
         figures[name] = found[-1]
-        print("| %s | %s |" % (name, compared(found)), flush=True)
+        print("| %s | %s |" % (name, compared([found])), flush=True)
     for program in programs:
         program.close()
     ratios = Ratios("trees", given)

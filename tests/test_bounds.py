@@ -73,7 +73,7 @@ def long_answer(couchd, checks):
     with Server(couchd, "--workers", "2") as server:
         connection = Connection(server.port)
         write_leaves(connection, checks)
-        before = memory(server.process, "VmRSS")
+        before = memory(server.process.pid, "VmRSS")
         connection.send("GET", "/db/p?open_revs=all&revs=true")
         status, headers = connection.head()
         length = int(headers["Content-Length"])
@@ -82,7 +82,7 @@ def long_answer(couchd, checks):
         found = text[1:-1].replace('}},{"ok"', '}}\n{"ok"').split("\n")
         checks.check(sorted(found) == sorted(expected()) and text[0] + text[-1] == "[]", "the text of the leaves")
         checks.check(len(text) == length, "%d bytes for %d", len(text), length)
-        most, after = memory(server.process, "VmHWM") - before, memory(server.process, "VmRSS") - before
+        most, after = memory(server.process.pid, "VmHWM") - before, memory(server.process.pid, "VmRSS") - before
         print("an answer of %d bytes: %d more were held, and %d are" % (length, most, after))
         checks.check(most <= length, "%d bytes are held for an answer of %d", most, length)
         status, _ = connection.ask("GET", "/db/p")

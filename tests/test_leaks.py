@@ -54,7 +54,7 @@ class Program:
 
     def most_memory(self):
         """The most bytes that it has held."""
-        return memory(self.process, "VmHWM")
+        return memory(self.process.pid, "VmHWM")
 
 
 def main():

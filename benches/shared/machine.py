@@ -1,6 +1,7 @@
 """What processes have used, as the system counts it."""
 import os
-import re
+
+from lib.programs import memory
 
 TICKS = os.sysconf("SC_CLK_TCK")
 
@@ -16,14 +17,21 @@ def processor_seconds(process):
     return (int(user) + int(system)) / TICKS
 
 
+def is_running(process):
+    return read(process, "stat").rsplit(")", 1)[1].split()[0] == "R"
+
+
 def thread_seconds(process):
-    """The processor time of the first thread of a process so far, to the nanosecond."""
+    """The processor time of the first thread of a process so far, to the nanosecond. It is read when the thread waits, since the system
+    adds a stretch of time at its end."""
+    while is_running(process):
+        pass
     return int(read(process, "schedstat").split()[0]) / 1e9
 
 
 def megabytes(process, name):
-    """What it holds (`VmRSS`), or the most that it has held (`VmHWM`)."""
-    return int(re.search(r"^%s:\s+(\d+)" % name, read(process, "status"), re.M).group(1)) / 1024
+    """The megabytes that it holds (`VmRSS`), or the most that it has held (`VmHWM`)."""
+    return memory(process, name) / 2**20
 
 
 def load():

@@ -1,5 +1,6 @@
 """A run of `couchd once` whose requests are timed over pipes."""
 import os
+import statistics
 import subprocess
 import threading
 
@@ -12,16 +13,21 @@ def figure(microseconds):
     return "%.1f" % microseconds if microseconds < 100 else "{:,.0f}".format(microseconds)
 
 
-def compared(figures, shown=figure):
-    """A figure of each program, and the ratio of the last to the first."""
-    text = " / ".join(shown(each) for each in figures)
-    return text if len(figures) == 1 else "%s, %.2f" % (text, figures[-1] / figures[0])
+def compared(runs, shown=figure):
+    """Of some runs, each with a figure of each program, the medians of these and of the ratio of the last to the first."""
+    text = " / ".join(shown(statistics.median(figures)) for figures in zip(*runs))
+    return text if len(runs[0]) == 1 else "%s, %.2f" % (text, statistics.median(figures[-1] / figures[0] for figures in runs))
+
+
+class OtherStatus(Exception):
+    """A program answers with another status than it should."""
 
 
 class Program:
     """A run of the program, on the last processor."""
 
     def __init__(self, path):
+        self.path = path
         self.process = subprocess.Popen([path, "once"], stdin=subprocess.PIPE, stdout=subprocess.PIPE)
         os.sched_setaffinity(self.process.pid, {max(os.sched_getaffinity(0))})
         self.responses = Messages(lambda: os.read(self.process.stdout.fileno(), 1 << 20))
@@ -35,16 +41,15 @@ class Program:
         self.process.stdin.flush()
 
     def answer(self, requests, status):
-        """Processor seconds for these requests, each of which has this status. They are sent without waiting for responses."""
+        """Processor seconds for these requests, which are sent without waiting for responses, or `OtherStatus` if one has another."""
         data = b"".join(requests)
         used = machine.thread_seconds(self.process.pid)
         sender = threading.Thread(target=self.send, args=(data,))
         sender.start()
-        for _ in requests:
-            found, _body = self.responses.next_response()
-            if found != status:
-                raise ValueError("status %d in place of %d" % (found, status))
+        others = {self.responses.next_response()[0] for _ in requests} - {status}
         sender.join()
+        if others:
+            raise OtherStatus("%s answers %d in place of %d" % (self.path, min(others), status))
         return machine.thread_seconds(self.process.pid) - used
 
     def close(self):

@@ -69,6 +69,6 @@ def run_once(program, data):
 
 
 def memory(process, name):
-    """The bytes that a running program holds (`VmRSS`), or the most that it has held (`VmHWM`)."""
-    with open("/proc/%d/status" % process.pid) as file:
+    """The bytes that a process, named by its number, holds (`VmRSS`), or the most that it has held (`VmHWM`)."""
+    with open("/proc/%d/status" % process) as file:
         return next(1024 * int(line.split()[1]) for line in file if line.startswith(name + ":"))
