@@ -20,14 +20,15 @@ pub(crate) struct Rows {
 }
 
 impl Rows {
-    pub(crate) fn new(alloc: Global) -> Rows
-        ensures nodes { nodes_of result ≡ [] }
-        ensures filled { AreFilled (lists_of result.older.items) }
+    /// No nodes, with room for so many of them, up to as many as are kept together.
+    pub(crate) fn with_room(alloc: Global, nodes: usize) -> Result<Rows, AllocError>
+        ensures nodes { IfOk result (λ r. nodes_of r ≡ []) }
+        ensures filled { IfOk result (λ r. AreFilled (lists_of r.older.items)) }
     {
-        Rows {
+        Ok(Rows {
             older: Vec::new(alloc),
-            last: Vec::new(alloc),
-        }
+            last: Vec::with_capacity(alloc, nodes.min(MOST + 1))?,
+        })
     }
 
     /// The same nodes, with room for one more.

@@ -134,7 +134,7 @@ impl RevTree {
         let one_leaf = goes_through_leaves(tree, path);
         let forks = forks_with(tree, path);
         let tails = tails_of(alloc, tree)?;
-        let mut rows = ground(alloc, tree)?;
+        let mut rows = ground(alloc, tree, path.len())?;
         grow(alloc, &mut rows, path, body, deleted)?;
         Ok(RevTree {
             rows,
@@ -315,8 +315,8 @@ fn tails_of(alloc: Global, tree: Option<&RevTree>) -> Result<Tails, AllocError>
     }
 }
 
-/// The nodes of a tree, shared, and none of no tree.
-fn ground(alloc: Global, tree: Option<&RevTree>) -> Result<Rows, AllocError>
+/// The nodes of a tree, shared, and none of no tree, with room for so many.
+fn ground(alloc: Global, tree: Option<&RevTree>, room: usize) -> Result<Rows, AllocError>
     ensures ground { IfOk result (λ r. AreGround (nodes_of r)) }
     ensures tree { IfOk result (λ r. tree_of (nodes_of r) ≡ unwrap_or (option_copied tree.entry) empty) }
     ensures range { IfOk result (λ r. IsInRange (tree_of (nodes_of r))) }
@@ -324,6 +324,6 @@ fn ground(alloc: Global, tree: Option<&RevTree>) -> Result<Rows, AllocError>
 {
     match tree {
         Some(tree) => tree.rows.share(alloc),
-        None => Ok(Rows::new(alloc)),
+        None => Rows::with_room(alloc, room),
     }
 }

@@ -101,7 +101,7 @@ pub(crate) fn pieces_of(alloc: Global, nodes: Vec<Node>) -> Result<Rows, AllocEr
     ensures nodes { IfOk result (λ r. nodes_of r ≡ nodes.items) }
     ensures filled { IfOk result (λ r. AreFilled (lists_of r.older.items)) }
 {
-    let mut rows = Rows::new(alloc);
+    let mut rows = Rows::with_room(alloc, nodes.len())?;
     for node in nodes {
         push(alloc, &mut rows, node)?;
     }
