@@ -1,7 +1,7 @@
 //! The first request of the bytes that have come.
-ghost use Rattle.std.specs.Prelude.{◌≡◌, ◌≤◌, length};
+ghost use Rattle.std.specs.Prelude.{◌≡◌, ◌≤◌, length, IfSome};
 ghost use Rattle.httparse.specs.Grammar.{EndsInTarget, HasNoRequest, MayBecomeRequest, NeverHasRequest};
-ghost use Rattle.httparse.specs.Spans.{IsRequestOf as IsHeadOf, IsRequestWithin as IsHeadWithin};
+ghost use Rattle.httparse.specs.Spans.{IsRequestOf as IsHeadOf, IsRequestWithin as IsHeadWithin, RequestExceeds};
 ghost use Rattle.http_framing.specs.Request.{header_limit};
 ghost use Rattle.http_framing.specs.Refusal.{head_window, IsRefused};
 ghost use Rattle.http_framing.specs.Front.{IsFrontOfWindow, IsRequestAt, IsFrontOf, request_at};
@@ -15,6 +15,9 @@ use httparse::spans::{
     EMPTY_HEADER_SPAN, HeaderSpan, RequestSpans as HeadSpans, Span, parse_request,
 };
 use httparse::{Error, Status};
+
+/// The headers of a head that is read with a small room, which is soon cleared.
+const USUAL_HEADERS: usize = 16;
 
 /// Where the parts of a request lie in the bytes that begin with it.
 #[derive(Clone, Copy, Debug, PartialEq, Eq)]
@@ -132,17 +135,40 @@ fn fault_of_no_head(bytes: &[u8], window: &[u8]) -> FramingFault
     }
 }
 
+/// What the bytes begin with, unless it is a head with more headers than there is room for.
+fn front_with(bytes: &[u8], headers: &mut [HeaderSpan]) -> Option<Front>
+    requires { length headers.old ≤ header_limit }
+    ensures front { IfSome result (IsFrontOf bytes.now) }
+    ensures many { result ≡ None → RequestExceeds (length headers.old) (head_window bytes.now) }
+{
+    let window = head_window(bytes);
+    match parse_request(window, headers) {
+        Ok(Status::Complete(head)) => Some(front_of_head(bytes, window, headers, head)),
+        Ok(Status::Partial) => Some(front_of_part(bytes, window)),
+        Err(Error::TooManyHeaders) => None,
+        Err(_) if ends_in_target(window) => Some(front_of_part(bytes, window)),
+        Err(_) => Some(Front::Refused(fault_of_no_head(bytes, window))),
+    }
+}
+
+/// What the bytes begin with, with room for as many headers as a head may have.
+fn front_of_many(bytes: &[u8]) -> Front
+    ensures { IsFrontOf bytes.now result }
+{
+    let mut headers = [EMPTY_HEADER_SPAN; HEADER_LIMIT];
+    match front_with(bytes, &mut headers) {
+        Some(front) => front,
+        None => Front::Refused(FramingFault::LargeHead),
+    }
+}
+
 /// What the bytes begin with: a request, a fault, or a part of a request.
 pub fn read_front(bytes: &[u8]) -> Front
     ensures { IsFrontOf bytes.now result }
 {
-    let window = head_window(bytes);
-    let mut headers = [EMPTY_HEADER_SPAN; HEADER_LIMIT];
-    match parse_request(window, &mut headers) {
-        Ok(Status::Complete(head)) => front_of_head(bytes, window, &headers, head),
-        Ok(Status::Partial) => front_of_part(bytes, window),
-        Err(Error::TooManyHeaders) => Front::Refused(FramingFault::LargeHead),
-        Err(_) if ends_in_target(window) => front_of_part(bytes, window),
-        Err(_) => Front::Refused(fault_of_no_head(bytes, window)),
+    let mut headers = [EMPTY_HEADER_SPAN; USUAL_HEADERS];
+    match front_with(bytes, &mut headers) {
+        Some(front) => front,
+        None => front_of_many(bytes),
     }
 }

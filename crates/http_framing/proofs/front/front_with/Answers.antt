@@ -1,6 +1,6 @@
 use Rattle.std.proofs.Common.{rules, [], inr, append-nil, subst}
 use Rattle.httparse.specs.Grammar.{HasNoRequest, NeverHasRequest}
-use Rattle.http_framing.proofs.front.read_front.Goals as goal
+use Rattle.http_framing.proofs.front.front_with.Goals as goal
 
 pub front_of_part-requires-in-Err : goal.front_of_part-requires-in-Err
 front_of_part-requires-in-Err c =
