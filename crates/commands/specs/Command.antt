@@ -6,7 +6,7 @@ use Rattle.commands.specs.declared.command.CommandKind.{CommandKind}
 use Rattle.commands.specs.declared.command.CommandKind.TheVariants.{Edits, Merges, PutLocal, Purge, SetLimit, SetPurgedLimit, Compact}
 
 abbrev pub command_of : CommandKind → model.Command
-command_of (Edits edits) = model.Edits edits.items
+command_of (Edits edits) = model.Edits edits
 command_of (Merges merges) = model.Merges merges.items
 command_of (PutLocal id named body) = model.PutLocal id named (option_map arc_value body)
 command_of (Purge named) = model.Purge named

@@ -2,3 +2,4 @@ pub mod Command
 pub mod Config
 pub mod Merge
 pub mod Reply
+pub mod ShortList

@@ -4,7 +4,7 @@ use Rattle.commands.specs.declared.reply.ReplyKind.{ReplyKind}
 use Rattle.commands.specs.declared.reply.ReplyKind.TheVariants.{Wrote, WroteLocal, Purged, Done}
 
 abbrev pub reply_of : ReplyKind → model.Reply
-reply_of (Wrote writes) = model.Wrote writes.items
+reply_of (Wrote writes) = model.Wrote writes
 reply_of (WroteLocal write) = model.WroteLocal write
 reply_of (Purged purge_seq removed) = model.Purged purge_seq removed
 reply_of Done = model.Done

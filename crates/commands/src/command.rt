@@ -1,5 +1,5 @@
 //! Commands: what a session asks to be done.
-ghost use Rattle.std.specs.Prelude.{◌≡◌, ◌↔◌, ◌≤◌, ◌<◌, length, Some, IsTrue, IsSome, IfSome, IfOk, option_map};
+ghost use Rattle.std.specs.Prelude.{◌≡◌, ◌↔◌, ◌≤◌, ◌<◌, [], ◌∷◌, length, Some, IsTrue, IsSome, IfSome, IfOk, option_map};
 ghost use Rattle.std.specs.Arc.{arc_value};
 ghost use Rattle.model.specs.Command as model;
 ghost use Rattle.model.specs.Map.{entries};
@@ -11,6 +11,7 @@ use crate::edit::{Edit, recall_all_limits};
 use crate::merge::{Merge, recall_all_merges};
 use crate::named::{NamedRevisions, recall_all_named};
 use crate::same::{Same, are_same, is_same_id, is_same_option};
+use crate::short_list::ShortList;
 use document_id::DocId;
 use json_profile::Body;
 use std::alloc::{AllocError, Global};
@@ -24,7 +25,7 @@ pub const MAX_EDITS: usize = 1_048_576;
 #[derive(Drop)]
 pub enum CommandKind {
     /// Edits, one after another.
-    Edits(Vec<Edit>),
+    Edits(ShortList<Edit>),
     /// Revisions from another replica, one after another.
     Merges(Vec<Merge>),
     /// A write of a local document over the revision number that it names, with no body for a
@@ -72,6 +73,16 @@ impl Model for Command {
 }
 
 impl Command {
+    /// An edit.
+    pub fn edit(edit: Edit) -> Command
+        ensures command { result ≡ model.Edits (edit ∷ []) }
+    {
+        edit.recall_limits();
+        Command {
+            kind: CommandKind::Edits(ShortList::one(edit)),
+        }
+    }
+
     /// Edits, at most [`MAX_EDITS`] of them.
     pub fn edits(edits: Vec<Edit>) -> Option<Command>
         ensures few { IsSome result ↔ (length edits.items ≤ model.max_edits) }
@@ -82,7 +93,7 @@ impl Command {
         }
         recall_all_limits(&edits);
         Some(Command {
-            kind: CommandKind::Edits(edits),
+            kind: CommandKind::Edits(ShortList::from_vec(edits)),
         })
     }
 
@@ -193,7 +204,7 @@ impl Command {
 impl Copied for Command {
     fn copy(&self, alloc: Global) -> Result<Command, AllocError> {
         let kind = match &self.kind {
-            CommandKind::Edits(edits) => CommandKind::Edits(copy_all(alloc, edits)?),
+            CommandKind::Edits(edits) => CommandKind::Edits(edits.copy(alloc)?),
             CommandKind::Merges(merges) => CommandKind::Merges(copy_all(alloc, merges)?),
             CommandKind::PutLocal { id, named, body } => CommandKind::PutLocal {
                 id: id.share()?,
@@ -224,7 +235,9 @@ fn is_same_kind(one: &CommandKind, other: &CommandKind) -> bool
     ensures same { IsTrue result ↔ (command_of one.now ≡ command_of other.now) }
 {
     match (one, other) {
-        (CommandKind::Edits(one), CommandKind::Edits(other)) => are_same(one, other),
+        (CommandKind::Edits(one), CommandKind::Edits(other)) => {
+            are_same(one.as_slice(), other.as_slice())
+        }
         (CommandKind::Merges(one), CommandKind::Merges(other)) => are_same(one, other),
         (
             CommandKind::PutLocal { id, named, body },

@@ -12,6 +12,7 @@ mod named;
 mod reply;
 mod same;
 mod seat;
+mod short_list;
 
 pub use command::{Command, CommandKind, MAX_EDITS};
 pub use config::{Config, Limits, MAX_PLACES};
@@ -22,3 +23,4 @@ pub use merge::Merge;
 pub use named::{AskedRevisions, NamedRevisions};
 pub use reply::{Reply, ReplyKind};
 pub use seat::Seat;
+pub use short_list::ShortList;

@@ -5,6 +5,7 @@ ghost use Rattle.commands.specs.Reply.{reply_of};
 use crate::copied::Copied;
 use crate::named::NamedRevisions;
 use crate::same::{Same, are_same};
+use crate::short_list::ShortList;
 use model::Refusal;
 use revision_id::RevId;
 use std::alloc::{AllocError, Global};
@@ -14,7 +15,7 @@ use std::marker::Model;
 #[derive(Drop)]
 pub enum ReplyKind {
     /// Of each edit or merge its revision.
-    Wrote(Vec<Result<RevId, Refusal>>),
+    Wrote(ShortList<Result<RevId, Refusal>>),
     /// The number of the local document's revision, 0 for a deletion.
     WroteLocal(Result<u32, Refusal>),
     /// The last purge number, and of each document named the leaves removed.
@@ -69,10 +70,16 @@ impl Reply {
     }
 }
 
+impl Copied for Result<RevId, Refusal> {
+    fn copy(&self, _alloc: Global) -> Result<Result<RevId, Refusal>, AllocError> {
+        Ok(*self)
+    }
+}
+
 impl Copied for Reply {
     fn copy(&self, alloc: Global) -> Result<Reply, AllocError> {
         let kind = match &self.kind {
-            ReplyKind::Wrote(writes) => ReplyKind::Wrote(Vec::from_slice(alloc, writes)?),
+            ReplyKind::Wrote(writes) => ReplyKind::Wrote(writes.copy(alloc)?),
             ReplyKind::WroteLocal(write) => ReplyKind::WroteLocal(*write),
             ReplyKind::Purged { purge_seq, removed } => ReplyKind::Purged {
                 purge_seq: *purge_seq,
@@ -89,7 +96,9 @@ fn is_same_kind(one: &ReplyKind, other: &ReplyKind) -> bool
     ensures same { IsTrue result ↔ (reply_of one.now ≡ reply_of other.now) }
 {
     match (one, other) {
-        (ReplyKind::Wrote(one), ReplyKind::Wrote(other)) => are_same(one, other),
+        (ReplyKind::Wrote(one), ReplyKind::Wrote(other)) => {
+            are_same(one.as_slice(), other.as_slice())
+        }
         (ReplyKind::WroteLocal(one), ReplyKind::WroteLocal(other)) => one == other,
         (
             ReplyKind::Purged { purge_seq, removed },
