@@ -1,5 +1,5 @@
 -- The members on both sides of `_`, and the text of all of them by the texts of both.
-use Rattle.std.proofs.Common.{◌≡◌, ◌≤◌, ℕ, suc, List, [], ◌∷◌, ◌++◌, length, take, drop, ◌-◌, Bool, true, false, Some, String, Global, string_bytes, nat_cmp, true≢false, refl, sym, ap, ◌∙◌, subst, arith}
+use Rattle.std.proofs.Common.{◌≡◌, ◌≤◌, ℕ, suc, List, [], ◌∷◌, ◌++◌, length, take, drop, ◌-◌, Bool, true, false, if◌then◌else◌, Some, unwrap_or, slice_get, is_some, String, Global, string_bytes, nat_cmp, true≢false, refl, sym, ap, ◌∙◌, subst, arith}
 use Rattle.std.proofs.lemmas.Bool.{and_parts, and_from, eqb-true}
 use Rattle.std.proofs.lemmas.Cmp.{nat_list_cmp_total}
 use Rattle.std.proofs.lemmas.List.Elements.{All-head, All-tail}
@@ -8,7 +8,7 @@ use Rattle.std.specs.Cmp.Lexicographic.{slice_cmp}
 use Rattle.std.specs.List.{All}
 use Rattle.std.specs.Map.{keys_of}
 use Rattle.std.specs.Ordering.{is_gt, ordering_reverse}
-use Rattle.serde_json.specs.Data.{object, Members, no_members, member, depth}
+use Rattle.serde_json.specs.Data.{Data, object, Members, no_members, member, depth}
 use Rattle.serde_json.specs.Read.{read, max_depth}
 use Rattle.serde_json.specs.View.{view, members_view}
 use Rattle.serde_json.specs.Written.{compact_text}
@@ -96,14 +96,28 @@ pub some_member : (ms : Members) → (ms ≡ no_members → ⊥) → has_member 
 some_member no_members some = absurd (some refl)
 some_member (member k d ms) some = refl
 
+no_member : (ms : Members) → has_member ms ≡ false → ms ≡ no_members
+no_member no_members none = refl
+no_member (member k d ms) none = absurd (true≢false none)
+
 -- ---- the split
 
 length-last : (xs : List ℕ) (x : ℕ) → length (xs ++ x ∷ []) ≡ suc (length xs)
 length-last [] x = refl
 length-last (y ∷ ys) x = ap suc (length-last ys x)
 
-pub split-none : {ms front back : Members} → Sides ms front back → front ≡ no_members → 1 ≡ split_of ms
-split-none s none = sym (ap (λ f. suc (length (bare_text false f))) (s.front_is ∙ none))
+member_if : (b : Bool) (k : List ℕ) (d : Data) (ms : Members) → has_member (if b then member k d ms else no_members) ≡ b
+member_if true k d ms = refl
+member_if false k d ms = refl
+
+-- the first name says whether some come before `_`
+pub first_front : (es : List Entry) (e : Entry) → slice_get es 0 ≡ Some e → is_front (string_bytes e.0) ≡ has_member (front_of (members_view es))
+first_front [] e is = absurd (true≢false (sym (ap is_some is)))
+first_front (x ∷ es) e is =
+    ap (λ y. is_front (string_bytes (unwrap_or y e).0)) (sym is) ∙ sym (member_if (is_front (string_bytes x.0)) (string_bytes x.0) (view x.1) (front_of (members_view es)))
+
+pub split-back : (ms : Members) → false ≡ has_member (front_of ms) → 1 ≡ split_of ms
+split-back ms none = sym (ap (λ f. suc (length (bare_text false f))) (no_member (front_of ms) (sym none)))
 
 pub split-front : {text : List ℕ} {ms front back : Members} → Sides ms front back → text ≡ compact_text (object front) → length text - 1 ≡ split_of ms
 split-front {text} {ms} {front} s is =

@@ -1,6 +1,6 @@
 -- The members without the special ones.
 use Rattle.std.proofs.Common.{◌≡◌, ℕ, List, [], ◌∷◌, ◌++◌, Bool, true, false, not, ◌&&◌, ◌||◌, cond, true≢false, Less, Greater, string_bytes, string_cmp, nat_cmp, refl, ap, ◌∙◌}
-use Rattle.std.proofs.lemmas.Bool.{and_parts}
+use Rattle.std.proofs.lemmas.Bool.{and_parts, or_parts}
 use Rattle.std.proofs.lemmas.Cmp.{nat_list_cmp_total}
 use Rattle.std.specs.Cmp.Lexicographic.{slice_cmp}
 use Rattle.std.specs.List.{AllByRecursion, filter}
@@ -45,6 +45,13 @@ pub skip_special : (done : List Entry) (e : Entry) → is_special (string_bytes 
 skip_special [] e special = rw special
 skip_special (first ∷ done) e special =
     ap (λ ms. cond (is_special (string_bytes first.0)) ms (member (string_bytes first.0) (view first.1) ms)) (skip_special done e special)
+
+-- where none is special, all stay
+pub all_stay : (ms : Members) → has_special ms ≡ false → without_specials ms ≡ ms
+all_stay no_members none = refl
+all_stay (member k d ms) none =
+    let both = or_parts (is_special k) (has_special ms) none in
+    rw both.0 (ap (member k d) (all_stay ms both.1))
 
 -- ---- what is left is a body, if it nests no deeper than one may
 

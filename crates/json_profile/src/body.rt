@@ -7,7 +7,7 @@ ghost use Rattle.serde_json.specs.Read.{max_depth, read};
 ghost use Rattle.serde_json.specs.Written.{compact_text};
 ghost use Rattle.model.specs.Body.{IsBody, body_text};
 ghost use Rattle.model.specs.Profile.{max_body_nesting, members_whole};
-ghost use Rattle.json_profile.specs.Joined.{bare_text, front_of, back_of, has_member, split_of};
+ghost use Rattle.json_profile.specs.Joined.{bare_text, front_of, back_of, has_member, is_front, split_of};
 ghost use Rattle.json_profile.specs.Profiled.{ArePlain};
 ghost use Rattle.json_profile.specs.declared.fault.JsonFault.TheVariants.{Malformed, Number, Depth, NotAnObject};
 
@@ -130,11 +130,11 @@ fn written(alloc: Global, members: Map<String, Value>) -> Result<(String, usize)
         → read (string_bytes written.0) ≡ Some (object (members_view members.entries))) }
     ensures split { IfOk result (λ written. written.1 ≡ split_of (members_view members.entries)) }
 {
+    if !begins_in_front(&members) {
+        return Ok((object_text(alloc, members)?, 1));
+    }
     let mut front = members;
     let back = front.split_off("_")?;
-    if front.is_empty() {
-        return Ok((object_text(alloc, back)?, 1));
-    }
     let front_text = object_text(alloc, front)?;
     let split = front_text.len() - 1;
     if back.is_empty() {
@@ -143,6 +143,25 @@ fn written(alloc: Global, members: Map<String, Value>) -> Result<(String, usize)
     let back_text = object_text(alloc, back)?;
     let text = with_members_behind(front_text, split, back_text.as_str())?;
     Ok((text, split))
+}
+
+/// Whether the first name comes before `_`: if not, no name does.
+fn begins_in_front(members: &Map<String, Value>) -> bool
+    ensures { result ≡ has_member (front_of (members_view members.now.entries)) }
+{
+    match members.first_key_value() {
+        Some((name, _member)) => is_front(name.as_bytes()),
+        None => false,
+    }
+}
+
+fn is_front(name: &[u8]) -> bool
+    ensures { result ≡ is_front name.now }
+{
+    match name {
+        [first, ..] => *first < b'_',
+        [] => true,
+    }
 }
 
 /// The compact text of an object of these members.

@@ -29,6 +29,9 @@ pub(crate) fn has_special(members: &Map<String, Value>) -> bool
 pub(crate) fn drop_specials(members: &mut Map<String, Value>)
     ensures { members_view members.new.entries ≡ without_specials (members_view members.old.entries) }
 {
+    if !has_special(members) {
+        return;
+    }
     members.retain(|name, _member| !is_special(name.as_str()));
 }
 
