@@ -1,12 +1,14 @@
 //! The program `couchd`: a replicating document store, served over HTTP.
 #![tactic(auto)]
 
+mod held;
 mod journaled;
 mod patient;
 mod replication;
 mod serving;
 
 use command_line::{Run, given_arguments, read_arguments, refuse_bytes};
+use held::Held;
 use http_front::{run_dump, run_once};
 use std::io;
 use std::process::ExitCode;
@@ -21,9 +23,15 @@ fn main(rt: HostRuntime) -> io::Result<ExitCode> {
     };
     match read_arguments(rt.alloc(), arguments.as_slice()) {
         Ok(Run::Once) => {
-            let mut reader = Stream::new(rt.reader());
-            let mut writer = Stream::new(io::writer(&rt));
+            let Ok(held) = Held::new(rt.alloc(), io::writer(&rt)) else {
+                return Ok(ExitCode::FAILURE);
+            };
+            let mut reader = Stream::new(held.beside(rt.reader()));
+            let mut writer = Stream::new(held.end());
             let status = run_once(&mut reader, &mut writer, &rt);
+            if held.release().is_err() {
+                return Ok(unwritten(&rt));
+            }
             Ok(ended(&rt, &writer, status))
         }
         Ok(Run::Dump) => {
