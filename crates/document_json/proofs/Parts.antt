@@ -3,7 +3,7 @@ use Rattle.std.proofs.Common.{◌≡◌, ◌≢◌, ℕ, ◌<◌, ◌≤◌, Lis
 use Rattle.std.specs.Prelude.{codes, nat_le}
 use Rattle.std.proofs.lemmas.Bool.{and_parts, le-leb, leb-true}
 use Rattle.std.specs.List.{list_all}
-use Rattle.std.specs.Prelude.{Option, None}
+use Rattle.std.specs.Prelude.{Option, Some, None}
 use Rattle.serde_json.specs.Data.{Data, object, depth, Members}
 use Rattle.serde_json.specs.Find.{get_member}
 use Rattle.json_profile.specs.Objects.{without, has_special}
@@ -12,7 +12,9 @@ use Rattle.json_profile.specs.declared.fault.JsonFault.{JsonFault}
 use Rattle.json_profile.specs.declared.fault.JsonFault.TheVariants as json
 use Rattle.document_json.specs.Steps.{Checked, Decides, and_then, check, refused}
 use Rattle.document_json.specs.Text.{fault_of}
-use Rattle.document_json.specs.Document.{nesting_parts, parts_of, parts_after, without_ignored, without_all, others_listed}
+use Rattle.model.specs.Command.{Id}
+use Rattle.model.specs.Revision.{Rev}
+use Rattle.document_json.specs.Document.{edit_found, nesting_parts, parts_found, parts_of, parts_after, without_ignored, without_all, listed_members, others_listed}
 use Rattle.document_json.specs.declared.document.Parts.{Parts}
 use Rattle.document_json.specs.declared.fault.Reason.TheVariants as reason
 use Rattle.document_json.proofs.Members.{without_specials-without, get_member-without, get_member-none, without-none}
@@ -120,3 +122,20 @@ parts_after-none id ms none = λ i. record {
   has_other = (ap has_special (without_all-none others_listed ms refl none) ∙ none) i;
   body = without_specials ms;
 }
+
+-- the same of an object with nothing special in it
+parts_of-none : (ms : Members) → has_special ms ≡ false → parts_of ms ≡ plain_parts None (without_specials ms)
+parts_of-none ms none = λ i. record {
+  id = get_member-none (codes "_id") ms refl none i;
+  rev = get_member-none (codes "_rev") ms refl none i;
+  deleted = get_member-none (codes "_deleted") ms refl none i;
+  revisions = get_member-none (codes "_revisions") ms refl none i;
+  has_other = (ap has_special (without_all-none listed_members ms refl none) ∙ none) i;
+  body = without_specials ms;
+}
+
+-- an object with nothing special in it is the body of an edit
+pub plain_edit : (id : Id) (rev : Option Rev) (ms : Members) → has_special ms ≡ false → depth (object (without_specials ms)) ≤ max_body_nesting
+    → edit_found id rev (parts_found (Some ms)) ≡ Ok (record { id = id; named = rev; deleted = false; body = without_specials ms })
+plain_edit id rev ms none nests =
+    ap (λ found. edit_found id rev (and_then found (λ parts. Ok (Some parts)))) (nesting_parts-ok (parts_of ms) nests ∙ ap Ok (parts_of-none ms none))

@@ -124,6 +124,13 @@ revision_of id rev parts =
     and_then (rev_of (text_of parts.rev)) (λ own.
     named_once same_rev rev own))
 
+-- the edit of the document that was found, if it is one
+abbrev pub edit_found : Id → Option Rev → Checked (Option Parts) → Checked Edit
+edit_found id rev found =
+    and_then (and_then found (λ parts. known_document_in parts)) (λ parts.
+    and_then (revision_of id rev parts) (λ named.
+    Ok (record { id = id; named = named; deleted = flag_in parts.deleted; body = parts.body })))
+
 -- the edit of the document that the path and the parameters name
 -- CouchDB: PUT /{db}/{docid}
 abbrev pub edit_of : Id → Option Rev → List ℕ → Checked Edit

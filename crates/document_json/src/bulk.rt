@@ -151,6 +151,7 @@ fn read_ids(alloc: Global, documents: Vec<Listed>) -> Result<Vec<Named>, Fault>
 }
 
 /// A document in its shape: an object with an id, and where it comes from elsewhere a revision.
+#[inline(always)]
 fn list_document(alloc: Global, new_edits: bool, found: Option<Parts>) -> Result<Listed, Fault>
     ensures { Decides result (document_listed new_edits found) }
 {
@@ -205,6 +206,7 @@ fn find_path(alloc: Global, revisions: &Option<Json>) -> Result<Option<Path>, Fa
 }
 
 /// A document with the id that it says.
+#[inline(always)]
 fn name_document(alloc: Global, document: Listed) -> Result<Named, Fault>
     ensures { Decides result (document_named document) }
 {

@@ -1,7 +1,7 @@
 //! A document as the body of a request writes it.
-ghost use Rattle.std.specs.Prelude.{◌≡◌, false, Ok, option_map};
+ghost use Rattle.std.specs.Prelude.{◌≡◌, false, Some, Ok, option_map};
 ghost use Rattle.json_profile.specs.Objects.{has_special};
-ghost use Rattle.document_json.specs.Document.{document_in, document_of, edit_of, flag_in, has_shape, is_flag, is_text, known_document_in, names_no_other, nesting_parts, parts_after, parts_in, parts_of, revision_of, text_of, without_ignored};
+ghost use Rattle.document_json.specs.Document.{document_in, edit_found, edit_of, flag_in, has_shape, is_flag, is_text, known_document_in, names_no_other, nesting_parts, parts_after, parts_found, parts_in, parts_of, revision_of, text_of, without_ignored};
 ghost use Rattle.document_json.specs.Revisions.{rev_of};
 ghost use Rattle.document_json.specs.Steps.{Decides};
 
@@ -39,6 +39,7 @@ fn drop_ignored(object: &mut Object)
 }
 
 /// Takes an object apart, and refuses one whose body nests too deep.
+#[inline(always)]
 fn take_parts(alloc: Global, mut object: Object) -> Result<Parts, Fault>
     ensures { Decides result (nesting_parts (parts_of object)) }
 {
@@ -86,6 +87,7 @@ fn take_others(alloc: Global, id: Option<Json>, mut object: Object) -> Result<Pa
 }
 
 /// The parts of a document, if the value is an object.
+#[inline(always)]
 pub(crate) fn read_parts(alloc: Global, value: Json) -> Result<Option<Parts>, Fault>
     ensures { Decides result (parts_in value) }
 {
@@ -180,6 +182,7 @@ impl Parts {
 
 impl Parts {
     /// The edit of this document over a revision.
+    #[inline(always)]
     pub(crate) fn into_edit(
         self,
         alloc: Global,
@@ -194,19 +197,12 @@ impl Parts {
         })) }
     {
         let deleted = self.is_deleted();
-        let Ok(body) = Arc::new(alloc, self.body) else {
-            return Err(Fault::Memory);
-        };
-        Ok(Edit {
-            id,
-            named,
-            deleted,
-            body,
-        })
+        edit_with(alloc, id, named, deleted, self.body)
     }
 }
 
 /// The parts of a value that has the shape of a document.
+#[inline(always)]
 pub(crate) fn as_document(parts: Option<Parts>) -> Result<Parts, Reason>
     ensures { result ≡ document_in parts }
 {
@@ -227,12 +223,59 @@ pub(crate) fn as_known_document(parts: Option<Parts>) -> Result<Parts, Reason>
     Ok(parts)
 }
 
-/// The document of a body, with no special member that is unknown.
-fn read_document(alloc: Global, body: &[u8]) -> Result<Parts, Fault>
-    ensures { Decides result (document_of body.now) }
+/// The edit that puts this body over a revision.
+#[inline(always)]
+fn edit_with(
+    alloc: Global,
+    id: DocId,
+    named: Option<RevId>,
+    deleted: bool,
+    body: Body,
+) -> Result<Edit, Fault>
+    ensures { Decides result (Ok (record {
+      id = id;
+      named = named;
+      deleted = deleted;
+      body = body;
+    })) }
 {
-    let value = read_json(alloc, body)?;
-    Ok(as_known_document(read_parts(alloc, value)?)?)
+    let Ok(body) = Arc::new(alloc, body) else {
+        return Err(Fault::Memory);
+    };
+    Ok(Edit {
+        id,
+        named,
+        deleted,
+        body,
+    })
+}
+
+/// The edit of an object that may have special members.
+fn read_special(alloc: Global, id: DocId, rev: Option<RevId>, object: Object) -> Result<Edit, Fault>
+    ensures { Decides result (edit_found id rev (parts_found (Some object))) }
+{
+    let parts = take_parts(alloc, object)?;
+    if !parts.has_shape() {
+        return Err(Fault::Refused(Reason::Shape));
+    }
+    if parts.has_other {
+        return Err(Fault::Refused(Reason::Member));
+    }
+    match parts.revision_of(&id, rev) {
+        Ok(named) => parts.into_edit(alloc, id, named),
+        Err(reason) => Err(Fault::Refused(reason)),
+    }
+}
+
+/// The edit of an object. One with no special member is a body as it stands.
+fn read_object(alloc: Global, id: DocId, rev: Option<RevId>, object: Object) -> Result<Edit, Fault>
+    ensures { Decides result (edit_found id rev (parts_found (Some object))) }
+{
+    if object.has_special() {
+        return read_special(alloc, id, rev, object);
+    }
+    let body = object.into_body(alloc)?;
+    edit_with(alloc, id, rev, false, body)
 }
 
 /// The edit of the document that the path and the parameters name, as a body writes it.
@@ -246,9 +289,9 @@ fn read_document(alloc: Global, body: &[u8]) -> Result<Parts, Fault>
 pub fn read_edit(alloc: Global, id: DocId, rev: Option<RevId>, body: &[u8]) -> Result<Edit, Fault>
     ensures { Decides result (edit_of id rev body.now) }
 {
-    let parts = read_document(alloc, body)?;
-    match parts.revision_of(&id, rev) {
-        Ok(named) => parts.into_edit(alloc, id, named),
-        Err(reason) => Err(Fault::Refused(reason)),
-    }
+    let value = read_json(alloc, body)?;
+    let Some(object) = value.into_object() else {
+        return Err(Fault::Refused(Reason::Shape));
+    };
+    read_object(alloc, id, rev, object)
 }
