@@ -1,6 +1,6 @@
 //! The bytes that have come and were not yet taken.
 ghost use Rattle.std.specs.Prelude.{◌≡◌, ℕ, ◌+◌, ◌-◌, ◌<◌, ◌≤◌, List, [], ◌++◌, length};
-ghost use Rattle.std.specs.Prelude.{take, drop, slice_range, Ok, IfOk, OnOk, OnErr, nat_le, true, false};
+ghost use Rattle.std.specs.Prelude.{take, drop, slice_range, Ok, IfOk, OnOk, OnErr, true, false};
 ghost use Rattle.std.specs.Io.KnownBytes.{Consumes, Keeps, IsAtEnd};
 ghost use Rattle.streams.specs.Counts.{CountsFailure};
 ghost use Rattle.http_framing.specs.Input.{request_limit};
@@ -13,8 +13,8 @@ use streams::{Failed, Source, read_behind};
 
 /// A buffer of which the bytes `start..end` are kept, with room for the largest request.
 ///
-/// What is kept moves to the front only where the rest of its first request does not fit behind
-/// it, and then that request fits: so each byte moves once at most.
+/// What is kept moves to the front before more is read. It is a part of one request, which then
+/// goes as a whole: so each byte moves once at most, and small requests stay in the first pages.
 pub struct Window {
     bytes: Vec<u8>,
     start: usize,
@@ -97,9 +97,7 @@ impl Window {
         ensures failures { CountsFailure (R.failed_reads reader.old)
             (R.failed_reads reader.new) result }
     {
-        if !self.has_room(more) {
-            self.compact();
-        }
+        self.compact();
         let mut missing = more;
         while missing > 0 {
             match self.read_once(reader)? {
@@ -108,12 +106,6 @@ impl Window {
             }
         }
         Ok(true)
-    }
-
-    fn has_room(&self, len: usize) -> bool
-        ensures { result ≡ nat_le len self.now.room }
-    {
-        len <= REQUEST_LIMIT - self.end
     }
 
     /// Moves what is kept to the front.
