@@ -52,7 +52,7 @@ pub(crate) fn last_of(alloc: Global, dump: &[u8]) -> Result<Result<Version, Verd
         Err(number) => return Ok(Err(Verdict::UnreadableLine(number))),
     };
     let (begun, entries) = read;
-    match judge(alloc, begun, entries)? {
+    match judge(begun, entries)? {
         Ok(last) => Ok(Ok(last)),
         Err(place) => Ok(Err(Verdict::WrongAt(place))),
     }

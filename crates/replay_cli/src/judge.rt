@@ -7,15 +7,10 @@ ghost use Rattle.replay_cli.specs.Verdicts.{begun_with};
 
 use commands::{Entry, Reply};
 use snapshots::Version;
-use std::alloc::{AllocError, Global};
-use std::mem;
+use std::alloc::AllocError;
 
 /// The version after all entries, where they are a legal history, or else the place of the first that is wrong.
-pub(crate) fn judge(
-    alloc: Global,
-    begun: Version,
-    entries: Vec<Entry>,
-) -> Result<Result<Version, u64>, AllocError>
+pub(crate) fn judge(begun: Version, entries: Vec<Entry>) -> Result<Result<Version, u64>, AllocError>
     requires begun { begun ≡ begun_with begun.base [] }
     requires places { length entries.items ≤ last_place }
     ensures last { IfOk result (λ judged. IfOk judged (λ last. last ≡ begun_with begun.base entries.items)) }
@@ -23,18 +18,14 @@ pub(crate) fn judge(
     ensures wrong { IfOk result (λ judged. IfErr judged (IsFirstWrong (base_of begun.base) entries.items)) }
 {
     let mut version = begun;
-    match first_wrong(alloc, &mut version, entries)? {
+    match first_wrong(&mut version, entries)? {
         None => Ok(Ok(version)),
         Some(place) => Ok(Err(place)),
     }
 }
 
 /// The place of the first wrong entry, in an empty history. Where there is none, all of them are right.
-fn first_wrong(
-    alloc: Global,
-    version: &mut Version,
-    entries: Vec<Entry>,
-) -> Result<Option<u64>, AllocError>
+fn first_wrong(version: &mut Version, entries: Vec<Entry>) -> Result<Option<u64>, AllocError>
     requires begun { version.old ≡ begun_with version.old.base [] }
     requires places { length entries.items ≤ last_place }
     ensures last { IfOk result (λ wrong. IfNone wrong (version.new ≡ begun_with version.old.base entries.items)) }
@@ -43,7 +34,7 @@ fn first_wrong(
 {
     for entry in entries {
         let place = version.place() + 1;
-        if !judge_one(alloc, version, &entry)? {
+        if !judge_one(version, &entry)? {
             return Ok(Some(place));
         }
     }
@@ -51,35 +42,20 @@ fn first_wrong(
 }
 
 /// Goes on by an entry, where that is the next one of a legal history, and answers whether it is.
-fn judge_one(alloc: Global, version: &mut Version, entry: &Entry) -> Result<bool, AllocError>
+fn judge_one(version: &mut Version, entry: &Entry) -> Result<bool, AllocError>
     requires { length version.old.entries < last_place }
     ensures next { result ≡ Ok true → IsNext (now version.old) entry.now
         × (version.new ≡ extended version.old (entry.now ∷ [])) }
     ensures wrong { result ≡ Ok false → IsNext (now version.old) entry.now → ⊥ }
 {
-    let before = mem::replace(version, Version::empty(alloc));
-    let Some(next) = after(before, entry)? else {
-        return Ok(false);
-    };
-    *version = next;
-    Ok(true)
-}
-
-/// The version after an entry, where that is the next one of a legal history.
-fn after(version: Version, entry: &Entry) -> Result<Option<Version>, AllocError>
-    requires { length version.entries < last_place }
-    ensures next { IfOk result (λ found. IfSome found (λ next. IsNext (now version) entry.now
-        × (next ≡ extended version (entry.now ∷ [])))) }
-    ensures wrong { IfOk result (λ found. IfNone found (IsNext (now version) entry.now → ⊥)) }
-{
     if entry.seat.call() != version.next_call(entry.seat.session()) {
-        return Ok(None);
+        return Ok(false);
     }
-    let next = version.into_act(entry.seat, &entry.command)?;
-    if !is_last_reply(&next, &entry.reply) {
-        return Ok(None);
+    version.apply(entry.seat, &entry.command)?;
+    if !is_last_reply(version, &entry.reply) {
+        return Ok(false);
     }
-    Ok(Some(next))
+    Ok(true)
 }
 
 /// Whether the last entry has this reply.

@@ -7,6 +7,7 @@ pub mod Indexed
 pub mod Bulks
 pub mod Calls
 pub mod Histories
+pub mod Replaced
 pub mod Purges
 pub mod Shown
 pub mod TouchedCount

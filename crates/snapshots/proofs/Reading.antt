@@ -1,9 +1,9 @@
 -- A database of the parts that were read.
-use Rattle.std.specs.Prelude.{◌≡◌, ◌≤◌, [], Some}
+use Rattle.std.specs.Prelude.{◌≡◌, ◌≤◌, Some}
 use Rattle.std.proofs.Common.{sym, subst, refl}
 use Rattle.std.proofs.lemmas.Option.{same_Some}
 use Rattle.local_docs.specs.Listed.{IsListOf}
-use Rattle.model.specs.Map.{Map}
+use Rattle.model.specs.Map.{Map, empty}
 use Rattle.model.specs.Command.{names, IsLimit}
 use Rattle.model.specs.Local.{Local}
 use Rattle.model.specs.PurgeLog.{PurgeLog, IsLog}
@@ -58,7 +58,7 @@ module _ (parts : DatabaseParts) where
 
   module _ (documents : Listing) (locals : Map names Local) (purges : PurgeLog) where
     abbrev pub made : Database
-    made = database_with documents locals purges parts.revs_limit []
+    made = database_with documents locals purges parts.revs_limit empty
 
     pub Fits-made : AreInRange parts.update_seq parts.purge_seq parts.revs_limit → ListsDocuments documents → IsListOf parts.locals.items locals → ListsPurges purges → Fits made
     Fits-made range of_documents of_locals of_purges = (

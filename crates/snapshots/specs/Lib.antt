@@ -1,6 +1,8 @@
 pub mod Among
 pub mod Codes
 pub mod Listing
+pub mod Replaced
+pub mod Calls
 pub mod Database
 pub mod Version
 pub mod Taken

@@ -4,6 +4,8 @@ ghost use Rattle.model.specs.Command.{IsCommand, IsSeat, max_edits};
 ghost use Rattle.model.specs.Database as model;
 ghost use Rattle.model.specs.Database.{empty_database, reply_to, changed_by, calls_of, counted};
 
+mod ahead;
+mod calls;
 mod compaction;
 mod edits;
 mod epochs;
@@ -15,16 +17,15 @@ mod purges;
 mod reads;
 mod stored;
 
+use crate::database::calls::Calls;
 use crate::records::Records;
 use commands::{Command, CommandKind, Reply, ReplyKind, Seat};
-use cow_index::CowMap;
 use local_docs::Locals;
 pub use parts::DatabaseParts;
 pub(crate) use parts::LARGEST_BASE;
 use purge::PurgeLog;
 use std::alloc::{AllocError, Global};
 use std::marker::Model;
-use std::mem;
 
 /// How many revisions of a path a new database keeps.
 const DEFAULT_REVS_LIMIT: u32 = 1000;
@@ -40,8 +41,7 @@ pub struct Database {
     locals: Locals,
     purges: PurgeLog,
     revs_limit: u32,
-    /// Of each session, how many commands it has made.
-    calls: CowMap<u16, u64>,
+    calls: Calls,
 }
 
 impl Drop for Database {
@@ -67,7 +67,7 @@ impl Model for Database {
 
     ghost coded = { Prim.hlevel (codes, coded_members) };
 
-    ghost view = { λ d. database_with d.documents d.locals d.purges d.revs_limit d.calls.entries };
+    ghost view = { λ d. database_with d.documents d.locals d.purges d.revs_limit d.calls };
 
     ghost invariant = { λ d. HasRoom d.revs_limit d.documents.update_seq d.purges.purge_seq };
 }
@@ -82,7 +82,7 @@ impl Database {
             locals: Locals::new(alloc),
             purges: PurgeLog::new(alloc),
             revs_limit: DEFAULT_REVS_LIMIT,
-            calls: CowMap::new(alloc),
+            calls: Calls::new(alloc),
         }
     }
 
@@ -126,7 +126,7 @@ impl Database {
     {
         match command.kind() {
             CommandKind::Edits(edits) => {
-                let replies = self.edits(edits)?;
+                let replies = self.edits(edits.as_slice())?;
                 Ok(Reply::new(ReplyKind::Wrote(replies)))
             }
             CommandKind::Merges(merges) => {
@@ -157,13 +157,10 @@ impl Database {
         }
     }
 
-    /// Where memory is refused, no calls are left.
     fn count_call(&mut self, session: u16, call: u64) -> Result<(), AllocError>
         requires { call ≡ calls_of self.old session + 1 }
         ensures { IfOk result (λ _. self.new ≡ counted self.old session) }
     {
-        let calls = mem::replace(&mut self.calls, CowMap::new(self.alloc));
-        self.calls = calls.into_with(session, call)?;
-        Ok(())
+        self.calls.put(self.alloc, session, call)
     }
 }

@@ -12,13 +12,16 @@ ghost use Rattle.model.specs.Changes.{every_id, changed_since as changed_above};
 ghost use Rattle.model.specs.Answers.{counts};
 ghost use Rattle.snapshots.specs.Listing.{database_of};
 
+mod ahead;
 mod among;
 mod listed;
+mod replaced;
 mod writes;
 
 use crate::record::Record;
 use cow_index::{CowMap, Range, Shared};
 use document_id::DocId;
+pub(crate) use replaced::Replaced;
 use std::alloc::{AllocError, Global};
 use std::marker::Model;
 

@@ -1,9 +1,9 @@
 //! A version of the database.
-ghost use Rattle.std.specs.Prelude.{◌≡◌, ◌<◌, ◌+◌, ◌∷◌, [], Some, None, length, IfOk, option_copied, if◌then◌else◌};
+ghost use Rattle.std.specs.Prelude.{◌≡◌, ◌<◌, ◌+◌, ◌∷◌, ◌++◌, [], Some, None, length, IfOk, OnErr, option_copied, if◌then◌else◌};
 ghost use Rattle.model.specs.PurgeLog.{is_overrun};
 ghost use Rattle.model.specs.Compaction.{touched};
-ghost use Rattle.model.specs.Command.{Compact};
-ghost use Rattle.model.specs.Database.{calls_of, compacted};
+ghost use Rattle.model.specs.Command.{Compact, IsCommand, IsSeat, max_edits};
+ghost use Rattle.model.specs.Database.{act, calls_of, compacted};
 ghost use Rattle.model.specs.History.{now, extended, entry_of};
 ghost use Rattle.snapshots.specs.Version.{IsHistory, entry_at};
 
@@ -100,35 +100,27 @@ impl Version {
         requires room { length self.now.entries < 4294967295 }
         ensures pushed { IfOk result (λ v. v ≡ extended self.now (entry_of (now self.now) seat command.now ∷ [])) }
     {
-        self.share()?.into_act(seat, command)
+        let mut next = self.share()?;
+        next.apply(seat, command)?;
+        Ok(next)
     }
 
-    /// As [`act`](Version::act), of a version that is given up: what no other version holds is changed in
-    /// its place.
-    pub fn into_act(self, seat: Seat, command: &Command) -> Result<Version, AllocError>
-        requires next { seat.call ≡ calls_of (now self) seat.session + 1 }
-        requires room { length self.entries < 4294967295 }
-        ensures pushed { IfOk result (λ v. v ≡ extended self (entry_of (now self) seat command.now ∷ [])) }
+    /// As [`act`](Version::act), of a version that becomes the next one: what no other version holds is changed in its
+    /// place. Where memory is refused, nothing is left of it.
+    pub fn apply(&mut self, seat: Seat, command: &Command) -> Result<(), AllocError>
+        requires next { seat.call ≡ calls_of (now self.old) seat.session + 1 }
+        requires room { length self.old.entries < 4294967295 }
+        ensures pushed { IfOk result (λ _. self.new ≡ extended self.old (entry_of (now self.old) seat command.now ∷ [])) }
+        ensures lost { OnErr result (self.new ≡ record { base = None; entries = [] }) }
     {
-        let Version {
-            alloc,
-            base,
-            mut database,
-            history,
-        } = self;
-        let reply = database.act(seat, command)?;
-        let command = command.copy(alloc)?;
-        let history = history.push(Entry {
-            seat,
-            command,
-            reply,
-        })?;
-        Ok(Version {
-            alloc,
-            base,
-            database,
-            history,
-        })
+        let alloc = self.alloc;
+        let Ok(()) = apply_to(alloc, &mut self.database, &mut self.history, seat, command) else {
+            self.base = Base::unnamed();
+            self.database = Database::new(alloc);
+            self.history = SharedList::new(alloc);
+            return Err(AllocError);
+        };
+        Ok(())
     }
 
     /// The version after a compaction by that call, where these are its documents, stripped.
@@ -189,4 +181,29 @@ impl Version {
     {
         self.database.calls_of(session) + 1
     }
+}
+
+/// Does the command, and puts its entry last.
+fn apply_to(
+    alloc: Global,
+    database: &mut Database,
+    history: &mut SharedList<Entry>,
+    seat: Seat,
+    command: &Command,
+) -> Result<(), AllocError>
+    requires next { seat.call ≡ calls_of database.old seat.session + 1 }
+    requires room { database.old.update_seq + max_edits < u64.MAX }
+    requires log_room { database.old.purges.purge_seq + max_edits < u64.MAX }
+    ensures after { IfOk result (λ _. database.new ≡ act database.old seat command.now) }
+    ensures pushed { IfOk result (λ _. history.new.values ≡ history.old.values ++ entry_of database.old seat command.now ∷ []) }
+    ensures limits { IfOk result (λ _. IsSeat seat × IsCommand command.now) }
+{
+    let reply = database.act(seat, command)?;
+    let command = command.copy(alloc)?;
+    *history = history.push(Entry {
+        seat,
+        command,
+        reply,
+    })?;
+    Ok(())
 }

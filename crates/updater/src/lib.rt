@@ -18,7 +18,7 @@ pub fn apply_batch(version: &Version, jobs: &[Job]) -> Result<Version, AllocErro
 {
     let mut next = version.share()?;
     for job in jobs {
-        next = next.into_act(job.seat, &job.command)?;
+        next.apply(job.seat, &job.command)?;
     }
     Ok(next)
 }

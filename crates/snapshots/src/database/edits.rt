@@ -4,8 +4,12 @@ ghost use Rattle.model.specs.Edit.{revision_written};
 ghost use Rattle.model.specs.Database.{edit_in, after_edit, edit_replies, after_edits};
 
 use crate::database::Database;
-use crate::written::edited;
-use commands::Edit;
+use crate::database::ahead::AHEAD;
+use crate::database::stored::holds;
+use crate::record::Record;
+use crate::records::Replaced;
+use crate::written::{Written, edited};
+use commands::{Edit, ShortList};
 use model::Refusal;
 use revision_id::RevId;
 use std::alloc::AllocError;
@@ -15,24 +19,41 @@ impl Database {
     pub(super) fn edits(
         &mut self,
         edits: &[Edit],
-    ) -> Result<Vec<Result<RevId, Refusal>>, AllocError>
+    ) -> Result<ShortList<Result<RevId, Refusal>>, AllocError>
         requires room { self.old.update_seq + length edits.now < u64.MAX }
-        ensures replies { IfOk result (λ rs. rs.items ≡ edit_replies self.old edits.now) }
+        ensures replies { IfOk result (λ rs. rs ≡ edit_replies self.old edits.now) }
         ensures after { IfOk result (λ _. self.new ≡ after_edits self.old edits.now) }
     {
+        if let [edit] = edits {
+            return Ok(ShortList::one(self.edit(edit)?));
+        }
         let mut replies = Vec::with_capacity(self.alloc, edits.len())?;
-        for edit in edits {
+        for (index, edit) in edits.iter().enumerate() {
+            if index % AHEAD == 0 {
+                self.read_edits_ahead(&edits[index..]);
+            }
             replies.push(self.edit(edit)?)?;
         }
-        Ok(replies)
+        Ok(ShortList::from_vec(replies))
     }
 
+    #[tactic(auto, unfolding(model::specs::Database::store))]
     fn edit(&mut self, edit: &Edit) -> Result<Result<RevId, Refusal>, AllocError>
         requires room { self.old.update_seq + 1 < u64.MAX }
         ensures reply { IfOk result (λ r. r ≡ revision_written (edit_in self.old edit.now)) }
         ensures after { IfOk result (λ _. self.new ≡ after_edit self.old edit.now) }
     {
-        let outcome = edited(self.alloc, self.revs_limit(), self.tree(&edit.id), edit)?;
-        self.store_written(&edit.id, outcome)
+        let held = self.documents.get(&edit.id);
+        match edited(self.alloc, self.revs_limit(), held.map(Record::tree), edit)? {
+            Ok(Written { rev, tree }) => {
+                if holds(held, &tree, rev) {
+                    return Ok(Ok(rev));
+                }
+                let replaced = held.map(Replaced::of);
+                self.update(&edit.id, tree, replaced)?;
+                Ok(Ok(rev))
+            }
+            Err(refusal) => Ok(Err(refusal)),
+        }
     }
 }

@@ -3,7 +3,7 @@ ghost use Rattle.std.specs.Prelude.{◌≡◌, IfOk};
 ghost use Rattle.model.specs.History.{successor};
 
 use crate::database::Database;
-use cow_index::CowMap;
+use crate::database::calls::Calls;
 use std::alloc::AllocError;
 
 impl Database {
@@ -17,7 +17,7 @@ impl Database {
             locals: self.locals.share()?,
             purges: self.purges.share()?,
             revs_limit: self.revs_limit,
-            calls: CowMap::new(self.alloc),
+            calls: Calls::new(self.alloc),
         })
     }
 }

@@ -5,9 +5,9 @@ ghost use Rattle.model.specs.History.{IsBase, largest_base};
 ghost use Rattle.snapshots.specs.Parts.{AreInRange, AreParts};
 
 use crate::database::Database;
+use crate::database::calls::Calls;
 use crate::record::Record;
 use crate::records::Records;
-use cow_index::CowMap;
 use document_id::DocId;
 use local_docs::{LocalDoc, Locals};
 use purge::{PurgeLog, Purged};
@@ -80,7 +80,7 @@ impl DatabaseParts {
             locals,
             purges,
             revs_limit,
-            calls: CowMap::new(alloc),
+            calls: Calls::new(alloc),
         }))
     }
 }

@@ -4,9 +4,10 @@ ghost use Rattle.model.specs.Map.{entries};
 ghost use Rattle.model.specs.Database as model;
 ghost use Rattle.model.specs.Database.{removed_of, after_purge, after_purges, purge_reply};
 ghost use Rattle.model.specs.PurgeLog.{logged};
+ghost use Rattle.snapshots.specs.Replaced.{replaced_at};
 
 use crate::database::Database;
-use crate::records::Records;
+use crate::records::{Records, Replaced};
 use commands::{AskedRevisions, NamedRevisions};
 use document_id::DocId;
 use purge::cut_document;
@@ -48,12 +49,18 @@ impl Database {
     }
 
     /// Gives the document the tree that is left, or removes it.
-    fn leave(&mut self, id: &DocId, left: Option<RevTree>) -> Result<(), AllocError>
-        requires { self.old.update_seq + 1 < u64.MAX }
+    fn leave(
+        &mut self,
+        id: &DocId,
+        left: Option<RevTree>,
+        replaced: Option<Replaced>,
+    ) -> Result<(), AllocError>
+        requires room { self.old.update_seq + 1 < u64.MAX }
+        requires replaced { replaced ≡ replaced_at self.old.docs id.now }
         ensures { IfOk result (λ _. self.new ≡ model.leave self.old id.now left) }
     {
         match left {
-            Some(tree) => self.update(id, tree),
+            Some(tree) => self.update(id, tree, replaced),
             None => self.remove(id),
         }
     }
@@ -78,11 +85,12 @@ impl Database {
             return Ok(Vec::new(self.alloc));
         };
         let (removed, left) = cut_document(self.alloc, tree, named)?;
+        let replaced = self.documents.get(id).map(Replaced::of);
         if removed.is_empty() {
             return Ok(removed);
         }
         self.log(id, &removed)?;
-        self.leave(id, left)?;
+        self.leave(id, left, replaced)?;
         Ok(removed)
     }
 }

@@ -51,10 +51,7 @@ impl Database {
     pub fn calls_of(&self, session: u16) -> u64
         ensures { result ≡ calls_of self.now session }
     {
-        match self.calls.get(&session) {
-            Some(calls) => *calls,
-            None => 0,
-        }
+        self.calls.of(session)
     }
 
     /// The documents with an update number above `since`, in the order of these numbers.

@@ -1,15 +1,16 @@
 //! What puts documents into records and takes them out. Each takes the records and gives them back, changed in their place
 //! where nobody else has a share of them.
-ghost use Rattle.std.specs.Prelude.{◌≡◌, ◌<◌, ◌≤◌, ◌+◌, Some, IfOk, option_copied};
+ghost use Rattle.std.specs.Prelude.{◌≡◌, ◌<◌, ◌≤◌, ◌+◌, Some, IfOk};
 ghost use Rattle.std.specs.Ordering.{nat_cmp};
 ghost use Rattle.std.specs.Cmp.Lexicographic.{slice_cmp};
 ghost use Rattle.std.specs.FinMap.Entries.{put as put_entry};
 ghost use Rattle.model.specs.Map.{put as put_in, refine, without};
 ghost use Rattle.model.specs.Database.{stripped};
-ghost use Rattle.snapshots.specs.Listing.{IsFree, placed, updated, live_in, without_number};
+ghost use Rattle.snapshots.specs.Listing.{IsFree, placed, updated};
+ghost use Rattle.snapshots.specs.Replaced.{replaced_at, live_of, without_replaced};
 
 use crate::record::Record;
-use crate::records::{Numbers, Records, found};
+use crate::records::{Numbers, Records, Replaced, found};
 use cow_index::{CowMap, Shared};
 use document_id::DocId;
 use revision_tree::RevTree;
@@ -37,22 +38,26 @@ impl Records {
         ensures { IfOk result (λ d. d ≡ record self { docs = put_in self.docs id.now stored }) }
     {
         let update_seq = self.update_seq();
-        self.placed(alloc, id, stored, update_seq)
+        let replaced = self.get(id).map(Replaced::of);
+        self.placed(alloc, id, stored, update_seq, replaced)
     }
 
-    /// With this tree of the document, at the next update number.
+    /// With this tree of the document, at the next update number. What is known of the record that it had was looked up
+    /// before.
     pub(crate) fn update(
         self,
         alloc: Global,
         id: &DocId,
         tree: RevTree,
+        replaced: Option<Replaced>,
     ) -> Result<Records, AllocError>
-        requires { self.update_seq < u64.MAX }
+        requires room { self.update_seq < u64.MAX }
+        requires replaced { replaced ≡ replaced_at self.docs id.now }
         ensures { IfOk result (λ d. d ≡ updated self id.now tree) }
     {
         let _recalled = &self.by_id;
         let seq = self.update_seq + 1;
-        let updated = self.placed(alloc, id, Record::new(tree, seq), seq)?;
+        let updated = self.placed(alloc, id, Record::new(tree, seq), seq, replaced)?;
         Ok(updated)
     }
 
@@ -62,19 +67,19 @@ impl Records {
         id: &DocId,
         stored: Record,
         update_seq: u64,
+        replaced: Option<Replaced>,
     ) -> Result<Records, AllocError>
         requires more { self.update_seq ≤ update_seq }
         requires number { (0 < stored.seq) × (stored.seq ≤ update_seq) }
         requires free { IsFree self.docs id.now stored.seq }
+        requires replaced { replaced ≡ replaced_at self.docs id.now }
         ensures { IfOk result (λ d. d ≡ placed self id.now stored update_seq) }
     {
         let seq = stored.seq();
-        let numbers = self.by_number;
-        let old = found(&self.by_id, id);
-        let live = self.live - live_count(old) + live_count(Some(&stored));
+        let live = self.live - live_count(replaced) + u64::from(stored.is_live());
         let stored = Shared::new(alloc, stored)?;
         Ok(Records {
-            by_number: renumbered(numbers, old, id, seq, &stored)?,
+            by_number: renumbered(self.by_number, replaced, id, seq, &stored)?,
             by_id: with_record(self.by_id, id, stored)?,
             live,
             update_seq,
@@ -97,11 +102,10 @@ impl Records {
     pub fn remove(self, id: &DocId) -> Result<Records, AllocError>
         ensures { IfOk result (λ d. d ≡ record self { docs = without self.docs id.now }) }
     {
-        let numbers = self.by_number;
-        let old = found(&self.by_id, id);
-        let live = self.live - live_count(old);
+        let replaced = found(&self.by_id, id).map(Replaced::of);
+        let live = self.live - live_count(replaced);
         Ok(Records {
-            by_number: without_old(numbers, old)?,
+            by_number: without_old(self.by_number, replaced)?,
             by_id: self.by_id.into_without(id)?,
             live,
             update_seq: self.update_seq,
@@ -120,35 +124,35 @@ fn with_record(
 }
 
 /// 1 for a live document, and else 0.
-fn live_count(stored: Option<&Record>) -> u64
-    ensures { result ≡ live_in (option_copied stored.entry) }
+fn live_count(replaced: Option<Replaced>) -> u64
+    ensures { result ≡ live_of replaced }
 {
-    match stored {
-        Some(stored) if stored.is_live() => 1,
-        _ => 0,
+    match replaced {
+        Some(replaced) => u64::from(replaced.is_live),
+        None => 0,
     }
 }
 
 /// The index with the record at `seq`, and nothing at the number of the one before.
 fn renumbered(
     numbers: Numbers,
-    old: Option<&Record>,
+    replaced: Option<Replaced>,
     id: &DocId,
     seq: u64,
     stored: &Shared<Record>,
 ) -> Result<Numbers, AllocError>
     ensures { IfOk result (λ m. m.entries ≡ put_entry nat_cmp seq (id.now, stored.now)
-        (without_number (option_copied old.entry) numbers.entries)) }
+        (without_replaced replaced numbers.entries)) }
 {
     let numbered = (id.share()?, stored.share()?);
-    without_old(numbers, old)?.into_with(seq, numbered)
+    without_old(numbers, replaced)?.into_with(seq, numbered)
 }
 
-fn without_old(numbers: Numbers, old: Option<&Record>) -> Result<Numbers, AllocError>
-    ensures { IfOk result (λ m. m.entries ≡ without_number (option_copied old.entry) numbers.entries) }
+fn without_old(numbers: Numbers, replaced: Option<Replaced>) -> Result<Numbers, AllocError>
+    ensures { IfOk result (λ m. m.entries ≡ without_replaced replaced numbers.entries) }
 {
-    match old {
-        Some(old) => numbers.into_without(&old.seq()),
+    match replaced {
+        Some(replaced) => numbers.into_without(&replaced.seq),
         None => Ok(numbers),
     }
 }

@@ -37,7 +37,7 @@ returns c = λ d.
     let documents = c.in-Some.documents in
     let locals = c.in-Some-2.locals in
     let purges = c.in-Some-3.purges in
-    subst (λ calls. (Some (database_with documents locals purges parts.revs_limit calls) ≡ Some d) ↔ Fits parts d) (sym c.new.ensures.entries)
+    subst (λ calls. (Some (database_with documents locals purges parts.revs_limit calls) ≡ Some d) ↔ Fits parts d) (sym c.new.ensures)
     (made_only (Fits parts) (made parts documents locals purges) d
     (Fits-made parts documents locals purges range
     ((c.in_ok-documents.ensures.listed documents).0 c.in-Some.is)
