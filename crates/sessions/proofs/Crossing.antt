@@ -4,6 +4,7 @@ use denote.Param.Send.{IsSend, IsSync}
 use Rattle.crossbeam_utils.proofs.cache_padded.CachePadded.TheSendSync as CachePadded
 use Rattle.version_log.proofs.Crossing as publications
 use Rattle.version_log.specs.declared.front.Naming as Naming
+use Rattle.sessions.specs.contracts.mailboxes.Mailbox as Mailbox
 use Rattle.sessions.specs.contracts.mailboxes.Mailboxes as Mailboxes
 use Rattle.sessions.specs.contracts.session.Session as Session
 use Rattle.sessions.specs.contracts.shared.Shared as Shared
@@ -14,14 +15,20 @@ use Rattle.updater_state.proofs.Crossing.{core-send, told-send}
 use Rattle.updater_state.specs.contracts.locked.Core as Core
 use Rattle.updater_state.specs.declared.naming.Opening as Opening
 
-ruleset parts = (CachePadded.the_field_send, publications.crosses, turns.crosses, versions.crosses)
+ruleset parts = (CachePadded.the_field_send, CachePadded.the_field_sync, publications.crosses, turns.crosses, versions.crosses)
 
 module _ (J : RattleType) (q : Queued.Ghosts J.Denot) (o : Opening.Ghosts J.Denot) (n : Naming.Ghosts J.Denot) where
+  box-send : IsSend (Mailbox.the_row J o n q)
+  box-send = search (told-send, parts) depth 60
+
+  box-sync : IsSync (Mailbox.the_row J o n q)
+  box-sync = search (told-send, parts) depth 60
+
   boxes-send : IsSend (Mailboxes.the_field J o n q).row
-  boxes-send = search (told-send, parts) depth 60
+  boxes-send = search (box-send, parts) depth 60
 
   boxes-sync : IsSync (Mailboxes.the_field J o n q).row
-  boxes-sync = search (told-send, parts) depth 60
+  boxes-sync = search (box-sync, parts) depth 60
 
   module _ (C G : RattleType) where
     shared-send : IsSend C → IsSend G → IsSend (Shared.the_row C J G o n q)

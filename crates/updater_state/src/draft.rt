@@ -1,6 +1,6 @@
 //! Entries of a version that is not yet published.
 ghost use Rattle.std.specs.Arc.{arc_value};
-ghost use Rattle.std.specs.Prelude.{◌≡◌, ◌≤◌, All, length, drop, IfOk, option_map};
+ghost use Rattle.std.specs.Prelude.{◌≡◌, ◌≤◌, All, length, drop, IfOk, OnOk, option_map};
 ghost use Rattle.snapshots.specs.Version.{entry_at};
 ghost use Rattle.updater_state.specs.Outcomes.{StoodAt, told};
 ghost use Rattle.updater_state.specs.Drafts.{draft_of, drafts_from, stands_of, all_drafts_stand, IsPublished};
@@ -94,24 +94,24 @@ fn draft_at(
     }))
 }
 
-/// The drafts of the entries behind a place.
-pub(crate) fn drafts_after(
+/// The drafts of the entries behind a place, in the place of those that were there.
+pub(crate) fn draft_after(
     alloc: Global,
     version: &Arc<Version, Global>,
     after: u64,
-) -> Result<Vec<Draft>, AllocError>
+    drafts: &mut Vec<Draft>,
+) -> Result<(), AllocError>
     requires { after ≤ length (arc_value version.now).entries }
-    ensures { IfOk result (λ drafts. drafts.items ≡ drafts_from (arc_value version.now) after (drop after (arc_value version.now).entries)) }
+    ensures { OnOk result (drafts.new.items ≡ drafts_from (arc_value version.now) after (drop after (arc_value version.now).entries)) }
 {
-    let end = version.place();
-    let mut drafts = Vec::with_capacity(alloc, (end - after) as usize)?;
-    for place in after..end {
+    drafts.clear();
+    for place in after..version.place() {
         let Some(draft) = draft_at(alloc, version, place + 1)? else {
             unreachable!()
         };
         drafts.push(draft)?;
     }
-    Ok(drafts)
+    Ok(())
 }
 
 /// The entry is in the history.
@@ -123,17 +123,17 @@ fn answer<J: Opening>(outcomes: &mut Outcomes<J>, draft: Draft, front: &Front<J>
     tell(outcomes, session, draft.into_outcome(front.again()));
 }
 
-/// Each entry is in the history.
+/// Each entry is in the history. The drafts leave their room.
 pub(crate) fn answer_all<J: Opening>(
     outcomes: &mut Outcomes<J>,
-    drafts: Vec<Draft>,
+    drafts: &mut Vec<Draft>,
     front: &Front<J>,
 )
-    requires { All (IsPublished J.base front.now) drafts.items }
-    ensures told { outcomes.new.items ≡ all_drafts_stand front.now outcomes.old.items drafts.items }
+    requires { All (IsPublished J.base front.now) drafts.old.items }
+    ensures told { outcomes.new.items ≡ all_drafts_stand front.now outcomes.old.items drafts.old.items }
     ensures count { length outcomes.new.items ≡ length outcomes.old.items }
 {
-    for draft in drafts {
+    for draft in drafts.drain(..) {
         answer(outcomes, draft, front);
     }
 }

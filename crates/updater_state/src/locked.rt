@@ -7,12 +7,12 @@ ghost use Rattle.updater_state.specs.State.{Puts, after_taking, GivesUpBatch};
 ghost use Rattle.updater_state.specs.Worlds.{IsEvent};
 ghost use Rattle.updater_state.specs.declared.fault.PutFault.TheVariants.{Full};
 
-use crate::draft::answer_all;
+use crate::draft::{Draft, answer_all};
 use crate::fault::PutFault;
 use crate::naming::Opening;
 use crate::outcome::Outcome;
 use crate::outcomes::{Outcomes, give_up_all, no_outcomes, take};
-use crate::publication::{Publication, publish, put_in_place};
+use crate::publication::{publish, put_in_place};
 use commands::{Config, Job};
 use job_queue::Consumer;
 use std::alloc::{AllocError, Global};
@@ -33,6 +33,10 @@ pub struct Core<R: Wait + Drop, J: Opening> {
     pub(crate) outcomes: Outcomes<J>,
     pub(crate) consumer: Consumer<J>,
     publisher: Publisher<R, J>,
+    /// The room that drafts take. There are none between two calls.
+    drafts: Vec<Draft>,
+    /// Whose jobs were popped since it was last asked who may have an outcome. It has room for each session once.
+    pub(crate) due: Vec<u16>,
 }
 
 impl<R: Wait + Drop, J: Opening> Drop for Core<R, J> {
@@ -48,6 +52,8 @@ impl<R: Wait + Drop, J: Opening> Drop for Core<R, J> {
             outcomes: _,
             consumer: _,
             publisher: _,
+            drafts: _,
+            due: _,
         } = self;
     }
 }
@@ -89,6 +95,8 @@ impl<R: Wait + Drop, J: Opening> Core<R, J> {
         let limits = config.limits();
         let batch = Vec::with_capacity(alloc, limits.gather as usize)?;
         let outcomes = no_outcomes(alloc, limits.sessions)?;
+        let drafts = Vec::with_capacity(alloc, limits.gather as usize)?;
+        let due = Vec::with_capacity(alloc, limits.sessions as usize)?;
         Ok(Core {
             alloc,
             gather: limits.gather,
@@ -100,6 +108,8 @@ impl<R: Wait + Drop, J: Opening> Core<R, J> {
             outcomes,
             consumer,
             publisher,
+            drafts,
+            due,
         })
     }
 
@@ -136,13 +146,17 @@ impl<R: Wait + Drop, J: Opening> Core<R, J> {
         if self.batch.len() as u64 > self.room() {
             return Err(PutFault::Full);
         }
-        let Publication { found, drafts } = publish(
+        let Ok(found) = publish(
             self.alloc,
             &self.book,
             &self.current,
             self.batch.as_slice(),
-        )?;
-        answer_all(&mut self.outcomes, drafts, found.front());
+            &mut self.drafts,
+        ) else {
+            self.drafts.clear();
+            return Err(PutFault::Memory);
+        };
+        answer_all(&mut self.outcomes, &mut self.drafts, found.front());
         put_in_place(&mut self.current, found);
         self.batch.clear();
         Ok(())

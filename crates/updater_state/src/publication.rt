@@ -7,7 +7,7 @@ ghost use Rattle.updater_state.specs.Outcomes.{Fate, all_stand};
 ghost use Rattle.updater_state.specs.Drafts.{all_drafts_stand, IsPublished};
 ghost use Rattle.updater_state.specs.State.{entries_after, published_with};
 
-use crate::draft::{Draft, drafts_after};
+use crate::draft::{Draft, draft_after};
 use commands::Job;
 use core::mem::replace;
 use std::alloc::{AllocError, Global};
@@ -15,38 +15,32 @@ use std::sync::Arc;
 use updater::apply_batch;
 use version_log::{Book, Naming, Published};
 
-/// What was published, with the drafts of its new entries.
-#[derive(Drop)]
-pub(crate) struct Publication<J: Naming> {
-    pub(crate) found: Published<J>,
-    pub(crate) drafts: Vec<Draft>,
-}
-
-/// Publishes the jobs, or nothing. The log's step is the last: what grows, grew before it.
+/// Publishes the jobs, or nothing, with the drafts of the new entries. The log's step is the last: what grows, grew
+/// before it.
 pub(crate) fn publish<J: Naming>(
     alloc: Global,
     book: &Book<J>,
     current: &Published<J>,
     jobs: &[Job],
-) -> Result<Publication<J>, AllocError>
+    drafts: &mut Vec<Draft>,
+) -> Result<Published<J>, AllocError>
     requires next { MayFollow (replay (base_of J.base) (newest current.now)) jobs.now }
     requires some { 0 < length jobs.now }
     requires room { length (newest current.now) + length jobs.now ≤ 4294967295 }
-    ensures found { IfOk result (λ p. p.found ≡ published_with J.base current.now jobs.now) }
-    ensures drafts { IfOk result (λ p. (outcomes : List (Option Fate)) → all_drafts_stand p.found outcomes p.drafts.items ≡ all_stand p.found (length (newest current.now)) outcomes (entries_after J.base current.now jobs.now)) }
-    ensures published { IfOk result (λ p. All (IsPublished J.base p.found) p.drafts.items) }
+    ensures found { IfOk result (λ found. found ≡ published_with J.base current.now jobs.now) }
+    ensures drafts { IfOk result (λ found. (outcomes : List (Option Fate)) → all_drafts_stand found outcomes drafts.new.items ≡ all_stand found (length (newest current.now)) outcomes (entries_after J.base current.now jobs.now)) }
+    ensures published { IfOk result (λ found. All (IsPublished J.base found) drafts.new.items) }
 {
     let _recalled = current.publication();
     let latest = current.version();
     let version = apply_batch(latest, jobs)?;
     let shared = Arc::new(alloc, version)?;
-    let drafts = drafts_after(alloc, &shared, latest.place())?;
+    draft_after(alloc, &shared, latest.place(), drafts)?;
     let mut front = current.front().again();
     if !front.publish(book, &shared) {
         return Err(AllocError);
     }
-    let found = Published::new(shared, front);
-    Ok(Publication { found, drafts })
+    Ok(Published::new(shared, front))
 }
 
 /// What was published is the version that was published last.

@@ -41,6 +41,13 @@ fn take_in<J: Opening>(
     tell(outcomes, session, Outcome::new(OutcomeKind::Dropped));
 }
 
+/// A session's job was popped. It takes no memory: a session that is not noted finds its outcome under the lock.
+fn note_due(due: &mut Vec<u16>, session: u16) {
+    if due.len() < due.capacity() {
+        due.push_reserved(session);
+    }
+}
+
 impl<R: Wait + Drop, J: Opening> Core<R, J> {
     /// Pops the job that waits longest: it goes last in the batch, or is dropped exactly where it is not
     /// its session's next call or the session has a job in the batch. It answers whether a job was
@@ -54,6 +61,7 @@ impl<R: Wait + Drop, J: Opening> Core<R, J> {
         let Some(job) = self.consumer.pop(rt, queue) else {
             return false;
         };
+        note_due(&mut self.due, job.seat.session());
         take_in(
             self.current.version(),
             &mut self.batch,
@@ -126,6 +134,13 @@ impl<R: Wait + Drop, J: Opening> Core<R, J> {
             outcome: outcome?,
             taken_count,
         })
+    }
+
+    /// A session whose job was popped, and which was not yet answered here: it may have an outcome.
+    pub fn next_due(&mut self) -> Option<u16>
+        ensures { self.new ≡ self.old }
+    {
+        self.due.pop()
     }
 
     /// Serves a session: rounds, at most so many, until the outcome of its last job is known, which it is

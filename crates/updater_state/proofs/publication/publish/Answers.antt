@@ -16,8 +16,8 @@ publish-requires-clause-longer g c =
     subst (λ (l : List (List Entry)). length (newest l) < length v.entries) (sym (c.again-front.ensures.same ∙ c.front.ensures.front))
     (longer v current (replay (base_of g.J.Naming.base) (newest current)) jobs (ap (λ (k : Chronicle). k.entries) made) c.requires.some)
 
-pub new-found-requires : goal.new-found-requires
-new-found-requires g c =
+pub new-requires-2 : goal.new-requires-2
+new-requires-2 g c =
     let v = arc_value c.in_ok-shared.shared in
     let made = applied g.J.Naming.base v c.version-latest.result.now c.args.current.now c.args.jobs.now (c.in_ok-shared.ensures.ok ∙ c.in_ok-version.ensures.all) c.version-latest.ensures.newest in
     let published = c.if-not-publish.ensures.published ∙ ap (λ (k : Chronicle). c.again-front.result ++ k.entries ∷ []) c.deref.ensures in
@@ -28,8 +28,8 @@ returns-clause-drafts g c =
     let v = arc_value c.in_ok-shared.shared in
     let current = c.args.current.now in
     let made = applied g.J.Naming.base v c.version-latest.result.now current c.args.jobs.now (c.in_ok-shared.ensures.ok ∙ c.in_ok-version.ensures.all) c.version-latest.ensures.newest in
-    drafts_told c.new-found.result v c.place.result (newest current) (entries_after g.J.Naming.base current c.args.jobs.now) c.in_ok-drafts.drafts.items
-    c.in_ok-drafts.ensures (ap (λ (k : Chronicle). k.entries) made) (c.place.ensures.place ∙ ap (λ (k : Chronicle). length k.entries) c.version-latest.ensures.newest)
+    drafts_told c.new-2.result v c.place.result (newest current) (entries_after g.J.Naming.base current c.args.jobs.now) c.draft_after.new.drafts.items
+    c.in_ok-draft_after.ensures (ap (λ (k : Chronicle). k.entries) made) (c.place.ensures.place ∙ ap (λ (k : Chronicle). length k.entries) c.version-latest.ensures.newest)
 
 pub returns-clause-published : goal.returns-clause-published
 returns-clause-published g c =
@@ -37,8 +37,8 @@ returns-clause-published g c =
     let current = c.args.current.now in
     let made = applied g.J.Naming.base v c.version-latest.result.now current c.args.jobs.now (c.in_ok-shared.ensures.ok ∙ c.in_ok-version.ensures.all) c.version-latest.ensures.newest in
     let published = c.if-not-publish.ensures.published ∙ ap (λ (k : Chronicle). c.again-front.result ++ k.entries ∷ []) c.deref.ensures in
-    drafts_published g.J.Naming.base c.new-found.result v c.place.result c.in_ok-drafts.drafts.items c.in_ok-drafts.ensures
-    (subst (IsNewest g.J.Naming.base v) (sym c.new-found.ensures.front) (is_newest g.J.Naming.base v c.again-front.result c.publish.new.self (ap (λ (k : Chronicle). k.base) made) published))
-    (one_more c.new-found.result current v.entries c.place.result
-    (c.new-found.ensures.front ∙ published ∙ ap (λ (l : List (List Entry)). l ++ v.entries ∷ []) (c.again-front.ensures.same ∙ c.front.ensures.front))
+    drafts_published g.J.Naming.base c.new-2.result v c.place.result c.draft_after.new.drafts.items c.in_ok-draft_after.ensures
+    (subst (IsNewest g.J.Naming.base v) (sym c.new-2.ensures.front) (is_newest g.J.Naming.base v c.again-front.result c.publish.new.self (ap (λ (k : Chronicle). k.base) made) published))
+    (one_more c.new-2.result current v.entries c.place.result
+    (c.new-2.ensures.front ∙ published ∙ ap (λ (l : List (List Entry)). l ++ v.entries ∷ []) (c.again-front.ensures.same ∙ c.front.ensures.front))
     (omega (arith, c.publication-recalled.ensures.few, c.place.ensures.place, ap (λ (k : Chronicle). length k.entries) c.version-latest.ensures.newest)))

@@ -7,15 +7,15 @@ use Rattle.updater_state.proofs.Swaps.{few_with}
 use Rattle.updater_state.proofs.Worlds.{put_is_event, put_nothing_is_event}
 use Rattle.updater_state.proofs.locked.Core.put.Goals as goal
 
-pub invariant_of-self : goal.invariant_of-self
-invariant_of-self g c =
+pub invariant_of-self-2 : goal.invariant_of-self-2
+invariant_of-self-2 g c =
     let old = c.self.invariant in (
       old.0,
-      omega (arith, old.1, c.clear.ensures.capacity),
+      omega (arith, old.1, c.clear-2.ensures.capacity),
       omega (arith, old.2, c.answer_all.ensures.count),
       few_with g.J.Naming.base g.J.Opening.config.max_places c.self.inside.current c.put_in_place.new.current c.self.inside.batch.items (search rules)
           (omega (arith, c.if-len-room.false, c.len.ensures, c.room.ensures, old.3, ap (λ (s : State). length (newest s.published)) c.self.view_is)),
-      subst (MayFollow (replay (base_of g.J.Naming.base) (newest c.put_in_place.new.current))) (sym c.clear.ensures.items) tt,
+      subst (MayFollow (replay (base_of g.J.Naming.base) (newest c.put_in_place.new.current))) (sym c.clear-2.ensures.items) tt,
       old.5,
       old.6,
     )
