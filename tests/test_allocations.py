@@ -3,12 +3,12 @@
     python3 tests/test_allocations.py
 
 A node of the map is one block and so is an entry, so calls have to ask for as many blocks as the nodes that they report and the
-entries that they insert: a copy that is not counted is seen. With every request refused a version still answers each read. With
-one request of a write or a compaction refused there is a receipt, or out of memory and no entry, and the next one has that
-call. With one request of an opening of a closed database refused it is opened, or out of memory and the next one is opened. A look
-is answered though its request is refused. With one request of a replication refused it is done, or out of memory and a new worker
-finishes it. `lib/refused_rows.py` does the same to rows of statements. The programs are probe_maps, probe_store, probe_threads,
-soak_replication and test_store, as the gate built them. It needs a C compiler.
+entries that they insert: a copy that is not counted is seen. With every request refused a version still answers each read, and the
+entries of its single edits are copied. With one request of a write or a compaction refused there is a receipt, or out of memory
+and no entry, and the next one has that call. With one request of an opening of a closed database refused it is opened, or out of
+memory and the next one is opened. A look is answered though its request is refused. With one request of a replication refused it is
+done, or out of memory and a new worker finishes it. `lib/refused_rows.py` does the same to rows of statements. The programs are probe_maps,
+probe_store, probe_threads, soak_replication and test_store, as the gate built them. It needs a C compiler.
 """
 import re
 import sys
@@ -26,6 +26,7 @@ DOCUMENTS = 1000
 READS = """\
 place {0}
 entries {0}
+entries copied {0}
 next call {1}
 revs limit 1000
 documents {0} {0}

@@ -23,7 +23,7 @@ pub(crate) fn put_command(
     ensures { OnOk result (string_bytes text.new ≡ string_bytes text.old ++ compact_text (command_data command.now)) }
 {
     match command.kind() {
-        CommandKind::Edits(edits) => put_bulk(text, alloc, edits, true),
+        CommandKind::Edits(edits) => put_bulk(text, alloc, edits.as_slice(), true),
         CommandKind::Merges(merges) => put_bulk(text, alloc, merges, false),
         CommandKind::PutLocal { id, named, body } => {
             put_local(text, alloc, id, *named, body.as_deref())

@@ -9,7 +9,7 @@ use crate::number::number_in;
 use crate::outcome::{are_merged, local_outcome_in, put_local_outcome};
 use crate::purge::read_named;
 use api_json::purged_text;
-use commands::{Command, CommandKind, Reply, ReplyKind};
+use commands::{Command, CommandKind, Reply, ReplyKind, ShortList};
 use json_profile::Json;
 use model::Refusal;
 use revision_id::RevId;
@@ -20,7 +20,7 @@ pub(crate) fn put_reply(text: &mut String, alloc: Global, reply: &Reply) -> Resu
     ensures { OnOk result (string_bytes text.new ≡ string_bytes text.old ++ compact_text (reply_data reply.now)) }
 {
     match reply.kind() {
-        ReplyKind::Wrote(outcomes) => put_list(text, alloc, outcomes),
+        ReplyKind::Wrote(outcomes) => put_list(text, alloc, outcomes.as_slice()),
         ReplyKind::WroteLocal(outcome) => put_local_outcome(text, *outcome),
         ReplyKind::Purged { purge_seq, removed } => {
             let purged = purged_text(alloc, *purge_seq, removed)?;
@@ -61,7 +61,7 @@ fn read_edited(alloc: Global, value: Json) -> Result<Option<Reply>, AllocError>
     let Some(outcomes) = read_list::<Result<RevId, Refusal>>(alloc, value)? else {
         return Ok(None);
     };
-    Ok(Some(Reply::new(ReplyKind::Wrote(outcomes))))
+    Ok(Some(Reply::new(ReplyKind::Wrote(ShortList::from_vec(outcomes)))))
 }
 
 /// What became of merges.
@@ -76,7 +76,7 @@ fn read_merged(alloc: Global, value: Json) -> Result<Option<Reply>, AllocError>
     if !are_merged(&outcomes) {
         return Ok(None);
     }
-    Ok(Some(Reply::new(ReplyKind::Wrote(outcomes))))
+    Ok(Some(Reply::new(ReplyKind::Wrote(ShortList::from_vec(outcomes)))))
 }
 
 /// What became of a write of a local document.

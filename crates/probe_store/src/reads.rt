@@ -1,6 +1,8 @@
-//! Every read of a version, none of which takes memory.
+//! Every read of a version, and copies of its entries, none of which takes memory.
 
+use commands::Copied;
 use snapshots::Version;
+use std::alloc::Global;
 use std::io;
 
 /// Prints what each read finds.
@@ -15,6 +17,7 @@ pub(crate) fn print_all(rt: &HostRuntime, version: &Version) -> io::Result<()> {
 fn print_history(rt: &HostRuntime, version: &Version) -> io::Result<()> {
     println!(rt; "place {}", version.place())?;
     println!(rt; "entries {}", count_entries(version))?;
+    println!(rt; "entries copied {}", count_copied(rt.alloc(), version))?;
     println!(rt; "next call {}", version.next_call(0))?;
     println!(rt; "revs limit {}", version.database().revs_limit())
 }
@@ -70,6 +73,19 @@ fn count_entries(version: &Version) -> u64 {
         }
     }
     found
+}
+
+/// How many entries can be copied.
+fn count_copied(alloc: Global, version: &Version) -> u64 {
+    let mut copied: u64 = 0;
+    for place in 0..version.place() {
+        if let Some(entry) = version.entry(place.saturating_add(1)) {
+            if entry.copy(alloc).is_ok() {
+                copied = copied.saturating_add(1);
+            }
+        }
+    }
+    copied
 }
 
 /// How many documents are found by their ids.

@@ -33,7 +33,7 @@ fn first_edit(alloc: Global, number: u64) -> Option<Command> {
         deleted: false,
         body: Arc::new(alloc, Body::empty(alloc)).ok()?,
     };
-    Command::edits(Vec::from_array(alloc, [edit]).ok()?)
+    Some(Command::edit(edit))
 }
 
 fn id_of(alloc: Global, number: u64) -> Option<DocId> {

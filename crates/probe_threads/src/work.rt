@@ -26,8 +26,7 @@ fn put(alloc: Global, id: &str) -> Option<Command>
         deleted: false,
         body: Arc::new(alloc, Body::empty(alloc)).ok()?,
     };
-    let command = Command::edits(Vec::from_array(alloc, [edit]).ok()?)?;
-    Some(command)
+    Some(Command::edit(edit))
 }
 
 /// What a write or a compaction is answered.

@@ -73,7 +73,7 @@ pub(crate) fn are_taken(reply: &Reply) -> bool
     ensures { result ≡ are_taken reply.now }
 {
     match reply.kind() {
-        ReplyKind::Wrote(replies) => are_ok(replies),
+        ReplyKind::Wrote(replies) => are_ok(replies.as_slice()),
         _ => false,
     }
 }

@@ -54,7 +54,7 @@ pub(crate) fn command_of(alloc: Global, act: Act) -> Option<Command> {
 }
 
 fn put_all(alloc: Global, id: DocId) -> Option<Command> {
-    Command::edits(Vec::from_array(alloc, [new_document(alloc, id)?]).ok()?)
+    Some(Command::edit(new_document(alloc, id)?))
 }
 
 /// The first edit of a document, with the body `{}`.
@@ -84,7 +84,7 @@ pub(crate) fn edit_over(
         deleted: false,
         body: Arc::new(alloc, body_of(alloc, body)?).ok()?,
     };
-    Command::edits(Vec::from_array(alloc, [edit]).ok()?)
+    Some(Command::edit(edit))
 }
 
 fn body_of(alloc: Global, text: &str) -> Option<Body> {

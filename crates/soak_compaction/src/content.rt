@@ -76,7 +76,7 @@ fn is_of(entry: &Entry, receipt: &Receipt) -> bool {
 
 fn replied(reply: &ReplyKind) -> Replied {
     match reply {
-        ReplyKind::Wrote(writes) if writes.iter().all(|write| write.is_ok()) => Replied::Wrote,
+        ReplyKind::Wrote(writes) if writes.as_slice().iter().all(Result::is_ok) => Replied::Wrote,
         ReplyKind::Purged { purge_seq, .. } => Replied::Purged(*purge_seq),
         ReplyKind::Done => Replied::Done,
         _ => Replied::Refused,

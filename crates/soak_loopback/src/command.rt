@@ -24,7 +24,7 @@ pub(crate) fn next_edit(
         deleted,
         body: Arc::new(alloc, body(alloc, version.place())?).ok()?,
     };
-    Command::edits(Vec::from_array(alloc, [edit]).ok()?)
+    Some(Command::edit(edit))
 }
 
 /// The revision of a document that wins.

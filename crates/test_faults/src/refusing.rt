@@ -55,7 +55,7 @@ fn first_edit(alloc: Global) -> Result<Command, Fail> {
         deleted: false,
         body: Arc::new(alloc, Body::empty(alloc))?,
     };
-    Ok(Command::edits(Vec::from_array(alloc, [edit])?).ok_or("few edits")?)
+    Ok(Command::edit(edit))
 }
 
 impl Viewer for Refusing {

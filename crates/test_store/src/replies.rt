@@ -18,7 +18,7 @@ pub(crate) fn push_last_reply(text: &mut String, version: &Version) -> Result<()
 
 pub(crate) fn push_reply(text: &mut String, reply: &Reply) -> Result<(), AllocError> {
     match reply.kind() {
-        ReplyKind::Wrote(writes) => push_writes(text, writes),
+        ReplyKind::Wrote(writes) => push_writes(text, writes.as_slice()),
         ReplyKind::WroteLocal(Ok(counter)) => write!(text, " local {counter}"),
         ReplyKind::WroteLocal(Err(refused)) => write!(text, " {}", refusal(*refused)),
         ReplyKind::Purged { purge_seq, removed } => {

@@ -54,8 +54,7 @@ fn edit(alloc: Global, id: DocId, named: Option<RevId>) -> Option<Command>
         deleted: false,
         body: Arc::new(alloc, Body::empty(alloc)).ok()?,
     };
-    let command = Command::edits(Vec::from_array(alloc, [edit]).ok()?)?;
-    Some(command)
+    Some(Command::edit(edit))
 }
 
 /// What a command of one write is answered: its revision, or why it is refused.
@@ -63,5 +62,5 @@ fn answer(reply: &ReplyKind) -> Option<Result<RevId, Refusal>> {
     let ReplyKind::Wrote(writes) = reply else {
         return None;
     };
-    Some(*writes.first()?)
+    Some(*writes.as_slice().first()?)
 }
