@@ -92,6 +92,7 @@ fn read_route(
 }
 
 /// Rejects a request that is not as its route asks.
+#[inline(always)]
 fn decide_by(asked: Result<Asked, Fault>) -> Result<Asked, Undecided>
     ensures { (checked : Checked _) → Decides asked checked → DecidesSo result (decided checked) }
 {
@@ -154,7 +155,7 @@ fn read_document_edit(alloc: Global, path: &str, query: &str, body: &[u8]) -> Re
     refuse_replication(&parameters)?;
     let rev = read_named_revision(&parameters)?;
     let edit = read_edit(alloc, id, rev, body)?;
-    one_edit(alloc, Form::Put, edit)
+    Ok(one_edit(Form::Put, edit))
 }
 
 /// DELETE of a document.
@@ -173,20 +174,14 @@ fn read_deletion(alloc: Global, path: &str, query: &str) -> Result<Asked, Fault>
         deleted: true,
         body,
     };
-    one_edit(alloc, Form::Delete, edit)
+    Ok(one_edit(Form::Delete, edit))
 }
 
 /// A command of one edit.
-fn one_edit(alloc: Global, form: Form, edit: Edit) -> Result<Asked, Fault>
-    ensures { Decides result (Ok (Asked.Command form (Edits (edit ∷ [])))) }
+fn one_edit(form: Form, edit: Edit) -> Asked
+    ensures { result ≡ Asked.Command form (Edits (edit ∷ [])) }
 {
-    let Ok(edits) = vec![in alloc; edit] else {
-        return Err(Fault::Memory);
-    };
-    let Some(command) = Command::edits(edits) else {
-        unreachable!()
-    };
-    Ok(Asked::Command(form, command))
+    Asked::Command(form, Command::edit(edit))
 }
 
 /// POST of a bulk of documents.
