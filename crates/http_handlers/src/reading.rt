@@ -3,11 +3,14 @@ ghost use Rattle.std.specs.Prelude.{◌≡◌, List, length, Ok, Some, IfOk, IsS
 ghost use Rattle.http_framing.specs.Input.{Requested};
 ghost use Rattle.http_framing.specs.Request as framing;
 ghost use Rattle.http_request.specs.Decide.{decide};
+ghost use Rattle.http_response.specs.Measured.{HasLen, IsLong};
+ghost use Rattle.http_response.specs.Pieces.{IsOpened};
 ghost use Rattle.http_response.specs.Texts.{answer_text};
 ghost use Rattle.http_response.specs.Told.{answer_told};
 ghost use Rattle.http_response.specs.declared.memory.MemoryFor.TheVariants as memory_for;
 ghost use Rattle.model.specs.History.{now};
 ghost use Rattle.model.specs.Answers.{answer_to};
+ghost use Rattle.model.specs.Query as model;
 ghost use Rattle.model.specs.Query.{Changes};
 ghost use Rattle.http_handlers.specs.Answers.{Answers};
 ghost use Rattle.http_handlers.specs.Deeds.{Deed};
@@ -26,7 +29,7 @@ use crate::setting::Setting;
 use crate::waiting::{has_changes, wait_for_changes};
 use changes_feed::answer;
 use http_request::{Asked, ChangesAsked, Extent, Feed, Since};
-use http_response::{Connection, Measured, MemoryFor, Response, measure};
+use http_response::{Connection, MemoryFor, Pieces, Response, long_len};
 use queries::{Answer, Query, QueryKind};
 use snapshots::Version;
 use std::alloc::AllocError;
@@ -71,13 +74,22 @@ fn reply_by_length(
     requires { IsSome (answer_told query.now found) }
     ensures { RepliesWith place closes query.now found result }
 {
-    let alloc = reserve.alloc();
-    let Ok(measured) = measure(alloc, place, connection_after(closes), query, found) else {
-        return Reply::Sent(Sent::no_memory(place, Extent::Whole, MemoryFor::Call));
-    };
-    match measured {
-        Measured::Long(pieces) => Reply::Long(Long { pieces, closes }),
-        Measured::Short(found) => Reply::Sent(sent_with(reserve, place, query, &found, closes)),
+    match long_len(reserve.alloc(), query, &found) {
+        Ok(Some(len)) => reply_in_pieces(reserve, place, found, len, closes),
+        Ok(None) => Reply::Sent(sent_with(reserve, place, query, &found, closes)),
+        Err(_) => Reply::Sent(Sent::no_memory(place, Extent::Whole, MemoryFor::Call)),
+    }
+}
+
+/// Gives an answer of revisions at this place, in pieces.
+fn reply_in_pieces(reserve: &Reserve, place: u64, found: Answer, len: usize, closes: bool) -> Reply
+    requires opened { IsOpened found }
+    ensures { (query : model.Query) → IsLong query found → HasLen query found len
+        → RepliesWith place closes query found result }
+{
+    match Pieces::new(reserve.alloc(), place, connection_after(closes), found, len) {
+        Ok(pieces) => Reply::Long(Long { pieces, closes }),
+        Err(_) => Reply::Sent(Sent::no_memory(place, Extent::Whole, MemoryFor::Call)),
     }
 }
 

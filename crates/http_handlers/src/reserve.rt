@@ -70,11 +70,16 @@ impl Reserve {
         true
     }
 
-    /// Takes back a block that was given up, where there is memory for it.
+    /// Takes back a block that was given up, if there is one, where there is memory for it.
     pub(crate) fn renew(&self) {
-        if self.missing.load(Ordering::SeqCst) == 0 {
-            return;
+        if self.missing.load(Ordering::Relaxed) > 0 {
+            self.take_back();
         }
+    }
+
+    /// Takes back one block.
+    #[cold]
+    fn take_back(&self) {
         let Ok(block) = Vec::with_capacity(self.alloc, BLOCK) else {
             return;
         };

@@ -6,7 +6,6 @@ ghost use Rattle.http_handlers.specs.Outcome.{after_closing};
 ghost use Rattle.http_handlers.specs.Response.{SaysLost, SendsDue};
 ghost use Rattle.http_handlers.specs.Replies.{SendsLong};
 
-use http_connection::write_response;
 use http_request::{ChangesAsked, Extent};
 use http_response::{Connection, Cut, MemoryFor, Pieces, Response, no_memory};
 use std::alloc::{AllocError, Global};
@@ -74,8 +73,8 @@ pub(crate) fn send<W: Sink>(writer: &mut W, sent: &Sent) -> Result<bool, Failed>
         (W.failed_writes writer.new) result }
 {
     writer.begins();
-    let (head, body) = sent.response.parts();
-    write_response(writer, head, body, sent.closes)
+    sent.response.write(writer)?;
+    Ok(sent.closes)
 }
 
 /// Writes a long answer, and answers whether the connection closes after it, as it also does where the

@@ -31,15 +31,13 @@ pub(crate) fn respond<X, S: Calls<X>>(
     let closes = request.closes();
     let extent = extent_of(request);
     setting.reserve.renew();
-    let Ok(asked) = understand(setting, request) else {
-        return Reply::Sent(Sent::no_memory(place, extent, MemoryFor::Call));
-    };
-    match asked {
-        Ok(asked) => carry_out(session, setting, asked, closes),
-        Err(refusal) => {
+    match understand(setting, request) {
+        Ok(Ok(asked)) => carry_out(session, setting, asked, closes),
+        Ok(Err(refusal)) => {
             let response = refused(place, connection_after(closes), extent, refusal);
             Reply::Sent(Sent { response, closes })
         }
+        Err(_) => Reply::Sent(Sent::no_memory(place, extent, MemoryFor::Call)),
     }
 }
 

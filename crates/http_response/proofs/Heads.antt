@@ -1,5 +1,5 @@
--- How long what is in a head is.
-use Rattle.std.proofs.Common.{◌≤◌, length, arith}
+-- What is in a head, and how long it is.
+use Rattle.std.proofs.Common.{◌≡◌, ℕ, ◌≤◌, List, ◌++◌, append_assoc, length, refl, arith}
 use Rattle.http_routing.specs.Routes.{methods_of, name_of}
 use Rattle.http_routing.specs.declared.routes.Method.{Method}
 use Rattle.http_routing.specs.declared.routes.Method.TheVariants as method
@@ -26,3 +26,9 @@ short_name method.Get = omega arith
 short_name method.Put = omega arith
 short_name method.Post = omega arith
 short_name method.Delete = omega arith
+
+-- the pieces of a head behind what is there
+pub put_behind : (before version status content len named place end allow connection : List ℕ)
+    → ((((((((((before ++ version) ++ status) ++ content) ++ len) ++ named) ++ place) ++ end) ++ allow) ++ connection) ++ end)
+    ≡ before ++ (((((((((version ++ status) ++ content) ++ len) ++ named) ++ place) ++ end) ++ allow) ++ connection) ++ end)
+put_behind before version status content len named place end allow connection = simp append_assoc refl

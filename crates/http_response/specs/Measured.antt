@@ -4,11 +4,7 @@ use Rattle.api_json.specs.Opened.{all_opened_data}
 use Rattle.model.specs.Query.{Query, OpenRevs, Answer, Opened}
 use Rattle.serde_json.specs.Written.{compact_text}
 use Rattle.http_response.specs.Pieces.{IsOpened, opened_bytes}
-use Rattle.http_response.specs.Texts.{answer_text}
 use Rattle.http_response.specs.Told.{answer_told}
-use Rattle.http_response.specs.declared.connection.Connection.{Connection}
-use Rattle.http_response.specs.declared.measured.Measured.{Measured}
-use Rattle.http_response.specs.declared.measured.Measured.TheVariants.{Long, Short}
 use Rattle.http_response.specs.declared.pieces.TheConstants.{PIECE}
 use Rattle.http_response.specs.declared.status.StatusCode.TheVariants as status
 
@@ -30,8 +26,3 @@ pub record HasLen (query : Query) (answer : Answer) (len : ℕ) : Type 0 where
   pub text : opened_text query answer ≡ Some (opened_bytes answer)
   pub told : answer_told query answer ≡ Some (status.Ok, opened_bytes answer)
   pub len_is : len ≡ length (opened_bytes answer)
-
--- the response to the query in pieces, where the answer is long; or else the answer, as it is
-abbrev pub IsMeasured : ℕ → Connection → Query → Answer → Measured → Type 0
-IsMeasured place connection query answer (Long pieces) = IsLong query answer × (Some pieces ≡ answer_text place connection query answer)
-IsMeasured place connection query answer (Short given) = (IsLong query answer → ⊥) × (given ≡ answer)

@@ -1,5 +1,5 @@
 //! The head of a response, which takes no memory.
-ghost use Rattle.std.specs.Prelude.{◌≡◌, ◌++◌, ◌+◌, ◌*◌, ◌≤◌, [], length, decimal};
+ghost use Rattle.std.specs.Prelude.{◌≡◌, ◌++◌, ◌+◌, ◌*◌, ◌≤◌, length, decimal};
 ghost use Rattle.std.specs.List.{flat_map};
 ghost use Rattle.arrayvec.specs.ArrayString.{array_string_len};
 ghost use Rattle.http_response.specs.declared.head.TheConstants.{HEAD_ROOM};
@@ -21,28 +21,34 @@ pub(crate) enum Allow {
     Methods(Route),
 }
 
-/// The head of a response with a body of so many bytes.
-pub(crate) fn head(
-    status: StatusCode,
-    len: usize,
-    place: u64,
-    allow: Allow,
-    connection: Connection,
-) -> ArrayString<HEAD_ROOM>
-    ensures { result.bytes ≡ head_text status len place allow connection }
+/// What the head of a response says.
+#[derive(Drop)]
+pub(crate) struct Head {
+    pub(crate) status: StatusCode,
+    /// The length of the body, also of one that is left out.
+    pub(crate) len: usize,
+    pub(crate) place: u64,
+    pub(crate) allow: Allow,
+    pub(crate) connection: Connection,
+}
+
+/// Writes a head.
+pub(crate) fn push_head<const ROOM: usize>(text: &mut ArrayString<ROOM>, head: &Head)
+    requires { array_string_len text.old + HEAD_ROOM ≤ ROOM }
+    ensures text { text.new.bytes ≡ text.old.bytes
+        ++ head_text head.now.status head.now.len head.now.place head.now.allow head.now.connection }
+    ensures short { array_string_len text.new ≤ array_string_len text.old + HEAD_ROOM }
 {
-    let mut head = ArrayString::new();
-    head.push_str("HTTP/1.1 ");
-    head.push_str(status.text());
-    head.push_str("\r\nContent-Type: application/json\r\nContent-Length: ");
-    push_number(&mut head, len as u64);
-    head.push_str("\r\nCouch-Place: ");
-    push_number(&mut head, place);
-    head.push_str("\r\n");
-    push_allow(&mut head, allow);
-    head.push_str(connection.line());
-    head.push_str("\r\n");
-    head
+    text.push_str("HTTP/1.1 ");
+    text.push_str(head.status.text());
+    text.push_str("\r\nContent-Type: application/json\r\nContent-Length: ");
+    push_number(text, head.len as u64);
+    text.push_str("\r\nCouch-Place: ");
+    push_number(text, head.place);
+    text.push_str("\r\n");
+    push_allow(text, head.allow);
+    text.push_str(head.connection.line());
+    text.push_str("\r\n");
 }
 
 /// Writes a number, of at most 20 digits.
@@ -57,8 +63,8 @@ pub(crate) fn push_number<const ROOM: usize>(text: &mut ArrayString<ROOM>, numbe
 
 /// Writes the line of the methods, if there is one.
 #[tactic(auto, using(crate::proofs::Heads::few_methods))]
-fn push_allow(head: &mut ArrayString<HEAD_ROOM>, allow: Allow)
-    requires { array_string_len head.old + 33 ≤ HEAD_ROOM }
+fn push_allow<const ROOM: usize>(head: &mut ArrayString<ROOM>, allow: Allow)
+    requires { array_string_len head.old + 33 ≤ ROOM }
     ensures line { head.new.bytes ≡ head.old.bytes ++ allow_line allow }
     ensures short { array_string_len head.new ≤ array_string_len head.old + 33 }
 {
@@ -72,8 +78,8 @@ fn push_allow(head: &mut ArrayString<HEAD_ROOM>, allow: Allow)
 
 /// Writes the names of methods, of at most 8 bytes each with what is between them.
 #[tactic(auto, using(crate::proofs::Heads::short_name))]
-fn push_methods(head: &mut ArrayString<HEAD_ROOM>, methods: &[Method])
-    requires { array_string_len head.old + 8 * length methods.now ≤ HEAD_ROOM }
+fn push_methods<const ROOM: usize>(head: &mut ArrayString<ROOM>, methods: &[Method])
+    requires { array_string_len head.old + 8 * length methods.now ≤ ROOM }
     ensures names { head.new.bytes ≡ head.old.bytes ++ listed methods.now }
     ensures short { array_string_len head.new ≤ array_string_len head.old + 8 * length methods.now }
 {
@@ -86,8 +92,8 @@ fn push_methods(head: &mut ArrayString<HEAD_ROOM>, methods: &[Method])
 
 /// Writes the names of more methods, each behind another.
 #[tactic(auto, using(crate::proofs::Heads::short_name))]
-fn push_more(head: &mut ArrayString<HEAD_ROOM>, methods: &[Method])
-    requires { array_string_len head.old + 8 * length methods.now ≤ HEAD_ROOM }
+fn push_more<const ROOM: usize>(head: &mut ArrayString<ROOM>, methods: &[Method])
+    requires { array_string_len head.old + 8 * length methods.now ≤ ROOM }
     ensures names { head.new.bytes ≡ head.old.bytes ++ flat_map next_listed methods.now }
     ensures short { array_string_len head.new ≤ array_string_len head.old + 8 * length methods.now }
 {

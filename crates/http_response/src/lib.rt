@@ -1,7 +1,8 @@
 //! The texts of responses.
 //!
 //! A response has a head, which names its length and the place of the history that it is given at,
-//! and a JSON text as its body. A head takes no memory, and neither does a body whose text is fixed.
+//! and a JSON text as its body. A head takes no memory, and is made when it is written; neither does a body take any
+//! whose text is fixed.
 //! `specs/Texts.antt` says each text byte by byte.
 #![tactic(auto)]
 
@@ -26,7 +27,7 @@ pub use broken::closing;
 pub use connection::Connection;
 pub use feed::{FEED_HEAD_ROOM, FEED_LAST_ROOM, feed_head, feed_last};
 pub use fixed::{refused, welcome};
-pub use measured::{Measured, measure};
+pub use measured::long_len;
 pub use memory::{MemoryFor, no_memory};
 pub use no_service::{Unavailable, service_unavailable};
 pub use pieces::{Cut, PIECE, Pieces};

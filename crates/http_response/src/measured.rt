@@ -1,48 +1,31 @@
 //! Which answers are long.
-ghost use Rattle.std.specs.Prelude.{◌≡◌, IfOk, IfSome, length, option_map};
+ghost use Rattle.std.specs.Prelude.{◌≡◌, IfNone, IfOk, IfSome, length, option_map};
 ghost use Rattle.queries.specs.Answer.{answer_of};
 ghost use Rattle.queries.specs.Query.{query_of};
-ghost use Rattle.http_response.specs.Measured.{HasLen, IsMeasured, opened_text};
+ghost use Rattle.http_response.specs.Measured.{HasLen, IsLong, opened_text};
 
-use crate::connection::Connection;
-use crate::pieces::{PIECE, Pieces};
+use crate::pieces::PIECE;
 use api_json::all_opened_len;
 use queries::{Answer, AnswerKind, Query, QueryKind};
 use std::alloc::{AllocError, Global};
 
-/// An answer by the length of its text.
-#[derive(Drop)]
-pub enum Measured {
-    /// The response with revisions that were asked for, whose text has more than [`PIECE`] bytes.
-    Long(Pieces),
-    /// Any other answer.
-    Short(Answer),
-}
-
-/// Makes a response in pieces of revisions that were asked for and are longer than a piece, and gives any
-/// other answer back.
+/// The length of the revisions that were asked for, where their text has more than [`PIECE`] bytes, so that the
+/// response is written in pieces.
 ///
 /// # Errors
 ///
 /// Out of memory, or the length is more than `usize::MAX`.
-#[tactic(auto, unfolding(crate::specs::Texts::answer_text))]
-pub fn measure(
-    alloc: Global,
-    place: u64,
-    connection: Connection,
-    query: &Query,
-    answer: Answer,
-) -> Result<Measured, AllocError>
-    ensures measured { IfOk result (IsMeasured place connection query.now answer) }
+pub fn long_len(alloc: Global, query: &Query, answer: &Answer) -> Result<Option<usize>, AllocError>
+    ensures long { IfOk result (λ found. IfSome found (λ len. IsLong query.now answer.now × HasLen query.now answer.now len)) }
+    ensures short { IfOk result (λ found. IfNone found (IsLong query.now answer.now → ⊥)) }
 {
     let Some(len) = opened_len(alloc, query.kind(), answer.kind())? else {
-        return Ok(Measured::Short(answer));
+        return Ok(None);
     };
     if len <= PIECE {
-        return Ok(Measured::Short(answer));
+        return Ok(None);
     }
-    let pieces = Pieces::new(alloc, place, connection, len, answer)?;
-    Ok(Measured::Long(pieces))
+    Ok(Some(len))
 }
 
 /// How long the text of the revisions is, where such are asked for and answered.

@@ -1,16 +1,19 @@
 //! A response that is written in pieces, as they are made.
-ghost use Rattle.std.specs.Prelude.{◌≡◌, ◌++◌, ℕ, List, IfOk, OnOk, string_bytes};
+ghost use Rattle.std.specs.Prelude.{◌≡◌, ◌++◌, ℕ, List, Some, IfOk, OnOk, string_bytes};
 ghost use Rattle.api_json.specs.Opened.{all_opened_data};
 ghost use Rattle.serde_json.specs.Written.{comma_if, compact_text};
 ghost use Rattle.streams.specs.Counts.{CountsFailure};
 ghost use Rattle.streams.specs.Writes.{Writes};
-ghost use Rattle.http_response.specs.Pieces.{CountsCut, IsOpened, Keeps, opened_bytes};
-ghost use Rattle.http_response.specs.Response.{head_text};
+ghost use Rattle.model.specs.Query.{Query};
+ghost use Rattle.http_response.specs.Measured.{HasLen};
+ghost use Rattle.http_response.specs.Pieces.{CountsCut, IsOpened, Keeps};
+ghost use Rattle.http_response.specs.Texts.{answer_text};
 
 use crate::connection::Connection;
-use crate::head::{Allow, head};
+use crate::head::{Allow, HEAD_ROOM, Head, push_head};
 use crate::status::StatusCode;
 use api_json::opened_text;
+use arrayvec::ArrayString;
 use document_json::put_comma;
 use queries::{Answer, AnswerKind, Document};
 use revision_id::RevId;
@@ -60,7 +63,7 @@ impl From<AllocError> for Cut {
 pub struct Pieces {
     /// The first piece, with room for [`PIECE`] bytes: the head.
     piece: String,
-    answer: Answer,
+    answer: Box<Answer>,
 }
 
 impl Drop for Pieces {
@@ -78,27 +81,37 @@ impl Model for Pieces {
 
     ghost Value = { List ℕ };
 
-    ghost view = { λ p. string_bytes p.piece ++ opened_bytes p.answer };
+    ghost view = { λ p. string_bytes p.piece ++ opened_bytes p.answer.value };
 
-    ghost invariant = { λ p. IsOpened p.answer };
+    ghost invariant = { λ p. IsOpened p.answer.value };
 }
 
 impl Pieces {
-    /// A whole response with an answer of this length. Memory for a piece is taken here.
-    pub(crate) fn new(
+    /// A whole response with the revisions of an answer, whose text is so long. Memory for a piece is taken here.
+    #[tactic(auto, unfolding(crate::specs::Texts::answer_text))]
+    pub fn new(
         alloc: Global,
         place: u64,
         connection: Connection,
-        len: usize,
         answer: Answer,
+        len: usize,
     ) -> Result<Pieces, AllocError>
-        requires { IsOpened answer }
-        ensures { IfOk result (λ pieces. pieces
-            ≡ head_text StatusCode.Ok len place Allow.Unsaid connection ++ opened_bytes answer) }
+        requires opened { IsOpened answer }
+        ensures response { (query : Query) → HasLen query answer len
+            → IfOk result (λ pieces. Some pieces ≡ answer_text place connection query answer) }
     {
-        let head = head(StatusCode::Ok, len, place, Allow::Unsaid, connection);
+        let mut head = ArrayString::<HEAD_ROOM>::new();
+        let said = Head {
+            status: StatusCode::Ok,
+            len,
+            place,
+            allow: Allow::Unsaid,
+            connection,
+        };
+        push_head(&mut head, &said);
         let mut piece = String::with_capacity(alloc, PIECE)?;
         piece.push_str(head.as_str())?;
+        let answer = Box::new(alloc, answer)?;
         Ok(Pieces { piece, answer })
     }
 

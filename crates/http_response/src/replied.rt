@@ -49,10 +49,10 @@ fn tell(
 {
     match (form, command, reply) {
         (_, CommandKind::Edits(edits), ReplyKind::Wrote(outcomes)) => {
-            tell_edits(alloc, form, edits, outcomes)
+            tell_edits(alloc, form, edits.as_slice(), outcomes.as_slice())
         }
         (Form::Whole, CommandKind::Merges(merges), ReplyKind::Wrote(outcomes)) => {
-            let refusals = merges_text(alloc, merges, outcomes)?;
+            let refusals = merges_text(alloc, merges, outcomes.as_slice())?;
             Ok(Some((StatusCode::Created, BodyText::Made(refusals))))
         }
         (_, CommandKind::PutLocal { id, .. }, ReplyKind::WroteLocal(outcome)) => {

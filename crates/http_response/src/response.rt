@@ -1,18 +1,28 @@
-//! A response: a head, which takes no memory, and a body, unless the request takes the head alone.
-ghost use Rattle.std.specs.Prelude.{◌≡◌, ◌++◌};
-ghost use Rattle.http_response.specs.Response.{bytes_of, response_text};
+//! A response: what its head says, and a body, unless the request takes the head alone.
+ghost use Rattle.std.specs.Prelude.{◌≡◌, ◌++◌, ◌≤◌, length};
+ghost use Rattle.streams.specs.Counts.{CountsFailure};
+ghost use Rattle.streams.specs.Writes.{Writes};
+ghost use Rattle.http_response.specs.declared.response.TheConstants.{SHORT_BODY};
+ghost use Rattle.http_response.specs.Response.{bytes_of, head_text, response_text};
 
 use crate::body::BodyText;
 use crate::connection::Connection;
-use crate::head::{Allow, HEAD_ROOM, head};
+use crate::head::{Allow, HEAD_ROOM, Head, push_head};
 use crate::status::StatusCode;
 use arrayvec::ArrayString;
 use http_request::Extent;
 use std::marker::Model;
+use streams::{Failed, Sink, write_all, write_both};
 
-/// A response. Clauses see its bytes.
+/// Room for a head and a short body.
+const JOINED_ROOM: usize = 512;
+
+/// The most bytes of a short body.
+const SHORT_BODY: usize = JOINED_ROOM - HEAD_ROOM;
+
+/// A response, whose head is made into text only when it is written. Clauses see its bytes.
 pub struct Response {
-    head: ArrayString<HEAD_ROOM>,
+    head: Head,
     body: BodyText,
 }
 
@@ -24,11 +34,12 @@ impl Drop for Response {
 
 impl Model for Response {
     ghost use Rattle.std.specs.Prelude.{ℕ, List, ◌++◌};
-    ghost use Rattle.http_response.specs.Response.{bytes_of};
+    ghost use Rattle.http_response.specs.Response.{bytes_of, head_text};
 
     ghost Value = { List ℕ };
 
-    ghost view = { λ r. r.head.bytes ++ bytes_of r.body };
+    ghost view = { λ r. head_text r.head.status r.head.len r.head.place r.head.allow r.head.connection
+        ++ bytes_of r.body };
 }
 
 impl Response {
@@ -43,7 +54,13 @@ impl Response {
     ) -> Response
         ensures { result ≡ response_text status place allow connection extent (bytes_of body) }
     {
-        let head = head(status, body.as_str().len(), place, allow, connection);
+        let head = Head {
+            status,
+            len: body.as_str().len(),
+            place,
+            allow,
+            connection,
+        };
         Response {
             head,
             body: body.taken(extent),
@@ -69,10 +86,42 @@ impl Response {
         )
     }
 
-    /// The head and the body.
-    pub fn parts(&self) -> (&str, &str)
-        ensures { result.0.now ++ result.1.now ≡ self.now }
+    /// Writes it: at once where it is short, as most are.
+    ///
+    /// # Errors
+    ///
+    /// A write failed. A beginning of the text, not all, may have been written.
+    pub fn write<W: Sink>(&self, writer: &mut W) -> Result<(), Failed>
+        ensures written { Writes (W.taken writer.old) (W.taken writer.new) result self.now }
+        ensures failures { CountsFailure (W.failed_writes writer.old) (W.failed_writes writer.new) result }
     {
-        (self.head.as_str(), self.body.as_str())
+        write_parts(writer, &self.head, self.body.as_str())
     }
+}
+
+/// Writes a head and a body.
+fn write_parts<W: Sink>(writer: &mut W, head: &Head, body: &str) -> Result<(), Failed>
+    ensures written { Writes (W.taken writer.old) (W.taken writer.new) result
+        (head_text head.now.status head.now.len head.now.place head.now.allow head.now.connection ++ body.now) }
+    ensures failures { CountsFailure (W.failed_writes writer.old) (W.failed_writes writer.new) result }
+{
+    if body.len() <= SHORT_BODY {
+        return write_joined(writer, head, body);
+    }
+    let mut text = ArrayString::<HEAD_ROOM>::new();
+    push_head(&mut text, head);
+    write_both(writer, text.as_str(), body)
+}
+
+/// Writes a head and a short body as one text.
+fn write_joined<W: Sink>(writer: &mut W, head: &Head, body: &str) -> Result<(), Failed>
+    requires short { length body.now ≤ SHORT_BODY }
+    ensures written { Writes (W.taken writer.old) (W.taken writer.new) result
+        (head_text head.now.status head.now.len head.now.place head.now.allow head.now.connection ++ body.now) }
+    ensures failures { CountsFailure (W.failed_writes writer.old) (W.failed_writes writer.new) result }
+{
+    let mut text = ArrayString::<JOINED_ROOM>::new();
+    push_head(&mut text, head);
+    text.push_str(body);
+    write_all(writer, text.as_str().as_bytes())
 }

@@ -10,14 +10,21 @@ use http_response::{
 use queries::{Answer, AnswerKind, Query, QueryKind};
 use std::alloc::Global;
 use std::test::Fail;
+use streams::Stream;
+use streams::scripted::ScriptedWriter;
 
-/// The head and the body as one text, or `none` where there is no response.
+/// The text that is written, or `none` where there is no response.
 fn text_of(alloc: Global, response: Option<&Response>) -> Result<String, Fail> {
     let Some(response) = response else {
         return Ok(String::from_str(alloc, "none")?);
     };
-    let (head, body) = response.parts();
-    Ok(format!(in alloc; "{head}{body}")?)
+    let mut writer = Stream::new(ScriptedWriter {
+        taken: Vec::new(alloc),
+        script: &[],
+    });
+    response.write(&mut writer)?;
+    let taken = writer.into_inner().taken;
+    Ok(String::from_utf8(taken)?)
 }
 
 /// The response to the command of one line in a form, with the reply of another.

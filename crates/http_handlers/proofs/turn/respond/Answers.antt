@@ -13,19 +13,19 @@ use Rattle.http_handlers.proofs.turn.respond.Goals as goal
 
 pub carry_out-requires : goal.carry_out-requires
 carry_out-requires g c =
-    subst (λ (decided : Decided Asked). IfOk decided HasForm) (sym (sym c.in-Ok-asked.is ∙ c.in-Ok.ensures.decides)) (decided-fits c.args.request.now)
-
-pub returns-in_default : goal.returns-in_default
-returns-in_default g c = answers_lost g.S.Viewer.goes g.S.Viewer.known _ _ _ c.place-place.ensures.place _ c.args.request.now c.extent_of-extent.result c.extent_of-extent.ensures c.no_memory.ensures
+    subst (λ (decided : Decided Asked). IfOk decided HasForm) (sym (sym c.in-Ok-Ok.field-0-is ∙ c.in-Ok-Ok.ensures.decides)) (decided-fits c.args.request.now)
 
 pub returns-in-Err : goal.returns-in-Err
-returns-in-Err g c =
+returns-in-Err g c = answers_lost g.S.Viewer.goes g.S.Viewer.known _ _ _ c.place-place.ensures.place _ c.args.request.now c.extent_of-extent.result c.extent_of-extent.ensures c.no_memory.ensures
+
+pub returns-in-Ok-Err : goal.returns-in-Ok-Err
+returns-in-Ok-Err g c =
     let place = c.place-place.result in
     let closes = c.closes-closes.result in
-    answers_decided g.S.Viewer.goes g.S.Viewer.known _ _ place c.place-place.ensures.place _ c.args.request.now closes (sym c.closes-closes.ensures) (Err c.in-Err.refusal) _
-    (sym c.in-Err.is ∙ c.in-Ok.ensures.decides) refl (
+    answers_decided g.S.Viewer.goes g.S.Viewer.known _ _ place c.place-place.ensures.place _ c.args.request.now closes (sym c.closes-closes.ensures) (Err c.in-Ok-Err.refusal) _
+    (sym c.in-Ok-Err.field-0-is ∙ c.in-Ok-Err.ensures.decides) refl (
       c.refused-response.ensures.text
-          ∙ ap (λ (k : Connection). refusal_text place k c.extent_of-extent.result c.in-Err.refusal) c.connection_after.ensures
-          ∙ ap (λ (e : Extent). refusal_text place (after_closing closes) e c.in-Err.refusal) c.extent_of-extent.ensures,
+          ∙ ap (λ (k : Connection). refusal_text place k c.extent_of-extent.result c.in-Ok-Err.refusal) c.connection_after.ensures
+          ∙ ap (λ (e : Extent). refusal_text place (after_closing closes) e c.in-Ok-Err.refusal) c.extent_of-extent.ensures,
       refl,
     )
