@@ -4,7 +4,7 @@
 
 An input of two requests fails behind each of its bytes: `couchd once` must have answered those that came whole, `couchd dump` have
 them in its history, and both end with status 1. The output fails behind each of its bytes too, and answers are written a byte at a
-time. What must be written is the reference's. `couchd serve` fails to write the response to a write behind its tenth byte: the entry
+time. Responses to requests that come together are one write, and none waits for more input. What must be written is the reference's. `couchd serve` fails to write the response to a write behind its tenth byte: the entry
 is there on the next connection. It needs a C compiler.
 """
 import hashlib
@@ -16,6 +16,7 @@ import tempfile
 
 from lib import shims
 from lib.checks import Checks
+from lib.messages import Messages
 from lib.programs import SECONDS, arguments
 from lib.requests import request
 from lib.server import Connection, Server
@@ -89,6 +90,27 @@ def written_pieces(command, data, env):
         return process.wait(SECONDS), pieces
 
 
+def writes_together(program):
+    """The responses to requests that come together are one write."""
+    for data in INPUTS:
+        wanted = once.run(data)[0]
+        found = written_pieces([program, "once"], data, None)
+        CHECKS.check(found == (SERVED, [wanted]), "%r is answered in the pieces %r", data, found)
+
+
+def writes_in_time(program):
+    """A response comes before more is sent."""
+    near, far = socket.socketpair()
+    far.settimeout(SECONDS)
+    responses = Messages(lambda: far.recv(65536))
+    with subprocess.Popen([program, "once"], stdin=subprocess.PIPE, stdout=near) as process:
+        for data, wanted in (PUT, 201), (request("GET", "/db/a"), 200):
+            process.stdin.write(data)
+            process.stdin.flush()
+            status, _ = responses.next_response()
+            CHECKS.check(status == wanted, "%r is answered %d", data, status)
+
+
 def writes_of_a_byte(program):
     with shims.environment("pieces") as env:
         for data in INPUTS:
@@ -116,6 +138,8 @@ def main():
     program = arguments(__doc__, "couchd").parse_args().couchd
     reads_that_fail(program)
     writes_that_fail(program)
+    writes_together(program)
+    writes_in_time(program)
     writes_of_a_byte(program)
     entry_of_a_cut_response(program)
     return CHECKS.report()

@@ -22,7 +22,7 @@ pub const SERVER_TURNS: u64 = 100_000;
 const SERVED: u8 = 0;
 
 /// Serves an empty database, whose history may have so many entries, to the connections of a listener, by so many
-/// workers (1 to 64), each with a session of its own, on these terms. Fewer workers than were asked for are said.
+/// workers (1 to 64), each with a session of its own, on these terms. Fewer workers than were asked for are said, none too.
 /// The answer is the exit status: 0 after the last connection, or 1 where no database was opened, memory for the
 /// routes was refused, or no worker can start besides the caller's.
 pub fn run_server<A: AllocGlobal + Threads + Wait + Clock + Sync, V: Watch + Sync>(
@@ -38,13 +38,18 @@ pub fn run_server<A: AllocGlobal + Threads + Wait + Clock + Sync, V: Watch + Syn
     ensures { ServesListener None workers max_places terms.connections result }
 {
     let config = server_config(workers, max_places);
+    let asked = workers as u64;
     let Some(workers) = Workers::new(rt, rt.alloc(), workers, watch) else {
         return server_status(false);
     };
     let Ok(opened) = Opened::new(rt.alloc(), config) else {
+        watch.few_workers(0, asked);
         return server_status(false);
     };
     let served = serve_opened::<Brand, &A, A, V>(listener, config, terms, &workers, rt, rt, opened);
+    if !served {
+        watch.few_workers(0, asked);
+    }
     server_status(served)
 }
 

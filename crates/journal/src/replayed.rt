@@ -1,25 +1,19 @@
 //! The database that the entries of a dump make, one after another.
-ghost use Rattle.std.specs.Prelude.{◌≡◌, ◌<◌, ◌≤◌, ◌⊎◌, ◌↔◌, ◌+◌, suc, Ok, Err, Some, true, false, IfErr, IfOk, MatchBool, OnOk};
+ghost use Rattle.std.specs.Prelude.{◌≡◌, ◌<◌, ◌≤◌, ◌⊎◌, ◌+◌, suc, Ok, Err, true, false, IfErr, IfOk, MatchBool, OnOk};
 ghost use Rattle.model.specs.Command as model;
 ghost use Rattle.model.specs.Database.{act};
 ghost use Rattle.model.specs.History.{now, largest_base, IsNext};
-ghost use Rattle.history_json.specs.Line.{IsLine};
-ghost use Rattle.history_dump.specs.Dump.{entry_line};
 ghost use Rattle.replay_cli.specs.Places.{last_place};
 ghost use Rattle.replay_cli.specs.Successors.{HasRoom};
 ghost use Rattle.journal.specs.Replaying.{IsNextLine, IsRefused};
 
 use commands::Entry;
-use history_json::read_line;
-use replay_cli::Verdict;
+use replay_cli::{Verdict, read_entry};
 use snapshots::{Database, Version};
 use std::alloc::{AllocError, Global};
 
 /// The largest update number, and the largest purge number, that a next epoch can begin from.
 const LARGEST_BASE: u64 = 4_611_686_018_427_387_904;
-
-/// The last place of a history.
-const LAST_PLACE: u64 = 4_294_967_295;
 
 /// The database that the entries of a dump make, how many they are, and, at the end, how many bytes the last line has where
 /// it was cut. The entries are not kept, so it takes memory for the database alone.
@@ -65,7 +59,7 @@ pub(crate) fn judge_line(
     ensures refused { IfOk result (λ judged. IfErr judged (IsRefused line.now replayed.old.database replayed.old.place)) }
 {
     let before = replayed.place;
-    let Some(entry) = entry_in(alloc, line, before)? else {
+    let Some(entry) = read_entry(alloc, line, before)? else {
         return Ok(Err(Verdict::UnreadableLine(before + 2)));
     };
     if !go_on(&mut replayed.database, &entry)? {
@@ -73,23 +67,6 @@ pub(crate) fn judge_line(
     }
     replayed.place = before + 1;
     Ok(Ok(()))
-}
-
-/// The entry of a line that has so many entries before it.
-fn entry_in(alloc: Global, line: &[u8], before: u64) -> Result<Option<Entry>, AllocError>
-    ensures { IfOk result (λ found. (entry : model.Entry) → (found ≡ Some entry)
-        ↔ ((before < last_place) × IsLine entry × (line.now ≡ entry_line entry))) }
-{
-    if before >= LAST_PLACE {
-        return Ok(None);
-    }
-    let Some((last, text)) = line.split_last() else {
-        return Ok(None);
-    };
-    if *last != b'\n' {
-        return Ok(None);
-    }
-    read_line(alloc, text)
 }
 
 /// Does the command of an entry, and answers whether that is the next one of a legal history: whether its seat is its

@@ -18,6 +18,7 @@ mod verdict;
 pub use audit::check;
 pub use dumps::dump;
 pub use next_base::run_base;
+pub use read::read_entry;
 pub use run::run_check;
 pub use successor::{NoSuccessor, successor_line};
 pub use verdict::Verdict;

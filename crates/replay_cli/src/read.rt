@@ -19,7 +19,7 @@ use snapshots::Version;
 use std::alloc::{AllocError, Global};
 
 /// The last place of a history.
-const LAST_PLACE: usize = 4_294_967_295;
+const LAST_PLACE: u64 = 4_294_967_295;
 
 /// The version that a dump's history begins with, and its entries, or else the number of the first unreadable line.
 pub(crate) fn read_dump(
@@ -53,7 +53,7 @@ fn read_entries(alloc: Global, text: &[u8]) -> Result<Result<Vec<Entry>, u64>, A
     let mut rest = text;
     while !rest.is_empty() {
         let (line, more) = cut_line(rest);
-        let Some(entry) = read_at(alloc, line, entries.len())? else {
+        let Some(entry) = read_entry(alloc, line, entries.len() as u64)? else {
             return Ok(Err(entries.len() as u64 + 2));
         };
         entries.push(entry)?;
@@ -63,7 +63,11 @@ fn read_entries(alloc: Global, text: &[u8]) -> Result<Result<Vec<Entry>, u64>, A
 }
 
 /// The entry of a line that has so many entries before it.
-fn read_at(alloc: Global, line: &[u8], before: usize) -> Result<Option<Entry>, AllocError>
+///
+/// # Errors
+///
+/// Memory was refused.
+pub fn read_entry(alloc: Global, line: &[u8], before: u64) -> Result<Option<Entry>, AllocError>
     ensures { IfOk result (λ found. (entry : model.Entry) → (found ≡ Some entry)
         ↔ ((before < last_place) × IsLine entry × (line.now ≡ entry_line entry))) }
 {

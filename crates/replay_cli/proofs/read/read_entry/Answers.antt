@@ -4,7 +4,7 @@ use Rattle.history_json.specs.Line.{IsLine, line_text}
 use Rattle.history_dump.specs.Dump.{entry_line}
 use Rattle.replay_cli.specs.Places.{last_place}
 use Rattle.history_dump.proofs.Snocs.{snocs}
-use Rattle.replay_cli.proofs.read.read_at.Goals as goal
+use Rattle.replay_cli.proofs.read.read_entry.Goals as goal
 
 -- the line with its line feed is read where the line is
 fed : {F : Type 0} (read : Result (Option Entry) F) (line text : List ℕ) (last before : ℕ) → before < last_place → line ≡ text ++ last ∷ [] → last ≡ 10
