@@ -18,9 +18,9 @@ from lib.programs import arguments, memory
 from lib.requests import request
 
 FIRST, ALL = 20000, 100000  # overwrites after which the memory is read
-# An overwrite keeps 336 bytes: the history's entry, with its command and its reply. A tenth more is less than the 64 bytes that a
+# An overwrite keeps 240 bytes: the history's entry, with its command and its reply. A tenth more is less than the 64 bytes that a
 # leaked node of a map takes.
-MOST = 369
+MOST = 264
 
 
 def overwrites(count):
