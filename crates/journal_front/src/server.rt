@@ -44,7 +44,10 @@ pub fn run_kept<
     let workers = Workers::new(rt, rt.alloc(), service.workers + 1, service.notices)?;
     let mut epoch = first;
     for _ in rt.forever() {
-        let (journal, next) = serve_epoch(service, &workers, epoch, epochs, rt)?;
+        let Some((journal, next)) = serve_epoch(service, &workers, epoch, epochs, rt) else {
+            service.notices.few_workers(0, service.workers as u64);
+            return None;
+        };
         let Some(next) = next else {
             return Some(journal);
         };

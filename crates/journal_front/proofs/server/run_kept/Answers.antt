@@ -14,9 +14,9 @@ pub loop-preserved : goal.loop-preserved
 loop-preserved g c =
     let config = server_config (c.args.service.now.workers + 1) c.args.service.now.max_places in
     let ended = subst (λ (next : Option _). EndsEpoch config (λ base. IsKeptIn g.F.Appended.told base) (awaits c.args.service.now.policy) server_turns c.args.service.now.terms.connections
-    c.loop.epoch.version.base c.in_ok-journal.journal (option_map (λ e. e.version.base) next)) c.in-Some-next.is c.in_ok-journal.ensures in (
-      c.loop.invariant.0 ++ c.in_ok-journal.journal ∷ [],
+    c.loop.epoch.version.base c.in-Some-serve_epoch.journal (option_map (λ e. e.version.base) next)) c.in-Some-next.is c.in-Some-serve_epoch.ensures in (
+      c.loop.invariant.0 ++ c.in-Some-serve_epoch.journal ∷ [],
       FoldsTo-push
           (GoesOnAfter config (λ base. IsKeptIn g.F.Appended.told base) (awaits c.args.service.now.policy) server_turns c.args.service.now.terms.connections)
-          c.args.first.version.base c.loop.invariant.0 c.loop.epoch.version.base c.in_ok-journal.journal c.in-Some-next.next.version.base c.loop.invariant.1 ended,
+          c.args.first.version.base c.loop.invariant.0 c.loop.epoch.version.base c.in-Some-serve_epoch.journal c.in-Some-next.next.version.base c.loop.invariant.1 ended,
     )
