@@ -37,8 +37,30 @@ def edits(count):
     return b"".join(found)
 
 
+# Documents, and texts that are none for each reason.
+TEXTS = [
+    b'{"t":"\\u00e9\\n","n":-9223372036854775808,"t":[{"a":null}]}',
+    b'{"n":1.0}',
+    b'{"n":-0}',
+    b'{"n":1e400}',
+    b'{"n":1',
+    b'{"n":1}{}',
+    b'{"t":"\xff"}',
+    b"[" * 72 + b"]" * 72,
+    b"[" * 127 + b"]" * 127,
+    b"[" * 128 + b"]" * 128,
+]
+
+
+def padded(sizes):
+    """Each of the texts at each of these sizes, in bytes."""
+    numbered = enumerate(text.ljust(size) for text in TEXTS for size in sizes)
+    return b"".join(request("PUT", "/db/t%d" % n, text) + request("GET", "/db/t%d" % n) for n, text in numbered)
+
+
 def inputs():
     get = request("GET", "/db/a")
+    yield "texts of a kilobyte and about", padded([1000, 1023, 1024, 1025, 2048])
     yield "the largest body", request("PUT", "/db/a", filled(b"{", b" ", b"}")) + get
     yield "the largest text", request("PUT", "/db/a", filled(b'{"t":"', b"\xc3\xa9", b'"}')) + get
     yield "the longest list", request("PUT", "/db/a", filled(b'{"n":[1', b",9223372036854775807", b"]}")) + get
