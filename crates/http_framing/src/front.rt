@@ -16,7 +16,7 @@ use httparse::spans::{
 };
 use httparse::{Error, Status};
 
-/// The headers of a head that is read with a small room, which is soon cleared.
+/// How many headers a head is first read with: less room to clear than for [`HEADER_LIMIT`].
 const USUAL_HEADERS: usize = 16;
 
 /// Where the parts of a request lie in the bytes that begin with it.

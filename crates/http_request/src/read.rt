@@ -1,5 +1,5 @@
 //! What a request asks: its route, its method, and then what the route says.
-ghost use Rattle.std.specs.Prelude.{◌≡◌, [], ◌∷◌, Ok, IfOk};
+ghost use Rattle.std.specs.Prelude.{◌≡◌, [], ◌∷◌, IfOk};
 ghost use Rattle.model.specs.Command.{Edits};
 ghost use Rattle.http_request.specs.Decide.{asked_of, decide, delete_document, get_document, method_in, method_of, post_bulk, post_purge, post_revs_diff, put_document, put_purged_infos_limit, put_revs_limit, route_in};
 ghost use Rattle.document_json.specs.Steps.{Checked, Decides};

@@ -20,7 +20,7 @@ pub(crate) struct Rows {
 }
 
 impl Rows {
-    /// No nodes, with room for so many of them, up to as many as are kept together.
+    /// No nodes, with room for so many of them, up to one more than are kept together: a piece is split when that one is in it.
     pub(crate) fn with_room(alloc: Global, nodes: usize) -> Result<Rows, AllocError>
         ensures nodes { IfOk result (λ r. nodes_of r ≡ []) }
         ensures filled { IfOk result (λ r. AreFilled (lists_of r.older.items)) }

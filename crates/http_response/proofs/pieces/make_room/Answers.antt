@@ -1,4 +1,4 @@
-use Rattle.std.proofs.Common.{◌≡◌, drop, take, string_bytes, subst}
+use Rattle.std.proofs.Common.{drop, take, string_bytes, subst}
 use Rattle.std.specs.Io.KnownBytes.{Appends}
 use Rattle.http_response.proofs.PiecedTexts.{keeps_rest, none_on_err}
 use Rattle.http_response.proofs.pieces.make_room.Goals as goal
