@@ -1,5 +1,5 @@
 //! What answers requests.
-ghost use Rattle.std.specs.Prelude.{◌≡◌, ◌++◌, IfOk, is_ok};
+ghost use Rattle.std.specs.Prelude.{◌≡◌, IfOk, is_ok};
 ghost use Rattle.streams.specs.Counts.{CountsFailure};
 ghost use Rattle.streams.specs.Writes.{Writes};
 ghost use Rattle.http_framing.specs.Input.{Requested, Refused};
@@ -7,7 +7,7 @@ ghost use Rattle.http_connection.specs.Turn.{Turn, TakesTurn};
 
 use http_framing::FramingFault;
 use http_framing::request::Request;
-use streams::{Failed, Sink, write_both};
+use streams::{Failed, Sink};
 
 /// What answers the requests of a connection, in a context that stays the same.
 ///
@@ -55,25 +55,4 @@ pub trait Service<C> {
             × (turn.whole ≡ is_ok result) }
         ensures failures { CountsFailure (W.failed_writes writer.old)
             (W.failed_writes writer.new) result };
-}
-
-/// Writes a response that is at hand, and passes on whether the connection closes after it.
-///
-/// # Errors
-///
-/// A write failed. A beginning of the response may have been written.
-pub fn write_response<W: Sink>(
-    writer: &mut W,
-    head: &str,
-    body: &str,
-    closes: bool,
-) -> Result<bool, Failed>
-    ensures written { Writes (W.taken writer.old) (W.taken writer.new) result
-        (head.now ++ body.now) }
-    ensures closes { IfOk result (λ c. c ≡ closes) }
-    ensures failures { CountsFailure (W.failed_writes writer.old)
-        (W.failed_writes writer.new) result }
-{
-    write_both(writer, head, body)?;
-    Ok(closes)
 }

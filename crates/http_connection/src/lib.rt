@@ -9,7 +9,7 @@ mod outcome;
 mod turns;
 mod window;
 
-pub use answering::{Service, write_response};
+pub use answering::Service;
 pub use outcome::{Cause, Ended};
 pub use turns::serve;
 pub use window::Window;

@@ -108,11 +108,14 @@ impl Window {
         Ok(true)
     }
 
-    /// Moves what is kept to the front.
+    /// Moves what is kept to the front, unless it is there.
     fn compact(&mut self)
         ensures bytes { self.new.bytes ≡ self.old.bytes }
         ensures room { self.new.room + length self.old.bytes ≡ request_limit }
     {
+        if self.start == 0 {
+            return;
+        }
         let len = self.end - self.start;
         self.bytes.copy_within(self.start..self.end, 0);
         self.start = 0;

@@ -1,13 +1,16 @@
 //! Connections of a service that echoes targets.
+ghost use Rattle.std.specs.Prelude.{◌≡◌, ◌++◌, IfOk};
+ghost use Rattle.streams.specs.Counts.{CountsFailure};
+ghost use Rattle.streams.specs.Writes.{Writes};
 
 use crate::scripts::{json, steps};
-use http_connection::{Service, Window, serve, write_response};
+use http_connection::{Service, Window, serve};
 use http_framing::FramingFault;
 use http_framing::request::Request;
 use std::alloc::Global;
 use std::test::Fail;
 use streams::scripted::{ScriptedReader, ScriptedWriter, Step};
-use streams::{Failed, Sink, Source, Stream, write_all};
+use streams::{Failed, Sink, Source, Stream, write_all, write_both};
 
 /// Answers each request by its target.
 #[derive(Drop)]
@@ -33,6 +36,27 @@ impl Service<()> for Echo {
     ) -> Result<(), Failed> {
         write_all(writer, b"refused")
     }
+}
+
+/// Writes a response that is at hand, and passes on whether the connection closes after it.
+///
+/// # Errors
+///
+/// A write failed. A beginning of the response may have been written.
+fn write_response<W: Sink>(
+    writer: &mut W,
+    head: &str,
+    body: &str,
+    closes: bool,
+) -> Result<bool, Failed>
+    ensures written { Writes (W.taken writer.old) (W.taken writer.new) result
+        (head.now ++ body.now) }
+    ensures closes { IfOk result (λ c. c ≡ closes) }
+    ensures failures { CountsFailure (W.failed_writes writer.old)
+        (W.failed_writes writer.new) result }
+{
+    write_both(writer, head, body)?;
+    Ok(closes)
 }
 
 /// Serves a text that is written as JSON, and reports how many requests were answered and why it ended,
