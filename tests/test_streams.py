@@ -4,7 +4,8 @@
 
 An input of two requests fails behind each of its bytes: `couchd once` must have answered those that came whole, `couchd dump` have
 them in its history, and both end with status 1. The output fails behind each of its bytes too, and answers are written a byte at a
-time. Responses to requests that come together are one write, and none waits for more input. What must be written is the reference's. `couchd serve` fails to write the response to a write behind its tenth byte: the entry
+time; where it fails once, the run ends and says so. Responses to requests that come together are one write, of 16 kB at most, and none
+waits for more input. What must be written is the reference's. `couchd serve` fails to write the response to a write behind its tenth byte: the entry
 is there on the next connection. It needs a C compiler.
 """
 import hashlib
@@ -27,7 +28,9 @@ SERVED, FAILED = 0, 1
 UNWRITTEN = b"couchd: standard output can't be written\n"
 
 PUT = request("PUT", "/db/a", "{}")
-INPUTS = [PUT, PUT + PUT, PUT + request("GET", "/db/a")]
+GET = request("GET", "/db/a")
+INPUTS = [PUT, PUT + PUT, PUT + GET]
+HELD = 16384  # bytes of responses that are held back, the most
 
 CHECKS = Checks()
 
@@ -98,13 +101,31 @@ def writes_together(program):
         CHECKS.check(found == (SERVED, [wanted]), "%r is answered in the pieces %r", data, found)
 
 
+def writes_of_much(program):
+    """More responses than are held back."""
+    data = PUT + GET * 400
+    status, pieces = written_pieces([program, "once"], data, None)
+    wanted = once.run(data)[0]
+    CHECKS.check((status, b"".join(pieces)) == (SERVED, wanted), "%d bytes of responses are written as %d others", len(wanted), sum(map(len, pieces)))
+    lengths = [len(piece) for piece in pieces]
+    CHECKS.check(max(lengths) <= HELD < len(wanted), "%d bytes of responses are written in pieces of %s", len(wanted), lengths)
+
+
+def write_that_fails_once(program):
+    """A write that fails before more is read ends the run, though what it was to write can be written at the end."""
+    with shims.environment("once") as env, subprocess.Popen([program, "once"], stdin=subprocess.PIPE, stdout=subprocess.PIPE, stderr=subprocess.PIPE, env=env) as process:
+        output, errors = process.communicate(PUT + GET, timeout=SECONDS)
+        found = process.returncode, output, errors
+        CHECKS.check(found == (FAILED, once.run(PUT + GET)[0], UNWRITTEN), "a first write that failed, and a second that did not: %r", found)
+
+
 def writes_in_time(program):
     """A response comes before more is sent."""
     near, far = socket.socketpair()
     far.settimeout(SECONDS)
     responses = Messages(lambda: far.recv(65536))
     with subprocess.Popen([program, "once"], stdin=subprocess.PIPE, stdout=near) as process:
-        for data, wanted in (PUT, 201), (request("GET", "/db/a"), 200):
+        for data, wanted in (PUT, 201), (GET, 200):
             process.stdin.write(data)
             process.stdin.flush()
             status, _ = responses.next_response()
@@ -139,6 +160,8 @@ def main():
     reads_that_fail(program)
     writes_that_fail(program)
     writes_together(program)
+    writes_of_much(program)
+    write_that_fails_once(program)
     writes_in_time(program)
     writes_of_a_byte(program)
     entry_of_a_cut_response(program)

@@ -1,7 +1,7 @@
 //! Output that is held back while more input is at hand.
 
 use std::alloc::Global;
-use std::cell::RefCell;
+use std::cell::{Cell, RefCell};
 use std::io::{self, BufWriter, ErrorKind, Read, Write};
 
 /// So many bytes are held back at most.
@@ -12,6 +12,8 @@ const ROOM: usize = 16 * 1024;
 #[derive(Drop)]
 pub(crate) struct Held<W: Write + Drop> {
     output: RefCell<BufWriter<W>>,
+    /// Whether a write of what was held back has failed.
+    failed: Cell<bool>,
 }
 
 /// The end of it that is written.
@@ -37,6 +39,7 @@ impl<W: Write + Drop> Held<W> {
         let output = BufWriter::with_capacity(alloc, ROOM, writer)?;
         Ok(Held {
             output: RefCell::new(output),
+            failed: Cell::new(false),
         })
     }
 
@@ -51,11 +54,20 @@ impl<W: Write + Drop> Held<W> {
     }
 
     /// Writes what is held back.
+    ///
+    /// # Errors
+    ///
+    /// A write failed, this one or one before it.
     pub(crate) fn release(&self) -> io::Result<()> {
         let Ok(mut output) = self.output.try_borrow_mut() else {
             return Err(io::Error::from(ErrorKind::Other));
         };
-        output.flush()
+        if self.failed.get() {
+            return Err(io::Error::from(ErrorKind::Other));
+        }
+        let released = output.flush();
+        self.failed.set(released.is_err());
+        released
     }
 }
 

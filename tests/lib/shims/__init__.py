@@ -3,6 +3,7 @@
     refuse    counts requests for memory, and refuses those that it is asked to
     pieces    lets each write move one byte
     cut       fails the first response over a socket behind its tenth byte
+    once      fails the first write to standard output
 """
 import contextlib
 import os
