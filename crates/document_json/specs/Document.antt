@@ -108,14 +108,6 @@ named_once same (Some first) (Some second) = and_then (check (same first second)
 abbrev pub flag_in : Option Data → Bool
 flag_in value = unwrap_or (option_and_then as_bool value) false
 
--- the document of a body, with no special member that is unknown
--- CouchDB: PUT /{db}/{docid}
-abbrev pub document_of : List ℕ → Checked Parts
-document_of body =
-    and_then (json_of body) (λ value.
-    and_then (parts_in value) (λ found.
-    known_document_in found))
-
 -- the revision that a parameter and the document name, where the document has this id
 -- CouchDB: PUT /{db}/{docid}, "rev"
 abbrev pub revision_of : Id → Option Rev → Parts → Checked (Option Rev)
@@ -134,7 +126,4 @@ edit_found id rev found =
 -- the edit of the document that the path and the parameters name
 -- CouchDB: PUT /{db}/{docid}
 abbrev pub edit_of : Id → Option Rev → List ℕ → Checked Edit
-edit_of id rev body =
-    and_then (document_of body) (λ parts.
-    and_then (revision_of id rev parts) (λ named.
-    Ok (record { id = id; named = named; deleted = flag_in parts.deleted; body = parts.body })))
+edit_of id rev body = and_then (json_of body) (λ value. edit_found id rev (parts_in value))
