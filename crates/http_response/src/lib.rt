@@ -1,8 +1,8 @@
 //! The texts of responses.
 //!
 //! A response has a head, which names its length and the place of the history that it is given at,
-//! and a JSON text as its body. A head takes no memory, and is made when it is written; neither does a body take any
-//! whose text is fixed.
+//! and a JSON text as its body. Neither a head nor a body with a fixed text allocates. The head of a [`Response`]
+//! becomes text when it is written, and that of [`Pieces`] when they are made.
 //! `specs/Texts.antt` says each text byte by byte.
 #![tactic(auto)]
 

@@ -6,7 +6,8 @@ ghost use Rattle.streams.specs.Counts.{CountsFailure};
 ghost use Rattle.streams.specs.Writes.{Writes};
 ghost use Rattle.model.specs.Query.{Query};
 ghost use Rattle.http_response.specs.Measured.{HasLen};
-ghost use Rattle.http_response.specs.Pieces.{CountsCut, IsOpened, Keeps};
+ghost use Rattle.http_response.specs.Pieces.{CountsCut, IsOpened, Keeps, opened_bytes};
+ghost use Rattle.http_response.specs.Response.{head_text};
 ghost use Rattle.http_response.specs.Texts.{answer_text};
 
 use crate::connection::Connection;
@@ -87,7 +88,12 @@ impl Model for Pieces {
 }
 
 impl Pieces {
-    /// A whole response with the revisions of an answer, whose text is so long. Memory for a piece is taken here.
+    /// A whole response with the revisions of an answer. `len` is the length of the whole answer as text, in bytes:
+    /// the head says it as it is given. Memory for a piece is taken here.
+    ///
+    /// # Errors
+    ///
+    /// Out of memory.
     #[tactic(auto, unfolding(crate::specs::Texts::answer_text))]
     pub fn new(
         alloc: Global,
@@ -97,6 +103,8 @@ impl Pieces {
         len: usize,
     ) -> Result<Pieces, AllocError>
         requires opened { IsOpened answer }
+        ensures bytes { IfOk result (λ pieces. pieces
+            ≡ head_text StatusCode.Ok len place Allow.Unsaid connection ++ opened_bytes answer) }
         ensures response { (query : Query) → HasLen query answer len
             → IfOk result (λ pieces. Some pieces ≡ answer_text place connection query answer) }
     {

@@ -15,10 +15,10 @@ use std::marker::Model;
 use streams::{Failed, Sink, write_all, write_both};
 
 /// Room for a head and a short body.
-const JOINED_ROOM: usize = 512;
+const SHORT_ROOM: usize = 512;
 
 /// The most bytes of a short body.
-const SHORT_BODY: usize = JOINED_ROOM - HEAD_ROOM;
+const SHORT_BODY: usize = SHORT_ROOM - HEAD_ROOM;
 
 /// A response, whose head is made into text only when it is written. Clauses see its bytes.
 pub struct Response {
@@ -86,7 +86,7 @@ impl Response {
         )
     }
 
-    /// Writes it: at once where it is short, as most are.
+    /// Writes it, as one text where it is short, as most are.
     ///
     /// # Errors
     ///
@@ -106,7 +106,7 @@ fn write_parts<W: Sink>(writer: &mut W, head: &Head, body: &str) -> Result<(), F
     ensures failures { CountsFailure (W.failed_writes writer.old) (W.failed_writes writer.new) result }
 {
     if body.len() <= SHORT_BODY {
-        return write_joined(writer, head, body);
+        return write_short(writer, head, body);
     }
     let mut text = ArrayString::<HEAD_ROOM>::new();
     push_head(&mut text, head);
@@ -114,13 +114,13 @@ fn write_parts<W: Sink>(writer: &mut W, head: &Head, body: &str) -> Result<(), F
 }
 
 /// Writes a head and a short body as one text.
-fn write_joined<W: Sink>(writer: &mut W, head: &Head, body: &str) -> Result<(), Failed>
+fn write_short<W: Sink>(writer: &mut W, head: &Head, body: &str) -> Result<(), Failed>
     requires short { length body.now ≤ SHORT_BODY }
     ensures written { Writes (W.taken writer.old) (W.taken writer.new) result
         (head_text head.now.status head.now.len head.now.place head.now.allow head.now.connection ++ body.now) }
     ensures failures { CountsFailure (W.failed_writes writer.old) (W.failed_writes writer.new) result }
 {
-    let mut text = ArrayString::<JOINED_ROOM>::new();
+    let mut text = ArrayString::<SHORT_ROOM>::new();
     push_head(&mut text, head);
     text.push_str(body);
     write_all(writer, text.as_str().as_bytes())
