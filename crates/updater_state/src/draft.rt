@@ -1,6 +1,6 @@
 //! Entries of a version that is not yet published.
 ghost use Rattle.std.specs.Arc.{arc_value};
-ghost use Rattle.std.specs.Prelude.{◌≡◌, ◌≤◌, All, length, drop, IfOk, OnOk, option_map};
+ghost use Rattle.std.specs.Prelude.{◌≡◌, ◌≤◌, [], All, length, drop, IfOk, OnOk, option_map};
 ghost use Rattle.snapshots.specs.Version.{entry_at};
 ghost use Rattle.updater_state.specs.Outcomes.{StoodAt, told};
 ghost use Rattle.updater_state.specs.Drafts.{draft_of, drafts_from, stands_of, all_drafts_stand, IsPublished};
@@ -95,7 +95,7 @@ fn draft_at(
 }
 
 /// The drafts of the entries behind a place, in the place of those that were there.
-pub(crate) fn draft_after(
+pub(crate) fn draft_all_after(
     alloc: Global,
     version: &Arc<Version, Global>,
     after: u64,
@@ -123,7 +123,7 @@ fn answer<J: Opening>(outcomes: &mut Outcomes<J>, draft: Draft, front: &Front<J>
     tell(outcomes, session, draft.into_outcome(front.again()));
 }
 
-/// Each entry is in the history. The drafts leave their room.
+/// Each entry is in the history. All drafts are taken out, and their room stays.
 pub(crate) fn answer_all<J: Opening>(
     outcomes: &mut Outcomes<J>,
     drafts: &mut Vec<Draft>,
@@ -132,6 +132,7 @@ pub(crate) fn answer_all<J: Opening>(
     requires { All (IsPublished J.base front.now) drafts.old.items }
     ensures told { outcomes.new.items ≡ all_drafts_stand front.now outcomes.old.items drafts.old.items }
     ensures count { length outcomes.new.items ≡ length outcomes.old.items }
+    ensures emptied { drafts.new.items ≡ [] }
 {
     for draft in drafts.drain(..) {
         answer(outcomes, draft, front);

@@ -33,9 +33,9 @@ pub struct Core<R: Wait + Drop, J: Opening> {
     pub(crate) outcomes: Outcomes<J>,
     pub(crate) consumer: Consumer<J>,
     publisher: Publisher<R, J>,
-    /// The room that drafts take. There are none between two calls.
+    /// The room that drafts take. Between two calls there are none: a draft would keep its version.
     drafts: Vec<Draft>,
-    /// Whose jobs were popped since it was last asked who may have an outcome. It has room for each session once.
+    /// Sessions whose jobs were popped, and that `next_due` has not yet returned. There is room for each session once.
     pub(crate) due: Vec<u16>,
 }
 
@@ -61,7 +61,7 @@ impl<R: Wait + Drop, J: Opening> Drop for Core<R, J> {
 impl<R: Wait + Drop, J: Opening> Model for Core<R, J> {
     ghost use Rattle.std.specs.Coded.{codes};
     ghost use Rattle.model.specs.JsonCode.{coded_members};
-    ghost use Rattle.std.specs.Prelude.{◌≡◌, ◌≤◌, length, vec_capacity};
+    ghost use Rattle.std.specs.Prelude.{◌≡◌, ◌<◌, ◌≤◌, [], All, length, vec_capacity};
     ghost use Rattle.model.specs.History.{replay, base_of};
     ghost use Rattle.version_log.specs.Histories.{newest};
     ghost use Rattle.updater.specs.Batches.{MayFollow};
@@ -74,11 +74,13 @@ impl<R: Wait + Drop, J: Opening> Model for Core<R, J> {
     ghost view = { λ c. record { published = c.current; popped = c.consumer.taken; batch = c.batch.items; outcomes = c.outcomes.items } };
 
     ghost invariant = { λ c. (c.max_places ≡ J.config.max_places) × (c.gather ≤ vec_capacity c.batch) × (c.consumer.made ≤ length c.outcomes.items) × (length (newest c.current) ≤ J.config.max_places)
-        × MayFollow (replay (base_of J.base) (newest c.current)) c.batch.items × (c.gather ≡ J.config.gather) × (c.slack ≡ J.config.slack) };
+        × MayFollow (replay (base_of J.base) (newest c.current)) c.batch.items × (c.gather ≡ J.config.gather) × (c.slack ≡ J.config.slack)
+        × (c.drafts.items ≡ []) × (c.consumer.made ≤ J.config.sessions) × All (λ s. s < J.config.sessions) c.due.items };
 }
 
 impl<R: Wait + Drop, J: Opening> Core<R, J> {
-    /// The state before any job. It has the room that batches and outcomes take.
+    /// The state before any job. It has room for a batch and its drafts, for an outcome of each session, and
+    /// for each session once that is due.
     pub fn new(
         alloc: Global,
         config: Config,

@@ -7,7 +7,7 @@ ghost use Rattle.updater_state.specs.Outcomes.{Fate, all_stand};
 ghost use Rattle.updater_state.specs.Drafts.{all_drafts_stand, IsPublished};
 ghost use Rattle.updater_state.specs.State.{entries_after, published_with};
 
-use crate::draft::{Draft, draft_after};
+use crate::draft::{Draft, draft_all_after};
 use commands::Job;
 use core::mem::replace;
 use std::alloc::{AllocError, Global};
@@ -35,7 +35,7 @@ pub(crate) fn publish<J: Naming>(
     let latest = current.version();
     let version = apply_batch(latest, jobs)?;
     let shared = Arc::new(alloc, version)?;
-    draft_after(alloc, &shared, latest.place(), drafts)?;
+    draft_all_after(alloc, &shared, latest.place(), drafts)?;
     let mut front = current.front().again();
     if !front.publish(book, &shared) {
         return Err(AllocError);

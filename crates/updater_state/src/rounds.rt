@@ -1,5 +1,5 @@
 //! Rounds of the updater: a batch is popped, and published or given up.
-ghost use Rattle.std.specs.Prelude.{◌≡◌, ◌+◌, ◌<◌, ◌≤◌, false, None, Some, length, IfSome, MatchBool, vec_len, vec_capacity};
+ghost use Rattle.std.specs.Prelude.{◌≡◌, ◌+◌, ◌<◌, ◌≤◌, false, All, None, Some, length, IfSome, MatchBool, vec_len, vec_capacity};
 ghost use Rattle.model.specs.History.{now};
 ghost use Rattle.version_log.specs.Histories.{newest};
 ghost use Rattle.job_queue.specs.Turns.{count};
@@ -42,7 +42,11 @@ fn take_in<J: Opening>(
 }
 
 /// A session's job was popped. It takes no memory: a session that is not noted finds its outcome under the lock.
-fn note_due(due: &mut Vec<u16>, session: u16) {
+fn note_due<J: Opening>(due: &mut Vec<u16>, session: u16)
+    requires known { session < J.config.sessions }
+    requires sessions { All (λ s. s < J.config.sessions) due.old.items }
+    ensures sessions { All (λ s. s < J.config.sessions) due.new.items }
+{
     if due.len() < due.capacity() {
         due.push_reserved(session);
     }
@@ -61,7 +65,7 @@ impl<R: Wait + Drop, J: Opening> Core<R, J> {
         let Some(job) = self.consumer.pop(rt, queue) else {
             return false;
         };
-        note_due(&mut self.due, job.seat.session());
+        note_due::<J>(&mut self.due, job.seat.session());
         take_in(
             self.current.version(),
             &mut self.batch,
@@ -136,9 +140,10 @@ impl<R: Wait + Drop, J: Opening> Core<R, J> {
         })
     }
 
-    /// A session whose job was popped, and which was not yet answered here: it may have an outcome.
+    /// Forgets and returns a session whose job was popped, which may have an outcome. `None` where none is noted.
     pub fn next_due(&mut self) -> Option<u16>
-        ensures { self.new ≡ self.old }
+        ensures same { self.new ≡ self.old }
+        ensures known { IfSome result (λ session. session < J.config.sessions) }
     {
         self.due.pop()
     }

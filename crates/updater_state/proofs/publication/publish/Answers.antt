@@ -28,8 +28,8 @@ returns-clause-drafts g c =
     let v = arc_value c.in_ok-shared.shared in
     let current = c.args.current.now in
     let made = applied g.J.Naming.base v c.version-latest.result.now current c.args.jobs.now (c.in_ok-shared.ensures.ok ∙ c.in_ok-version.ensures.all) c.version-latest.ensures.newest in
-    drafts_told c.new-2.result v c.place.result (newest current) (entries_after g.J.Naming.base current c.args.jobs.now) c.draft_after.new.drafts.items
-    c.in_ok-draft_after.ensures (ap (λ (k : Chronicle). k.entries) made) (c.place.ensures.place ∙ ap (λ (k : Chronicle). length k.entries) c.version-latest.ensures.newest)
+    drafts_told c.new-2.result v c.place.result (newest current) (entries_after g.J.Naming.base current c.args.jobs.now) c.draft_all_after.new.drafts.items
+    c.in_ok-draft_all_after.ensures (ap (λ (k : Chronicle). k.entries) made) (c.place.ensures.place ∙ ap (λ (k : Chronicle). length k.entries) c.version-latest.ensures.newest)
 
 pub returns-clause-published : goal.returns-clause-published
 returns-clause-published g c =
@@ -37,7 +37,7 @@ returns-clause-published g c =
     let current = c.args.current.now in
     let made = applied g.J.Naming.base v c.version-latest.result.now current c.args.jobs.now (c.in_ok-shared.ensures.ok ∙ c.in_ok-version.ensures.all) c.version-latest.ensures.newest in
     let published = c.if-not-publish.ensures.published ∙ ap (λ (k : Chronicle). c.again-front.result ++ k.entries ∷ []) c.deref.ensures in
-    drafts_published g.J.Naming.base c.new-2.result v c.place.result c.draft_after.new.drafts.items c.in_ok-draft_after.ensures
+    drafts_published g.J.Naming.base c.new-2.result v c.place.result c.draft_all_after.new.drafts.items c.in_ok-draft_all_after.ensures
     (subst (IsNewest g.J.Naming.base v) (sym c.new-2.ensures.front) (is_newest g.J.Naming.base v c.again-front.result c.publish.new.self (ap (λ (k : Chronicle). k.base) made) published))
     (one_more c.new-2.result current v.entries c.place.result
     (c.new-2.ensures.front ∙ published ∙ ap (λ (l : List (List Entry)). l ++ v.entries ∷ []) (c.again-front.ensures.same ∙ c.front.ensures.front))

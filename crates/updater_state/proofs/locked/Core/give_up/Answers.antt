@@ -16,6 +16,9 @@ invariant_of-self g c =
       subst (MayFollow (replay (base_of g.J.Naming.base) (newest c.self.inside.current))) (sym c.clear.ensures.items) tt,
       old.5,
       old.6,
+      old.7,
+      old.8,
+      old.9,
     )
 
 pub returns-clause-event : goal.returns-clause-event

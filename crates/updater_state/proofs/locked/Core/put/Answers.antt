@@ -18,6 +18,9 @@ invariant_of-self-2 g c =
       subst (MayFollow (replay (base_of g.J.Naming.base) (newest c.put_in_place.new.current))) (sym c.clear-2.ensures.items) tt,
       old.5,
       old.6,
+      c.answer_all.ensures.emptied,
+      old.8,
+      old.9,
     )
 
 pub returns-clause-event : goal.returns-clause-event

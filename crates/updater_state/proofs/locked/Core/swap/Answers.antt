@@ -42,6 +42,9 @@ invariant_of-self g c =
       subst (λ p. MayFollow (replay (base_of g.J.Naming.base) (newest p)) c.self.inside.batch.items) (sym found) (MayFollow-swapped g.J.Naming.base current c.args.seat c.self.inside.batch.items may old.4),
       old.5,
       old.6,
+      old.7,
+      old.8,
+      old.9,
     )
 
 pub returns-clause-event : goal.returns-clause-event

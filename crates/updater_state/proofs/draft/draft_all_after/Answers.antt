@@ -2,7 +2,7 @@ use Rattle.std.specs.Arc.{arc_value}
 use Rattle.std.proofs.Common.{◌+◌, ◌∷◌, ◌++◌, ◌∙◌, List, [], ap, drop}
 use Rattle.updater_state.specs.Drafts.{Drafted, drafts_from}
 use Rattle.updater_state.proofs.DraftLists.{drafted, drafts_more}
-use Rattle.updater_state.proofs.draft.draft_after.Goals as goal
+use Rattle.updater_state.proofs.draft.draft_all_after.Goals as goal
 
 pub loop-place-preserved : goal.loop-place-preserved
 loop-place-preserved c =

@@ -1,7 +1,7 @@
 use Rattle.std.specs.Arc.{arc_value}
 use Rattle.std.proofs.Common.{◌≡◌, ◌++◌, drop}
 use Rattle.updater_state.specs.Drafts.{drafts_from}
-use Rattle.updater_state.proofs.draft.draft_after.Given as goal
+use Rattle.updater_state.proofs.draft.draft_all_after.Given as goal
 
 -- with the drafts of the rest, all are there
 abbrev pub invariant-loop-place : goal.invariant-loop-place
