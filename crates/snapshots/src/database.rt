@@ -33,8 +33,8 @@ const DEFAULT_REVS_LIMIT: u32 = 1000;
 /// The documents with their numbers, the local documents, the log of purges, the limit of
 /// revisions, and how many commands each session has made.
 ///
-/// Versions lend it to be read. Only their commands change it: in a share of its own, or in its place where the
-/// version is given up. Who replays entries and keeps no history of them takes a share and lets the commands act on it.
+/// Versions lend it to be read. Only their commands change it: in a share of its own, or in its place where `apply`
+/// changes the version. Who replays entries and keeps no history of them takes a share and lets the commands act on it.
 pub struct Database {
     alloc: Global,
     documents: Records,

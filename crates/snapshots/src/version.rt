@@ -20,8 +20,8 @@ use std::marker::Model;
 /// What a history of answered commands makes of the database that it began from. Contracts see the
 /// history.
 ///
-/// No call changes a version: a command gives a new one, which shares with the older one all but
-/// the nodes on the way to what it changes.
+/// No call changes what another version holds: a command gives a new version, or makes this one the next, which shares
+/// with the older ones all but the nodes on the way to what it changes.
 pub struct Version {
     alloc: Global,
     base: Base,

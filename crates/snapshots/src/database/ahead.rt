@@ -9,8 +9,9 @@ use std::alloc::AllocError;
 pub(super) const AHEAD: usize = 64;
 
 impl Database {
-    /// Looks up the first documents that a command edits or merges into, for whoever does the command soon, with this
-    /// database or a later one. Nothing changes.
+    /// Looks up the first 64 documents of a command's edits or merges, where the database has 4,096 documents or more, for
+    /// whoever does the command soon, with this database or a later one. It changes nothing, and looks up fewer or none
+    /// where memory is refused.
     pub fn read_ahead(&self, command: &Command) {
         match command.kind() {
             CommandKind::Edits(edits) => self.read_edits_ahead(edits.as_slice()),
