@@ -2,6 +2,7 @@ pub mod Among
 pub mod Codes
 pub mod Listing
 pub mod Replaced
+pub mod Change
 pub mod Calls
 pub mod Database
 pub mod Version

@@ -5,10 +5,9 @@ ghost use Rattle.model.specs.Database.{edit_in, after_edit, edit_replies, after_
 
 use crate::database::Database;
 use crate::database::ahead::AHEAD;
-use crate::database::stored::holds;
+use crate::database::stored::Change;
 use crate::record::Record;
-use crate::records::Replaced;
-use crate::written::{Written, edited};
+use crate::written::edited;
 use commands::{Edit, ShortList};
 use model::Refusal;
 use revision_id::RevId;
@@ -37,23 +36,14 @@ impl Database {
         Ok(ShortList::from_vec(replies))
     }
 
-    #[tactic(auto, unfolding(model::specs::Database::store))]
     fn edit(&mut self, edit: &Edit) -> Result<Result<RevId, Refusal>, AllocError>
         requires room { self.old.update_seq + 1 < u64.MAX }
         ensures reply { IfOk result (λ r. r ≡ revision_written (edit_in self.old edit.now)) }
         ensures after { IfOk result (λ _. self.new ≡ after_edit self.old edit.now) }
     {
         let held = self.documents.get(&edit.id);
-        match edited(self.alloc, self.revs_limit(), held.map(Record::tree), edit)? {
-            Ok(Written { rev, tree }) => {
-                if holds(held, &tree, rev) {
-                    return Ok(Ok(rev));
-                }
-                let replaced = held.map(Replaced::of);
-                self.update(&edit.id, tree, replaced)?;
-                Ok(Ok(rev))
-            }
-            Err(refusal) => Ok(Err(refusal)),
-        }
+        let written = edited(self.alloc, self.revs_limit(), held.map(Record::tree), edit)?;
+        let change = Change::of(held, written);
+        self.store(&edit.id, change)
     }
 }

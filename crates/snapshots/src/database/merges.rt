@@ -6,10 +6,9 @@ ghost use Rattle.model.specs.Database.{merge_in, after_merge, merge_replies, aft
 
 use crate::database::Database;
 use crate::database::ahead::AHEAD;
-use crate::database::stored::holds;
+use crate::database::stored::Change;
 use crate::record::Record;
-use crate::records::Replaced;
-use crate::written::{Written, merged};
+use crate::written::merged;
 use commands::{Merge, ShortList};
 use model::Refusal;
 use revision_id::RevId;
@@ -39,7 +38,6 @@ impl Database {
         Ok(ShortList::from_vec(replies))
     }
 
-    #[tactic(auto, unfolding(model::specs::Database::store))]
     fn merge(&mut self, merge: &Merge) -> Result<Result<RevId, Refusal>, AllocError>
         requires room { self.old.update_seq + 1 < u64.MAX }
         ensures reply { IfOk result (λ r. r ≡ revision_written (merge_in self.old merge.now)) }
@@ -50,17 +48,9 @@ impl Database {
         if self.has_merged(held, merge) {
             return Ok(Ok(newest));
         }
-        match merged(self.alloc, self.revs_limit(), held.map(Record::tree), merge)? {
-            Ok(Written { rev, tree }) => {
-                if holds(held, &tree, rev) {
-                    return Ok(Ok(rev));
-                }
-                let replaced = held.map(Replaced::of);
-                self.update(merge.id(), tree, replaced)?;
-                Ok(Ok(rev))
-            }
-            Err(refusal) => Ok(Err(refusal)),
-        }
+        let written = merged(self.alloc, self.revs_limit(), held.map(Record::tree), merge)?;
+        let change = Change::of(held, written);
+        self.store(merge.id(), change)
     }
 
     /// Whether a merge finds all that it brings: then it changes nothing.

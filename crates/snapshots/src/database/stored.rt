@@ -1,24 +1,81 @@
-//! The tree that a document has, and what puts another in its place.
+//! The tree that a document has, what a write changes of it, and what stores that.
 ghost use Rattle.std.specs.Prelude.{◌≡◌, ◌<◌, ◌+◌, IfOk, false, option_map, option_copied, unwrap_or};
+ghost use Rattle.model.specs.Map.{get};
+ghost use Rattle.model.specs.Command.{Id};
+ghost use Rattle.model.specs.Edit.{revision_written};
 ghost use Rattle.model.specs.Database as model;
-ghost use Rattle.model.specs.Database.{same_tree, tree_at};
-ghost use Rattle.snapshots.specs.Replaced.{replaced_at};
+ghost use Rattle.model.specs.Database.{same_tree, store_written, tree_at};
+ghost use Rattle.snapshots.specs.Change.{IsOver, after_change, outcome_of};
+ghost use Rattle.snapshots.specs.Replaced.{replaced, replaced_at};
 
 use crate::database::Database;
 use crate::record::Record;
 use crate::records::{Records, Replaced};
+use crate::written::Written;
 use document_id::DocId;
+use model::Refusal;
 use revision_id::RevId;
 use revision_tree::RevTree;
 use std::alloc::AllocError;
 use std::mem;
 use tree_merge::{has_alone, is_same};
 
+/// What a write changes of its document.
+#[derive(Drop)]
+pub(super) enum Change {
+    /// Nothing: the write is refused, or the document has the tree already. This is its outcome.
+    Nothing(Result<RevId, Refusal>),
+    /// The tree that was written takes the place of the record, if the document had one.
+    NewTree(Written, Option<Replaced>),
+}
+
+impl Change {
+    /// Of the document that has this record.
+    #[tactic(auto, unfolding(model::specs::Database::store))]
+    pub(super) fn of(held: Option<&Record>, written: Result<Written, Refusal>) -> Change
+        ensures outcome { outcome_of result ≡ revision_written written }
+        ensures over { IsOver (option_map replaced (option_copied held.entry)) result }
+        ensures after { (d : model.Database) (id : Id) → get d.docs id ≡ option_copied held.entry
+            → after_change d id result ≡ store_written d id written }
+    {
+        match written {
+            Ok(written) => {
+                if holds(held, &written.tree, written.rev) {
+                    return Change::Nothing(Ok(written.rev));
+                }
+                Change::NewTree(written, held.map(Replaced::of))
+            }
+            Err(refusal) => Change::Nothing(Err(refusal)),
+        }
+    }
+}
+
 impl Database {
     pub(super) fn tree(&self, id: &DocId) -> Option<&RevTree>
         ensures { option_copied result ≡ tree_at self.now id.now }
     {
         self.documents.get(id).map(Record::tree)
+    }
+
+    /// Makes the change of the document, and answers the outcome of its write. Where memory is refused, no documents are
+    /// left.
+    pub(super) fn store(
+        &mut self,
+        id: &DocId,
+        change: Change,
+    ) -> Result<Result<RevId, Refusal>, AllocError>
+        requires room { self.old.update_seq + 1 < u64.MAX }
+        requires over { IsOver (replaced_at self.old.docs id.now) change }
+        ensures outcome { IfOk result (λ r. r ≡ outcome_of change) }
+        ensures after { IfOk result (λ _. self.new ≡ after_change self.old id.now change) }
+    {
+        match change {
+            Change::Nothing(outcome) => Ok(outcome),
+            Change::NewTree(Written { rev, tree }, replaced) => {
+                self.update(id, tree, replaced)?;
+                Ok(Ok(rev))
+            }
+        }
     }
 
     /// Gives the document this tree, at the next update number. What is known of the record that it had was looked up
@@ -40,7 +97,7 @@ impl Database {
 }
 
 /// Whether a document with this record has the tree already, into which the revision was written.
-pub(super) fn holds(held: Option<&Record>, tree: &RevTree, rev: RevId) -> bool
+fn holds(held: Option<&Record>, tree: &RevTree, rev: RevId) -> bool
     ensures { result ≡ unwrap_or (option_map (λ r. same_tree tree.now r.tree) (option_copied held.entry)) false }
 {
     match held {
