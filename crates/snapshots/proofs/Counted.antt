@@ -1,5 +1,5 @@
 -- How many records are live after one is put and after one is removed.
-use Rattle.std.specs.Prelude.{◌≡◌, ◌+◌, ◌≤◌, Bool, true, false, cond, not, List, [], ◌∷◌, length, filter, T, Option, Some, None, is_some, refl}
+use Rattle.std.specs.Prelude.{◌≡◌, ◌+◌, ◌≤◌, Bool, true, false, cond, not, List, [], ◌∷◌, length, filter, T, Option, Some, None, is_some, option_map, refl}
 use Rattle.std.specs.declared.cmp.Ordering.{Ordering}
 use Rattle.std.specs.declared.cmp.Ordering.TheVariants.{Less, Equal, Greater}
 use Rattle.std.specs.Ordering.{is_eq, is_lt}
@@ -12,12 +12,13 @@ use Rattle.model.specs.Map.{same_key, same_key-equal}
 use Rattle.model.specs.Command.{Id, names}
 use Rattle.model.specs.Database.{Record}
 use Rattle.model.specs.Answers.{is_live}
-use Rattle.snapshots.specs.Listing.{live_count, live_in}
+use Rattle.snapshots.specs.Listing.{live_count}
+use Rattle.snapshots.specs.Replaced.{replaced, live_of}
 
 abbrev Records : Type 0
 Records = List (Id × Record)
 
-live_count-cons : (e : Id × Record) (es : Records) → live_count (e ∷ es) ≡ live_in (Some e.1) + live_count es
+live_count-cons : (e : Id × Record) (es : Records) → live_count (e ∷ es) ≡ live_of (Some (replaced e.1)) + live_count es
 live_count-cons e es = elim (is_live e.1) as (λ b. length (cond b (e ∷ filter (λ f. is_live f.1) es) (filter (λ f. is_live f.1) es)) ≡ cond b 1 0 + live_count es) [ true ↦ omega arith | false ↦ omega arith ]
 
 length-filter_le : {X : Type 0} (p : X → Bool) (xs : List X) → length (filter p xs) ≤ length xs
@@ -25,11 +26,11 @@ length-filter_le p [] = omega arith
 length-filter_le p (x ∷ xs) = elim (p x) as (λ b. length (cond b (x ∷ filter p xs) (filter p xs)) ≤ length (x ∷ xs)) [ true ↦ omega (arith, length-filter_le p xs) | false ↦ omega (arith, length-filter_le p xs) ]
 
 -- one that is found is among those counted
-pub live_in-le : (k : Id) (es : Records) → live_in (find names.cmp k es) ≤ live_count es
-live_in-le k [] = omega arith
-live_in-le k (e ∷ es) = elim (same_key names k e.0) as (λ b. live_in (cond b (Some e.1) (find names.cmp k es)) ≤ live_count (e ∷ es)) [
+pub live_of-le : (k : Id) (es : Records) → live_of (option_map replaced (find names.cmp k es)) ≤ live_count es
+live_of-le k [] = omega arith
+live_of-le k (e ∷ es) = elim (same_key names k e.0) as (λ b. live_of (option_map replaced (cond b (Some e.1) (find names.cmp k es))) ≤ live_count (e ∷ es)) [
   | true ↦ omega (arith, live_count-cons e es)
-  | false ↦ omega (arith, live_count-cons e es, live_in-le k es)
+  | false ↦ omega (arith, live_count-cons e es, live_of-le k es)
 ]
 
 -- a key below the first of a list in order is not found there
@@ -40,11 +41,11 @@ absent k x e es less s = at (find names.cmp k (e ∷ es)) (subst (λ r. length (
     at None same = refl
     at (Some y) same = absurd (omega arith)
 
-pub live_count-put : (k : Id) (x : Record) (es : Records) → T (is_sorted names.cmp es) → live_count (listed.put names.cmp k x es) + live_in (find names.cmp k es) ≡ live_count es + live_in (Some x)
+pub live_count-put : (k : Id) (x : Record) (es : Records) → T (is_sorted names.cmp es) → live_count (listed.put names.cmp k x es) + live_of (option_map replaced (find names.cmp k es)) ≡ live_count es + live_of (Some (replaced x))
 live_count-put k x [] s = omega (arith, live_count-cons (k, x) [])
 live_count-put k x (e ∷ es) s =
-    elim (names.cmp k e.0) as (λ r. names.cmp k e.0 ≡ r → live_count (by_order r ((k, x) ∷ e ∷ es) ((e.0, x) ∷ es) (e ∷ listed.put names.cmp k x es)) + live_in (cond (is_eq r) (Some e.1) (find names.cmp k es)) ≡ live_count (e ∷ es) + live_in (Some x)) [
-      | Less ↦ λ less. omega (arith, live_count-cons (k, x) (e ∷ es), ap live_in (subst (λ r. cond (is_eq r) (Some e.1) (find names.cmp k es) ≡ None) less (absent k x e es less s)))
+    elim (names.cmp k e.0) as (λ r. names.cmp k e.0 ≡ r → live_count (by_order r ((k, x) ∷ e ∷ es) ((e.0, x) ∷ es) (e ∷ listed.put names.cmp k x es)) + live_of (option_map replaced (cond (is_eq r) (Some e.1) (find names.cmp k es))) ≡ live_count (e ∷ es) + live_of (Some (replaced x))) [
+      | Less ↦ λ less. omega (arith, live_count-cons (k, x) (e ∷ es), ap (λ (o : Option Record). live_of (option_map replaced o)) (subst (λ r. cond (is_eq r) (Some e.1) (find names.cmp k es) ≡ None) less (absent k x e es less s)))
       | Equal ↦ λ same. omega (arith, live_count-cons (e.0, x) es, live_count-cons e es)
       | Greater ↦ λ more. omega (arith, live_count-cons e es, live_count-cons e (listed.put names.cmp k x es), live_count-put k x es (second (below_all names.cmp e.0 es) _ s))
     ] refl
@@ -61,14 +62,14 @@ none_found : (k : Id) (es : Records) → T (below_all names.cmp k es) → find n
 none_found k [] h = refl
 none_found k (e ∷ es) h = ap (λ b. cond b (Some e.1) (find names.cmp k es)) (above_is_other k (names.cmp k e.0) (first _ _ h)) ∙ none_found k es (second _ _ h)
 
-pub live_count-without : (k : Id) (es : Records) → T (is_sorted names.cmp es) → live_count (without names.cmp k es) + live_in (find names.cmp k es) ≡ live_count es
+pub live_count-without : (k : Id) (es : Records) → T (is_sorted names.cmp es) → live_count (without names.cmp k es) + live_of (option_map replaced (find names.cmp k es)) ≡ live_count es
 live_count-without k [] s = omega arith
 live_count-without k (e ∷ es) s =
     let rest = live_count-without k es (second (below_all names.cmp e.0 es) _ s) in
-    elim (same_key names k e.0) as (λ b. same_key names k e.0 ≡ b → live_count (cond (not b) (e ∷ without names.cmp k es) (without names.cmp k es)) + live_in (cond b (Some e.1) (find names.cmp k es)) ≡ live_count (e ∷ es)) [
+    elim (same_key names k e.0) as (λ b. same_key names k e.0 ≡ b → live_count (cond (not b) (e ∷ without names.cmp k es) (without names.cmp k es)) + live_of (option_map replaced (cond b (Some e.1) (find names.cmp k es))) ≡ live_count (e ∷ es)) [
       | true ↦ λ same.
           let none : find names.cmp k es ≡ None = subst (λ q. find names.cmp q es ≡ None) (sym (same_key-equal names k e.0 same)) (none_found e.0 es (first (below_all names.cmp e.0 es) _ s)) in
-          omega (arith, rest, live_count-cons e es, ap live_in none)
+          omega (arith, rest, live_count-cons e es, ap (λ (o : Option Record). live_of (option_map replaced o)) none)
       | false ↦ λ other. omega (arith, rest, live_count-cons e es, live_count-cons e (without names.cmp k es))
     ] refl
 

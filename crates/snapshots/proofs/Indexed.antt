@@ -1,5 +1,5 @@
 -- The index and the count, where no document is, where one is put and where one is removed.
-use Rattle.std.specs.Prelude.{◌≡◌, ◌+◌, ◌-◌, ◌<◌, ◌≤◌, ℕ, not, List, [], length, T, Some, refl}
+use Rattle.std.specs.Prelude.{◌≡◌, ◌+◌, ◌-◌, ◌<◌, ◌≤◌, ℕ, not, List, [], length, T, Option, Some, option_map, refl}
 use Rattle.std.specs.Ordering.{nat_cmp, eq_by_cmp}
 use Rattle.std.specs.FinMap.Entries as listed
 use Rattle.std.specs.FinMap.Entries.{find, is_sorted, is_sorted-put, is_sorted-where_key}
@@ -10,10 +10,11 @@ use Rattle.model.specs.Map.{Map, put, without as without_key, get-from_list}
 use Rattle.model.specs.Command.{Id, names}
 use Rattle.model.specs.Database.{Database, Record, IsNumbered}
 use Rattle.model.specs.Changes.{by_seq}
-use Rattle.snapshots.specs.Listing.{Listing, IsFree, IsIndexed, database_of, listing_of, live_count, live_in, placed, without_number}
+use Rattle.snapshots.specs.Listing.{Listing, IsFree, IsIndexed, database_of, listing_of, live_count, placed}
+use Rattle.snapshots.specs.Replaced.{replaced, live_of, without_replaced}
 use Rattle.snapshots.proofs.MapLists.{entries-from_list, from_list-put, from_list-without}
 use Rattle.snapshots.proofs.Numbered.{IsNumbered-put, by_seq-put, IsNumbered-removed, by_seq-removed}
-use Rattle.snapshots.proofs.Counted.{live_in-le, live_count-put, live_count-without, live_count-few}
+use Rattle.snapshots.proofs.Counted.{live_of-le, live_count-put, live_count-without, live_count-few}
 use Rattle.snapshots.proofs.Few.{few-records}
 
 pub IsIndexed-empty : IsIndexed [] [] 0 0
@@ -44,10 +45,10 @@ module _ (es : List (Id × Record)) (n : ℕ) (id : Id) (r : Record) (m : ℕ) w
       ∙ ap (λ k. placed k id r m) is
 
   module _ (numbered : List (ℕ × (Id × Record))) (count : ℕ) (h : IsIndexed es numbered count n) (more : n ≤ m) (low : 0 < r.seq) (high : r.seq ≤ m) (free : IsFree before.docs id r.seq) where
-    same_index : listed.put nat_cmp r.seq (id, r) (without_number (find names.cmp id es) numbered) ≡ by_seq (database_of (listing_of (listed.put names.cmp id r es) m))
+    same_index : listed.put nat_cmp r.seq (id, r) (without_replaced (option_map replaced (find names.cmp id es)) numbered) ≡ by_seq (database_of (listing_of (listed.put names.cmp id r es) m))
     same_index =
-        ap (λ ns. listed.put nat_cmp r.seq (id, r) (without_number (find names.cmp id es) ns)) h.by_number
-        ∙ ap (λ o. listed.put nat_cmp r.seq (id, r) (without_number o (by_seq before))) (sym (get-from_list names es id))
+        ap (λ ns. listed.put nat_cmp r.seq (id, r) (without_replaced (option_map replaced (find names.cmp id es)) ns)) h.by_number
+        ∙ ap (λ (o : Option Record). listed.put nat_cmp r.seq (id, r) (without_replaced (option_map replaced o) (by_seq before))) (sym (get-from_list names es id))
         ∙ sym (by_seq-put before id h.numbers r m more low high free)
         ∙ ap by_seq (sym same_database)
 
@@ -57,14 +58,14 @@ module _ (es : List (Id × Record)) (n : ℕ) (id : Id) (r : Record) (m : ℕ) w
     numbers_after : IsNumbered (database_of (listing_of (listed.put names.cmp id r es) m))
     numbers_after = subst IsNumbered (sym same_database) (IsNumbered-put before id h.numbers r m more low high free)
 
-    pub live-placed : (was is : ℕ) → was ≡ live_in (find names.cmp id es) → is ≡ live_in (Some r) → (was ≤ count) × (count - was + is ≡ live_count (listed.put names.cmp id r es)) × (count - was + is ≤ m)
+    pub live-placed : (was is : ℕ) → was ≡ live_of (option_map replaced (find names.cmp id es)) → is ≡ live_of (Some (replaced r)) → (was ≤ count) × (count - was + is ≡ live_count (listed.put names.cmp id r es)) × (count - was + is ≤ m)
     live-placed was is old_live new_live =
         let counted = live_count-put id r es h.sorted in
         let few = few-live (listed.put names.cmp id r es) m sorted_after numbers_after in
-        let at_most = live_in-le id es in
+        let at_most = live_of-le id es in
         (omega (arith, h.live, old_live, at_most), omega (arith, counted, h.live, old_live, new_live, at_most), omega (arith, counted, few, h.live, old_live, new_live, at_most))
 
-    pub IsIndexed-placed : (later : List (Id × Record)) (renumbered : List (ℕ × (Id × Record))) (was is : ℕ) → later ≡ listed.put names.cmp id r es → renumbered ≡ listed.put nat_cmp r.seq (id, r) (without_number (find names.cmp id es) numbered) → was ≡ live_in (find names.cmp id es) → is ≡ live_in (Some r) → IsIndexed later renumbered (count - was + is) m
+    pub IsIndexed-placed : (later : List (Id × Record)) (renumbered : List (ℕ × (Id × Record))) (was is : ℕ) → later ≡ listed.put names.cmp id r es → renumbered ≡ listed.put nat_cmp r.seq (id, r) (without_replaced (option_map replaced (find names.cmp id es)) numbered) → was ≡ live_of (option_map replaced (find names.cmp id es)) → is ≡ live_of (Some (replaced r)) → IsIndexed later renumbered (count - was + is) m
     IsIndexed-placed later renumbered was is put_new renumber old_live new_live =
         let live = live-placed was is old_live new_live in
         subst (λ fs. IsIndexed fs renumbered (count - was + is) m) (sym put_new) (record {
@@ -89,18 +90,18 @@ module _ (es : List (Id × Record)) (n : ℕ) (id : Id) where
       ∙ ap (λ (k : Listing). record k { docs = without_key k.docs id }) is
 
   module _ (numbered : List (ℕ × (Id × Record))) (count : ℕ) (h : IsIndexed es numbered count n) where
-    pub live-removed : (was : ℕ) → was ≡ live_in (find names.cmp id es) → was ≤ count
-    live-removed was old_live = omega (arith, live_in-le id es, h.live, old_live)
+    pub live-removed : (was : ℕ) → was ≡ live_of (option_map replaced (find names.cmp id es)) → was ≤ count
+    live-removed was old_live = omega (arith, live_of-le id es, h.live, old_live)
 
-    pub IsIndexed-removed : (later : List (Id × Record)) (renumbered : List (ℕ × (Id × Record))) (was : ℕ) → later ≡ without names.cmp id es → renumbered ≡ without_number (find names.cmp id es) numbered → was ≡ live_in (find names.cmp id es) → IsIndexed later renumbered (count - was) n
+    pub IsIndexed-removed : (later : List (Id × Record)) (renumbered : List (ℕ × (Id × Record))) (was : ℕ) → later ≡ without names.cmp id es → renumbered ≡ without_replaced (option_map replaced (find names.cmp id es)) numbered → was ≡ live_of (option_map replaced (find names.cmp id es)) → IsIndexed later renumbered (count - was) n
     IsIndexed-removed later renumbered was fewer renumber old_live =
         let counted = live_count-without id es h.sorted in
         subst (λ fs. IsIndexed fs renumbered (count - was) n) (sym fewer) (record {
           sorted = is_sorted-where_key names.cmp (λ k. not (eq_by_cmp names.cmp id k)) es h.sorted;
           numbers = subst IsNumbered (sym database-removed) (IsNumbered-removed had id h.numbers);
           by_number = renumber
-              ∙ ap (without_number (find names.cmp id es)) h.by_number
-              ∙ ap (λ o. without_number o (by_seq had)) (sym (get-from_list names es id))
+              ∙ ap (without_replaced (option_map replaced (find names.cmp id es))) h.by_number
+              ∙ ap (λ (o : Option Record). without_replaced (option_map replaced o) (by_seq had)) (sym (get-from_list names es id))
               ∙ sym (by_seq-removed had id h.numbers)
               ∙ ap by_seq (sym database-removed);
           live = omega (arith, counted, h.live, old_live);

@@ -1,5 +1,5 @@
 -- The index by update numbers after a document's record is put, and after it is removed.
-use Rattle.std.specs.Prelude.{◌≡◌, ◌≢◌, ◌<◌, ◌≤◌, ◌⊎◌, ℕ, true, false, cond, not, List, T, Option, Some, None, refl}
+use Rattle.std.specs.Prelude.{◌≡◌, ◌≢◌, ◌<◌, ◌≤◌, ◌⊎◌, ℕ, true, false, cond, not, List, T, Option, Some, None, option_map, refl}
 use Rattle.std.specs.Ordering.{nat_cmp, eq_by_cmp}
 use Rattle.std.specs.FinMap.Entries as listed
 use Rattle.std.specs.FinMap.Entries.{find, is_sorted, is_sorted-put, find-put, is_sorted-where_key, find-where_key, same_entries}
@@ -13,7 +13,9 @@ use Rattle.model.specs.Changes.{at_numbers, by_seq}
 use Rattle.model.proofs.ListLaws.{by_cases}
 use Rattle.model.proofs.LookupLaws.{apart, get-put_same, get-put_other, get-without_same, get-without_other, put-cases, without-some}
 use Rattle.model.proofs.IndexLaws.{of_number, at_its_number}
-use Rattle.snapshots.specs.Listing.{IsFree, without_number}
+use Rattle.snapshots.specs.Listing.{IsFree}
+use Rattle.snapshots.specs.Replaced.{replaced, replaced_at, without_replaced}
+use Rattle.snapshots.specs.declared.records.replaced.Replaced.{Replaced}
 use Rattle.snapshots.proofs.MapLists.{same_option}
 
 abbrev Numbered : Type 0
@@ -21,9 +23,9 @@ Numbered = List (ℕ × (Id × Record))
 
 -- ---- an index without a number
 
-pub sorted-without_number : (o : Option Record) (es : Numbered) → T (is_sorted nat_cmp es) → T (is_sorted nat_cmp (without_number o es))
-sorted-without_number None es s = s
-sorted-without_number (Some r) es s = is_sorted-where_key nat_cmp (λ k. not (eq_by_cmp nat_cmp r.seq k)) es s
+pub sorted-without_replaced : (o : Option Replaced) (es : Numbered) → T (is_sorted nat_cmp es) → T (is_sorted nat_cmp (without_replaced o es))
+sorted-without_replaced None es s = s
+sorted-without_replaced (Some r) es s = is_sorted-where_key nat_cmp (λ k. not (eq_by_cmp nat_cmp r.seq k)) es s
 
 find-without : (n q : ℕ) (es : Numbered) → find nat_cmp q (without nat_cmp n es) ≡ cond (not (same_key numbers n q)) (find nat_cmp q es) None
 find-without n q es = find-where_key nat_cmp (λ k. not (same_key numbers n k)) q (λ x tied. ap (λ k. not (same_key numbers n k)) (sym (numbers.exact q x tied))) es
@@ -45,21 +47,21 @@ kept-without n q es e ne is = by_cases (same_key numbers n q)
 -- ---- what is kept of an index without the number of a record
 
 module _ (d : Database) (id : Id) (h : IsNumbered d) where
-  from_old : (q : ℕ) (es : Numbered) (o : Option Record) (e : Id × Record) → get d.docs id ≡ o → find nat_cmp q (without_number o es) ≡ Some e → ((r : Record) → get d.docs id ≡ Some r → r.seq ≢ q) × (find nat_cmp q es ≡ Some e)
+  from_old : (q : ℕ) (es : Numbered) (o : Option Record) (e : Id × Record) → get d.docs id ≡ o → find nat_cmp q (without_replaced (option_map replaced o) es) ≡ Some e → ((r : Record) → get d.docs id ≡ Some r → r.seq ≢ q) × (find nat_cmp q es ≡ Some e)
   from_old q es None e at is = (λ r some. absurd (none-some r (sym at ∙ some)), is)
   from_old q es (Some o) e at is =
       let f = found-without o.seq q es e is in
       (λ r some same. f.0 (ap (λ x. x.seq) (same_Some o r (sym at ∙ some)) ∙ same), f.1)
 
-  to_old : (q : ℕ) (es : Numbered) (o : Option Record) (e : Id × Record) → get d.docs id ≡ o → ((r : Record) → get d.docs id ≡ Some r → r.seq ≢ q) → find nat_cmp q es ≡ Some e → find nat_cmp q (without_number o es) ≡ Some e
+  to_old : (q : ℕ) (es : Numbered) (o : Option Record) (e : Id × Record) → get d.docs id ≡ o → ((r : Record) → get d.docs id ≡ Some r → r.seq ≢ q) → find nat_cmp q es ≡ Some e → find nat_cmp q (without_replaced (option_map replaced o) es) ≡ Some e
   to_old q es None e at ne is = is
   to_old q es (Some o) e at ne is = kept-without o.seq q es e (ne o at) is
 
   abbrev left : Numbered
-  left = without_number (get d.docs id) (entries (at_numbers d))
+  left = without_replaced (replaced_at d.docs id) (entries (at_numbers d))
 
   left_sorted : T (is_sorted nat_cmp left)
-  left_sorted = sorted-without_number (get d.docs id) _ (at_numbers d).sorted
+  left_sorted = sorted-without_replaced (replaced_at d.docs id) _ (at_numbers d).sorted
 
   -- a record of another document is where it was
   kept_left : (q : ℕ) (e : Id × Record) → same_key names e.0 id ≡ false → get d.docs e.0 ≡ Some e.1 → e.1.seq ≡ q → find nat_cmp q left ≡ Some e
@@ -118,7 +120,7 @@ module _ (d : Database) (id : Id) (h : IsNumbered d) where
         let ne : q ≢ r.seq = λ e. let itself : same_key numbers q r.seq ≡ true = subst (λ k. same_key numbers q k ≡ true) e (same_key_itself numbers q) in cc in
         same_option (get (at_numbers with_record) q) (find nat_cmp q left) (down q ne) (up q ne) ∙ sym (find-put nat_cmp numbers.total q r.seq (id, r) left ∙ ap (λ b. cond b (Some (id, r)) (find nat_cmp q left)) apart))
 
-    pub by_seq-put : by_seq with_record ≡ listed.put nat_cmp r.seq (id, r) (without_number (get d.docs id) (by_seq d))
+    pub by_seq-put : by_seq with_record ≡ listed.put nat_cmp r.seq (id, r) (without_replaced (replaced_at d.docs id) (by_seq d))
     unfolding by_seq
     by_seq-put =
         let m = at_numbers with_record in
@@ -146,7 +148,7 @@ module _ (d : Database) (id : Id) (h : IsNumbered d) where
   up_removed : (q : ℕ) (e : Id × Record) → find nat_cmp q left ≡ Some e → get (at_numbers without_record) q ≡ Some e
   up_removed q e is = let was = of_left q e is in at_its_number without_record q e.0 e.1 IsNumbered-removed (get-without_other d.docs id e.0 was.0 ∙ was.1, was.2)
 
-  pub by_seq-removed : by_seq without_record ≡ without_number (get d.docs id) (by_seq d)
+  pub by_seq-removed : by_seq without_record ≡ without_replaced (replaced_at d.docs id) (by_seq d)
   unfolding by_seq
   by_seq-removed =
       let m = at_numbers without_record in

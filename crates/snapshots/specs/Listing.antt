@@ -1,9 +1,7 @@
 -- The documents of a database by their ids, with an index by their update numbers and a count.
-use Rattle.std.specs.Prelude.{◌≡◌, ◌≤◌, ◌+◌, ℕ, List, length, filter, T, Option, Some, None, if◌then◌else◌, refl}
-use Rattle.std.specs.Ordering.{nat_cmp}
+use Rattle.std.specs.Prelude.{◌≡◌, ◌≤◌, ◌+◌, ℕ, List, length, filter, T, Some, refl}
 use Rattle.std.specs.Coded.{Coded, code_by, coded×, coded_ℕ}
 use Rattle.std.specs.FinMap.Entries.{is_sorted}
-use Rattle.cow_index.specs.Entries.{without}
 use Rattle.model.specs.Map.{Map, get, put, from_list}
 use Rattle.model.specs.Tree.{Tree}
 use Rattle.model.specs.Command.{Id, names}
@@ -42,15 +40,6 @@ listing_of es n = record { docs = from_list es; update_seq = n }
 -- how many have a winner that is not deleted
 abbrev pub live_count : List (Id × Record) → ℕ
 live_count es = length (filter (λ e. is_live e.1) es)
-
--- an update number's entry, without that of the record before
-abbrev pub without_number : Option Record → List (ℕ × (Id × Record)) → List (ℕ × (Id × Record))
-without_number None es = es
-without_number (Some r) es = without nat_cmp r.seq es
-
-abbrev pub live_in : Option Record → ℕ
-live_in None = 0
-live_in (Some r) = if is_live r then 1 else 0
 
 -- the index and the count are those of the documents
 pub record IsIndexed (es : List (Id × Record)) (numbered : List (ℕ × (Id × Record))) (count update_seq : ℕ) : Type 0 where

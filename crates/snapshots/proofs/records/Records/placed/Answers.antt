@@ -5,10 +5,10 @@ use Rattle.std.specs.FinMap.Entries as listed
 use Rattle.std.specs.FinMap.Entries.{find}
 use Rattle.model.specs.Command.{names}
 use Rattle.model.specs.Database.{Record}
-use Rattle.snapshots.specs.Listing.{Listing, IsFree, listing_of, live_in}
-use Rattle.snapshots.specs.Replaced.{without_replaced}
+use Rattle.snapshots.specs.Listing.{Listing, IsFree, listing_of}
+use Rattle.snapshots.specs.Replaced.{replaced, live_of, without_replaced}
 use Rattle.snapshots.proofs.Indexed.{IsIndexed-placed, live-placed, listing-placed}
-use Rattle.snapshots.proofs.Replaced.{replaced-listed, live-listed, without-listed}
+use Rattle.snapshots.proofs.Replaced.{replaced-listed}
 use Rattle.snapshots.proofs.records.Records.placed.Goals as goal
 
 pub overflow_sub-live : goal.overflow_sub-live
@@ -20,7 +20,7 @@ overflow_sub-live c =
     let free : IsFree (listing_of es n).docs id c.args.stored.seq = subst (λ (l : Listing). IsFree l.docs id c.args.stored.seq) (sym c.self.view_is) c.requires.free in
     let at = replaced-listed es n id c.args.replaced c.args.self c.self.view_is c.requires.replaced in
     (live-placed es n id c.args.stored c.args.update_seq c.self.inside.by_number.entries c.self.inside.live c.self.invariant more c.requires.number.0 c.requires.number.1 free
-    c.live_count.result (live_in (Some c.args.stored)) (c.live_count.ensures ∙ live-listed es n id c.args.replaced at) refl).0
+    c.live_count.result (live_of (Some (replaced c.args.stored))) (c.live_count.ensures ∙ ap live_of at) refl).0
 
 pub overflow_add-live : goal.overflow_add-live
 overflow_add-live c =
@@ -31,7 +31,7 @@ overflow_add-live c =
     let free : IsFree (listing_of es n).docs id c.args.stored.seq = subst (λ (l : Listing). IsFree l.docs id c.args.stored.seq) (sym c.self.view_is) c.requires.free in
     let at = replaced-listed es n id c.args.replaced c.args.self c.self.view_is c.requires.replaced in
     let few = (live-placed es n id c.args.stored c.args.update_seq c.self.inside.by_number.entries c.self.inside.live c.self.invariant more c.requires.number.0 c.requires.number.1 free
-    c.live_count.result c.from.result (c.live_count.ensures ∙ live-listed es n id c.args.replaced at) (search rules)).2 in
+    c.live_count.result c.from.result (c.live_count.ensures ∙ ap live_of at) (search rules)).2 in
     omega (arith, few, c.ranges.update_seq.fits)
 
 pub invariant_of-result : goal.invariant_of-result
@@ -48,8 +48,8 @@ invariant_of-result c =
     (c.in_ok-with_record.ensures ∙ ap (λ (r : Record). listed.put names.cmp id r es) c.in_ok-stored.ensures)
     (c.in_ok-renumbered.ensures
     ∙ ap (λ (r : Record). listed.put nat_cmp c.seq-seq.result (id, r) (without_replaced c.args.replaced numbered)) c.in_ok-stored.ensures
-    ∙ (λ i. listed.put nat_cmp (c.seq-seq.ensures i) (id, c.args.stored) (without-listed es n id c.args.replaced at numbered i)))
-    (c.live_count.ensures ∙ live-listed es n id c.args.replaced at)
+    ∙ (λ i. listed.put nat_cmp (c.seq-seq.ensures i) (id, c.args.stored) (without_replaced (at i) numbered)))
+    (c.live_count.ensures ∙ ap live_of at)
     (search rules)
 
 pub returns : goal.returns
