@@ -39,7 +39,7 @@ class Program:
         return machine.thread_seconds(self.process.pid) * 1e3
 
     def steps(self):
-        used = self.used()
+        used = 0.0
         for line in self.process.stdout:
             now = self.used()
             yield Step(line, now - used, machine.megabytes(self.process.pid, "VmRSS"))

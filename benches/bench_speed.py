@@ -1,6 +1,6 @@
 """Times `couchd once` over pipes at databases of several sizes, of one build or of some side by side, and prints a table.
 
-    python3 benches/bench_speed.py [--sizes 1000,10000,100000] [--runs N] [--only TEXT ..] [--store] [COUCHD ...]
+    python3 benches/bench_speed.py [--sizes 1000,10000,100000] [--runs N] [--only TEXT]... [--store] [COUCHD ...]
 
 A figure is the processor time of the program for one operation, in microseconds; of several programs they are behind one
 another, with the ratio of the last to the first. The requests of a row are cut into pieces, at most 20, which go to each
