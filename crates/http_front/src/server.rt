@@ -22,7 +22,7 @@ pub const SERVER_TURNS: u64 = 100_000;
 const SERVED: u8 = 0;
 
 /// Serves an empty database, whose history may have so many entries, to the connections of a listener, by so many
-/// workers (1 to 64), each with a session of its own, on these terms. Fewer workers than were asked for are said, none too.
+/// workers (1 to 64), each with a session of its own, on these terms. It says so where fewer serve than were asked for, or none.
 /// The answer is the exit status: 0 after the last connection, or 1 where no database was opened, memory for the
 /// routes was refused, or no worker can start besides the caller's.
 pub fn run_server<A: AllocGlobal + Threads + Wait + Clock + Sync, V: Watch + Sync>(

@@ -5,8 +5,8 @@ use std::io;
 
 /// Hears what an operator is to know of a server, and writes the lines of requests that are logged.
 pub trait Watch: Lines {
-    /// So many workers serve, fewer than were asked for: threads, or memory for what a worker keeps, were
-    /// refused. With none the server ends.
+    /// So many workers serve, fewer than were asked for: threads or memory were refused. None serve where memory for
+    /// the database or the routes was, and the server ends.
     fn few_workers(&self, serving: u64, asked: u64);
 
     /// A connection can't be accepted. This is said once a second at most.

@@ -62,7 +62,8 @@ fn read_entries(alloc: Global, text: &[u8]) -> Result<Result<Vec<Entry>, u64>, A
     Ok(Ok(entries))
 }
 
-/// The entry of a line that has so many entries before it.
+/// The entry of a line that has so many entries before it. There is none where the line doesn't end in a line feed, is that of no
+/// entry, or where a history has no place left for it.
 ///
 /// # Errors
 ///
