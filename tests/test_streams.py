@@ -18,7 +18,7 @@ import tempfile
 from lib import shims
 from lib.checks import Checks
 from lib.messages import Messages
-from lib.programs import SECONDS, arguments
+from lib.programs import SECONDS, arguments, run
 from lib.requests import request
 from lib.server import Connection, Server
 from reference import once
@@ -113,10 +113,10 @@ def writes_of_much(program):
 
 def write_that_fails_once(program):
     """A write that fails before more is read ends the run, though what it was to write can be written at the end."""
-    with shims.environment("once") as env, subprocess.Popen([program, "once"], stdin=subprocess.PIPE, stdout=subprocess.PIPE, stderr=subprocess.PIPE, env=env) as process:
-        output, errors = process.communicate(PUT + GET, timeout=SECONDS)
-        found = process.returncode, output, errors
-        CHECKS.check(found == (FAILED, once.run(PUT + GET)[0], UNWRITTEN), "a first write that failed, and a second that did not: %r", found)
+    with shims.environment("once") as env:
+        found = run([program, "once"], PUT + GET, env)
+    wanted = FAILED, once.run(PUT + GET)[0], UNWRITTEN.decode()
+    CHECKS.check(found == wanted, "a first write that failed, and a second that did not: %r", found)
 
 
 def writes_in_time(program):
