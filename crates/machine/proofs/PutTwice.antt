@@ -1,5 +1,5 @@
 -- Two puts into a map of views.
-use Rattle.std.specs.Prelude.{◌≡◌, ℕ, Bool, true, false, cond, Option, Some, refl}
+use Rattle.std.specs.Prelude.{◌≡◌, ℕ, Bool, true, false, cond, Some}
 use Rattle.std.proofs.Common.{sym, ap, ◌∙◌}
 use Rattle.std.proofs.lemmas.Bool.{cond-true, cond-false}
 use Rattle.model.specs.Map.{Map, get, put, get-put, same_key-equal, same_map}
@@ -8,15 +8,6 @@ use Rattle.model.specs.World.{View, place_in, viewing}
 use Rattle.model.proofs.ListLaws.{by_cases}
 use Rattle.model.proofs.JobLaws.{same-apart}
 use Rattle.model.proofs.ViewLaws.{same, place-other}
-
--- the later one at the same key
-pub put_again : (m : Map numbers View) (a : ℕ) (x y : View) → put (put m a x) a y ≡ put m a y
-put_again m a x y = same_map (put (put m a x) a y) (put m a y) (λ q.
-    get-put (put m a x) a y q ∙ ap (cond (same q a) (Some y)) (get-put m a x q) ∙ twice (same q a) (get m q) ∙ sym (get-put m a y q))
-  where
-    twice : (b : Bool) (o : Option View) → cond b (Some y) (cond b (Some x) o) ≡ cond b (Some y) o
-    twice true o = refl
-    twice false o = refl
 
 -- at two keys, in either order
 pub put_apart : (m : Map numbers View) (a b : ℕ) (x y : View) → same b a ≡ false → put (put m a x) b y ≡ put (put m b y) a x

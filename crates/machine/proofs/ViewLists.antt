@@ -9,12 +9,13 @@ use Rattle.model.specs.Map.{Map, get, put, from_list, get-put, same_key-equal, s
 use Rattle.model.specs.Command.{numbers, Job}
 use Rattle.model.specs.History.{Chronicle}
 use Rattle.model.specs.World.{Config, View, start_world, viewing, all_at, all_freed}
+use Rattle.model.proofs.LookupLaws.{put_again}
 use Rattle.model.proofs.ViewLaws.{same}
 use Rattle.machine.specs.declared.views.SessionView.{SessionView}
 use Rattle.machine.specs.declared.views.Seen.{Seen}
 use Rattle.machine.specs.Views.{view_of, views_from, views_of, seeing, all_seeing, seen_by, freed_one, all_free}
 use Rattle.machine.specs.States.{IsOfSession}
-use Rattle.machine.proofs.PutTwice.{put_again, put_apart, put_alike, freed, freed_alike}
+use Rattle.machine.proofs.PutTwice.{put_apart, put_alike, freed, freed_alike}
 
 apart : (a b : ℕ) → a < b → same a b ≡ false
 apart a b lt = false_from_ne_true _ (λ t. absurd (omega (arith, lt, same_key-equal numbers a b t)))

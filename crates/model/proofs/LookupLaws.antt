@@ -1,9 +1,9 @@
--- What a map has after a put and after a removal, at the key and at others.
+-- What a map has after a put and after a removal, at the key and at others, and after two puts at one key.
 use Rattle.std.specs.Prelude.{◌≡◌, ◌≢◌, ◌⊎◌, Bool, true, false, cond, Option, Some, None, option_map, option_and_then, refl}
 use Rattle.std.proofs.Common.{sym, ap, inl, inr, ◌∙◌}
 use Rattle.std.proofs.lemmas.Option.{none-some, same_Some}
 use Rattle.std.proofs.lemmas.Bool.{false_from_ne_true}
-use Rattle.model.specs.Map.{Order, Map, get, put, refine, without, get-put, get-refine, same_key, same_key-equal}
+use Rattle.model.specs.Map.{Order, Map, get, put, refine, without, get-put, get-refine, same_key, same_key-equal, same_map}
 use Rattle.model.proofs.ListLaws.{by_cases}
 use Rattle.model.proofs.MapLaws.{get-refine_all}
 
@@ -43,6 +43,15 @@ module _ {O : Order} {X : Type 0} (m : Map O X) (k : O.key) where
   without-some q y e = by_cases (same_key O q k)
       (λ t. absurd (none-some y (sym (get-without_same q t) ∙ e)))
       (λ f. sym (get-without_other q f) ∙ e)
+
+  -- the later of two puts at a key
+  pub put_again : (x y : X) → put (put m k x) k y ≡ put m k y
+  put_again x y = same_map (put (put m k x) k y) (put m k y) (λ q.
+      get-put (put m k x) k y q ∙ ap (cond (same_key O q k) (Some y)) (get-put m k x q) ∙ twice (same_key O q k) (get m q) ∙ sym (get-put m k y q))
+    where
+      twice : (b : Bool) (o : Option X) → cond b (Some y) (cond b (Some x) o) ≡ cond b (Some y) o
+      twice true o = refl
+      twice false o = refl
 
 -- what is there after each value has changed was made of what was there
 pub refined-some : {O : Order} {X Y : Type 0} (f : O.key → X → Y) (m : Map O X) (q : O.key) (y : Y) → get {O = O} (refine (λ k x. Some (f k x)) m) q ≡ Some y → (x : X) × (get m q ≡ Some x) × (f q x ≡ y)

@@ -1,8 +1,8 @@
 -- What a command leaves of the counts of calls, and how many update numbers it gives.
-use Rattle.std.specs.Prelude.{◌≡◌, ◌≢◌, ◌+◌, ◌≤◌, Bool, true, false, cond, ℕ, List, Option, Some, unwrap_or, length, refl}
+use Rattle.std.specs.Prelude.{◌≡◌, ◌≢◌, ◌+◌, ◌≤◌, ℕ, List, Some, unwrap_or, length, refl}
 use Rattle.std.proofs.Common.{ap, arith, sym, ◌∙◌}
 use Rattle.std.proofs.lemmas.List.Sums.{length-filter, count_by-le-length}
-use Rattle.model.specs.Map.{Map, empty, get, put, from_list, entries, same_key, same_key_itself, same_map, get-put}
+use Rattle.model.specs.Map.{Map, empty, get, put, from_list, entries, same_key, same_key_itself}
 use Rattle.model.specs.Local.{Local}
 use Rattle.model.specs.PurgeLog.{PurgeLog}
 use Rattle.model.specs.Command.{names, numbers, Command, Edits, Merges, PutLocal, Purge, SetLimit, SetPurgedLimit, Compact, Entry}
@@ -10,7 +10,7 @@ use Rattle.model.specs.Database.{Database, calls_of, changed_by, counted}
 use Rattle.model.specs.History.{Chronicle, base_of, now}
 use Rattle.model.proofs.RestLaws.{rest_of_edits, rest_of_merges, rest_of_purges}
 use Rattle.model.proofs.CallLaws.{calls-replay}
-use Rattle.model.proofs.LookupLaws.{apart, get-put_same, get-put_other}
+use Rattle.model.proofs.LookupLaws.{apart, get-put_same, get-put_other, put_again}
 use Rattle.snapshots.specs.Calls.{calls_in}
 use Rattle.snapshots.specs.Database.{database_with}
 use Rattle.snapshots.specs.declared.database.calls.Caller.{Caller}
@@ -56,15 +56,4 @@ module _ (last : Caller) (es : List (ℕ × ℕ)) where
 
   -- one more call of that session
   pub put-last : (s n : ℕ) → last.session ≡ s → put {O = numbers} earlier s n ≡ put {O = numbers} (calls_in (Some last) es) s n
-  put-last s n same = ap (λ k. put {O = numbers} earlier k n) (sym same) ∙ sym (put-again last.session last.calls n) ∙ ap (λ k. put {O = numbers} (calls_in (Some last) es) k n) same
-    where
-      folded : (b : Bool) (x y : ℕ) (o : Option ℕ) → cond b (Some y) (cond b (Some x) o) ≡ cond b (Some y) o
-      folded true x y o = refl
-      folded false x y o = refl
-
-      put-again : (k x y : ℕ) → put {O = numbers} (put {O = numbers} earlier k x) k y ≡ put {O = numbers} earlier k y
-      put-again k x y = same_map {O = numbers} (put {O = numbers} (put {O = numbers} earlier k x) k y) (put {O = numbers} earlier k y) (λ q.
-          get-put {O = numbers} (put {O = numbers} earlier k x) k y q
-          ∙ ap (cond (same_key numbers q k) (Some y)) (get-put {O = numbers} earlier k x q)
-          ∙ folded (same_key numbers q k) x y (get {O = numbers} earlier q)
-          ∙ sym (get-put {O = numbers} earlier k y q))
+  put-last s n same = ap (λ k. put {O = numbers} earlier k n) (sym same) ∙ sym (put_again {O = numbers} earlier last.session last.calls n) ∙ ap (λ k. put {O = numbers} (calls_in (Some last) es) k n) same
