@@ -12,7 +12,7 @@ mod tree;
 mod walk;
 
 pub use index_key::IndexKey;
-pub use look_up::{LookUp, step_each};
+pub use look_up::{LookUp, descend_each};
 pub use map::CowMap;
 pub use shared::Shared;
 pub use walk::Range;

@@ -59,7 +59,7 @@ impl<'a, K: IndexKey, V: Drop> LookUp<'a, K, V> {
     }
 
     /// One step down, where it is not at its end.
-    pub fn step(&mut self)
+    fn step(&mut self)
         ensures { self.new ≡ self.old }
     {
         if let Way::Below(tree) = self.way {
@@ -78,8 +78,17 @@ impl<'a, K: IndexKey, V: Drop> LookUp<'a, K, V> {
     }
 }
 
+/// Takes so many steps of each, in turns.
+pub fn descend_each<K: IndexKey, V: Drop>(look_ups: &mut [LookUp<'_, K, V>], steps: u64)
+    ensures { look_ups.new ≡ look_ups.old }
+{
+    for _level in 0..steps {
+        step_each(look_ups);
+    }
+}
+
 /// Takes a step of each.
-pub fn step_each<K: IndexKey, V: Drop>(look_ups: &mut [LookUp<'_, K, V>])
+fn step_each<K: IndexKey, V: Drop>(look_ups: &mut [LookUp<'_, K, V>])
     ensures { look_ups.new ≡ look_ups.old }
 {
     for look_up in look_ups.iter_mut() {

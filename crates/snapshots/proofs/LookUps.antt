@@ -1,7 +1,8 @@
 -- Look-ups of some documents.
-use Rattle.std.specs.Prelude.{◌≡◌, ◌+◌, ◌<◌, ◌≤◌, ◌++◌, ◌∷◌, [], ℕ, List, length, map, take, Option, Some}
+use Rattle.std.specs.Prelude.{◌≡◌, ◌+◌, ◌<◌, ◌≤◌, ◌++◌, ◌∷◌, [], ℕ, List, length, map, take, drop, Option, Some}
 use Rattle.std.proofs.Common.{get_or, ap, sym, ◌∙◌, arith}
 use Rattle.std.proofs.lemmas.List.{get_or-map, length-map, map-append, take_all, take_more}
+use Rattle.std.proofs.Math.Seq.{take-append_seam}
 use Rattle.model.specs.Map.{get}
 use Rattle.model.specs.Command.{Id}
 use Rattle.model.specs.Database.{Database, Record, IsNumbered}
@@ -36,3 +37,7 @@ module _ (d : Database) (ids : List Id) (found : List (Id × Option Record)) (is
 
   pub changed-all : (since k : ℕ) → length found ≤ k → changed_of d since (take k ids) ≡ changed_of d since ids
   changed-all since k past = ap (changed_of d since) (take_all k ids (omega (arith, as_many)))
+
+-- a vector over which the elements that it has were written
+pub refilled : {X : Type 0} (n : ℕ) (xs ws : List X) → n ≡ length xs → ws ≡ xs → take n (ws ++ drop (length ws) xs) ≡ xs
+refilled n xs ws len same = ap (λ k. take k (ws ++ drop (length ws) xs)) (len ∙ ap length (sym same)) ∙ take-append_seam ws (drop (length ws) xs) ∙ same

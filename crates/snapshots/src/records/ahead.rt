@@ -1,7 +1,7 @@
 //! Look-ups of documents that are about to be written.
 
 use crate::records::{Records, Replaced};
-use cow_index::step_each;
+use cow_index::descend_each;
 use document_id::DocId;
 use std::alloc::{AllocError, Global};
 
@@ -27,9 +27,7 @@ impl Records {
         for id in ids {
             look_ups.push(self.by_id.look_up(id))?;
         }
-        for _level in 0..self.by_id.height() {
-            step_each(&mut look_ups);
-        }
+        descend_each(&mut look_ups, self.by_id.height());
         let mut replaced = Vec::with_capacity(alloc, ids.len())?;
         for look_up in &look_ups {
             if let Some(stored) = look_up.value() {
@@ -44,9 +42,7 @@ impl Records {
         for record in replaced {
             look_ups.push(self.by_number.look_up(&record.seq))?;
         }
-        for _level in 0..self.by_number.height() {
-            step_each(&mut look_ups);
-        }
+        descend_each(&mut look_ups, self.by_number.height());
         Ok(())
     }
 }

@@ -9,7 +9,7 @@ ghost use Rattle.snapshots.specs.Listing.{database_of};
 
 use crate::record::Record;
 use crate::records::{Numbers, Records};
-use cow_index::{CowMap, LookUp, Shared, step_each};
+use cow_index::{CowMap, LookUp, Shared, descend_each};
 use document_id::{DocId, DocIds};
 use std::alloc::{AllocError, Global};
 
@@ -36,9 +36,7 @@ impl Records {
         ensures { IfOk result (λ m. m.entries ≡ changed_above (wanted_by (Some ids.now)) (database_of self.now) since) }
     {
         let mut look_ups = self.look_ups(alloc, ids)?;
-        for _level in 0..self.by_id.height() {
-            step_each(&mut look_ups);
-        }
+        descend_each(&mut look_ups, self.by_id.height());
         let mut changed = CowMap::new(alloc);
         for look_up in &look_ups {
             changed = with_change(changed, since, look_up.key(), look_up.value())?;
