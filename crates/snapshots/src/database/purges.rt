@@ -7,6 +7,7 @@ ghost use Rattle.model.specs.PurgeLog.{logged};
 ghost use Rattle.snapshots.specs.Replaced.{replaced_at};
 
 use crate::database::Database;
+use crate::record::Record;
 use crate::records::{Records, Replaced};
 use commands::{AskedRevisions, NamedRevisions};
 use document_id::DocId;
@@ -81,11 +82,12 @@ impl Database {
         ensures removed { IfOk result (λ revs. revs.items ≡ removed_of self.old id.now named.now) }
         ensures after { IfOk result (λ _. self.new ≡ after_purge self.old (id.now, named.now)) }
     {
-        let Some(tree) = self.tree(id) else {
+        let held = self.documents.get(id);
+        let Some(tree) = held.map(Record::tree) else {
             return Ok(Vec::new(self.alloc));
         };
         let (removed, left) = cut_document(self.alloc, tree, named)?;
-        let replaced = self.documents.get(id).map(Replaced::of);
+        let replaced = held.map(Replaced::of);
         if removed.is_empty() {
             return Ok(removed);
         }

@@ -1,10 +1,10 @@
-//! The tree that a document has, what a write changes of it, and what stores that.
+//! What a write changes of its document, and what stores that.
 ghost use Rattle.std.specs.Prelude.{◌≡◌, ◌<◌, ◌+◌, IfOk, false, option_map, option_copied, unwrap_or};
 ghost use Rattle.model.specs.Map.{get};
 ghost use Rattle.model.specs.Command.{Id};
 ghost use Rattle.model.specs.Edit.{revision_written};
 ghost use Rattle.model.specs.Database as model;
-ghost use Rattle.model.specs.Database.{same_tree, store_written, tree_at};
+ghost use Rattle.model.specs.Database.{same_tree, store_written};
 ghost use Rattle.snapshots.specs.Change.{IsOver, after_change, outcome_of};
 ghost use Rattle.snapshots.specs.Replaced.{replaced, replaced_at};
 
@@ -51,12 +51,6 @@ impl Change {
 }
 
 impl Database {
-    pub(super) fn tree(&self, id: &DocId) -> Option<&RevTree>
-        ensures { option_copied result ≡ tree_at self.now id.now }
-    {
-        self.documents.get(id).map(Record::tree)
-    }
-
     /// Makes the change of the document, and answers the outcome of its write. Where memory is refused, no documents are
     /// left.
     pub(super) fn store(
