@@ -42,11 +42,7 @@ pub fn run_server<A: AllocGlobal + Threads + Wait + Clock + Sync, V: Watch + Syn
     let Some(workers) = Workers::new(rt, rt.alloc(), workers, watch) else {
         return server_status(false);
     };
-    let Ok(opened) = Opened::new(rt.alloc(), config) else {
-        watch.few_workers(0, asked);
-        return server_status(false);
-    };
-    let served = serve_opened::<Brand, &A, A, V>(listener, config, terms, &workers, rt, rt, opened);
+    let served = serve_empty(listener, config, terms, &workers, rt);
     if !served {
         watch.few_workers(0, asked);
     }
@@ -58,6 +54,22 @@ fn server_status(served: bool) -> u8
     ensures { result ≡ server_status served }
 {
     if served { SERVED } else { NOT_OPENED }
+}
+
+/// Serves an empty database with these numbers, and answers whether it was opened.
+fn serve_empty<A: AllocGlobal + Threads + Wait + Clock + Sync, V: Watch + Sync>(
+    listener: &TcpListener,
+    config: Config,
+    terms: Terms,
+    workers: &Workers<'_, V>,
+    rt: &A,
+) -> bool
+    ensures { IsTrue result → ServesSessions None config server_turns terms.connections }
+{
+    let Ok(opened) = Opened::new(rt.alloc(), config) else {
+        return false;
+    };
+    serve_opened::<Brand, &A, A, V>(listener, config, terms, workers, rt, rt, opened)
 }
 
 /// Serves a database that was opened with these numbers, whose writer keeps a runtime of its own, and answers whether

@@ -1,5 +1,5 @@
 use Rattle.std.specs.Prelude.{None}
-use Rattle.http_front.proofs.server.run_server.Given as goal
+use Rattle.http_front.proofs.server.serve_empty.Given as goal
 
 -- the database that was just opened, in its first epoch
 abbrev pub ghosts-serve_opened-J-Naming : goal.ghosts-serve_opened-J-Naming
