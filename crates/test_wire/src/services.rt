@@ -1,5 +1,5 @@
 //! Connections of a service that echoes targets.
-ghost use Rattle.std.specs.Prelude.{◌≡◌, ◌++◌, IfOk};
+ghost use Rattle.std.specs.Prelude.{◌≡◌, IfOk};
 ghost use Rattle.streams.specs.Counts.{CountsFailure};
 ghost use Rattle.streams.specs.Writes.{Writes};
 
@@ -10,7 +10,7 @@ use http_framing::request::Request;
 use std::alloc::Global;
 use std::test::Fail;
 use streams::scripted::{ScriptedReader, ScriptedWriter, Step};
-use streams::{Failed, Sink, Source, Stream, write_all, write_both};
+use streams::{Failed, Sink, Source, Stream, write_all};
 
 /// Answers each request by its target.
 #[derive(Drop)]
@@ -25,7 +25,7 @@ impl Service<()> for Echo {
         request: &Request<'_>,
         writer: &mut W,
     ) -> Result<bool, Failed> {
-        write_response(writer, request.target(), "", request.closes())
+        write_text(writer, request.target(), request.closes())
     }
 
     fn refuse<W: Sink>(
@@ -38,24 +38,18 @@ impl Service<()> for Echo {
     }
 }
 
-/// Writes a response that is at hand, and passes on whether the connection closes after it.
+/// Writes a text, and passes on whether the connection closes after it.
 ///
 /// # Errors
 ///
-/// A write failed. A beginning of the response may have been written.
-fn write_response<W: Sink>(
-    writer: &mut W,
-    head: &str,
-    body: &str,
-    closes: bool,
-) -> Result<bool, Failed>
-    ensures written { Writes (W.taken writer.old) (W.taken writer.new) result
-        (head.now ++ body.now) }
+/// A write failed. A beginning of the text may have been written.
+fn write_text<W: Sink>(writer: &mut W, text: &str, closes: bool) -> Result<bool, Failed>
+    ensures written { Writes (W.taken writer.old) (W.taken writer.new) result text.now }
     ensures closes { IfOk result (λ c. c ≡ closes) }
     ensures failures { CountsFailure (W.failed_writes writer.old)
         (W.failed_writes writer.new) result }
 {
-    write_both(writer, head, body)?;
+    write_all(writer, text.as_bytes())?;
     Ok(closes)
 }
 
