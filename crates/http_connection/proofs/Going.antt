@@ -12,7 +12,8 @@ use Rattle.streams.specs.Counts.{CountRose}
 use Rattle.http_framing.specs.Input.{Item, Begins, Splits, AreOpen, IsUnfinished, closes_connection}
 use Rattle.http_framing.proofs.More.{Splits-append, Splits-push}
 use Rattle.http_connection.specs.Turn.{Turn, TakesTurn, items_of, responses_of, AreWhole, GoesOn}
-use Rattle.http_connection.specs.Served.{Streams, Served, EndsInput, EndsBy, CountsReads, CountsWrites}
+use Rattle.streams.specs.Streams.{Streams}
+use Rattle.http_connection.specs.Served.{Served, EndsInput, EndsBy, CountsReads, CountsWrites}
 use Rattle.http_connection.specs.declared.outcome.Cause.{Cause}
 use Rattle.http_connection.specs.declared.outcome.Cause.TheVariants as cause
 

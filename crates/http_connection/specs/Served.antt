@@ -3,22 +3,12 @@ use Rattle.std.specs.Prelude.{◌≡◌, ℕ, ◌<◌, List, [], ◌++◌, lengt
 use Rattle.std.specs.List.{FoldsTo}
 use Rattle.std.specs.Io.KnownBytes.{Consumes, Appends, IsAtEnd}
 use Rattle.streams.specs.Counts.{CountRose}
+use Rattle.streams.specs.Streams.{Streams}
 use Rattle.http_framing.specs.Input.{Splits, IsUnfinished}
 use Rattle.http_connection.specs.Turn.{Turn, all_turns, items_of, responses_of, AreWhole, GoesOn, ClosesAtLast}
 use Rattle.http_connection.specs.declared.outcome.Ended.{Ended}
 use Rattle.http_connection.specs.declared.outcome.Cause.{Cause}
 use Rattle.http_connection.specs.declared.outcome.Cause.TheVariants as cause
-
--- a reader and a writer: the bytes that are left and those that were taken, where they are known, and how many calls failed
-pub record Streams : Type 0 where
-  pub left : Option (List ℕ)
-  pub failed_reads : ℕ
-  pub taken : Option (List ℕ)
-  pub failed_writes : ℕ
-
--- the same, by what is left, the failed reads, what was taken and the failed writes
-abbrev pub streams_of : Option (List ℕ) → ℕ → Option (List ℕ) → ℕ → Streams
-streams_of left failed_reads taken failed_writes = record { left = left; failed_reads = failed_reads; taken = taken; failed_writes = failed_writes }
 
 -- the count of failed reads rose where a read ended the connection, and else stayed
 abbrev pub CountsReads : Cause → ℕ → ℕ → Type 0

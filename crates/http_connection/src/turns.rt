@@ -1,5 +1,6 @@
 //! The turns of a connection.
-ghost use Rattle.http_connection.specs.Served.{EndsInput, Served, streams_of};
+ghost use Rattle.streams.specs.Streams.{streams_of};
+ghost use Rattle.http_connection.specs.Served.{EndsInput, Served};
 
 use crate::answering::Service;
 use crate::outcome::{Cause, Ended};

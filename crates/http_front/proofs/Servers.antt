@@ -7,7 +7,7 @@ use Rattle.std.proofs.lemmas.List.{take-append-le, take_all}
 use Rattle.std.proofs.lemmas.List.FromFn.{get_or-map-range_with_len, length-map-range_with_len}
 use Rattle.model.specs.Database.{Database}
 use Rattle.model.specs.World.{Config}
-use Rattle.http_connection.specs.Served.{Streams}
+use Rattle.streams.specs.Streams.{Streams}
 use Rattle.http_connection.specs.declared.outcome.Ended.{Ended}
 use Rattle.sessions.specs.Known.{Known as KnownOfThreads, fresh}
 use Rattle.history_lock.specs.Ending.{Ending, Ends}

@@ -5,7 +5,7 @@ use Rattle.model.specs.History.{Chronicle}
 use Rattle.history_lock.specs.Ending.{Ending}
 use Rattle.history_dump.specs.Dump.{dump_text}
 use Rattle.streams.specs.Ends.{Ends}
-use Rattle.http_connection.specs.Served.{Streams}
+use Rattle.streams.specs.Streams.{Streams}
 use Rattle.http_connection.specs.declared.outcome.Ended.{Ended}
 use Rattle.http_front.specs.Opening.{program_config}
 use Rattle.http_front.specs.Once.{ServesDatabase, OpensNone, exit_status}

@@ -3,7 +3,7 @@ use Rattle.std.specs.Prelude.{◌≡◌, ℕ, ◌⊎◌, [], ◌∷◌, Option}
 use Rattle.model.specs.Database.{Database}
 use Rattle.model.specs.World.{Config}
 use Rattle.history_lock.specs.Ending.{Ending, Ends}
-use Rattle.http_connection.specs.Served.{Streams}
+use Rattle.streams.specs.Streams.{Streams}
 use Rattle.http_connection.specs.declared.outcome.Ended.{Ended}
 use Rattle.http_connection.specs.declared.outcome.Cause.{Cause}
 use Rattle.http_connection.specs.declared.outcome.Cause.TheVariants as cause

@@ -1,14 +1,14 @@
 //! What the program does with its standard streams where the history is asked for.
 ghost use Rattle.std.specs.Prelude.{◌≡◌, None};
-ghost use Rattle.http_connection.specs.Served.{streams_of};
+ghost use Rattle.streams.specs.Streams.{streams_of};
 ghost use Rattle.history_lock.specs.Names.{IsNamed};
 ghost use Rattle.http_front.specs.Opening.{program_config};
 ghost use Rattle.http_front.specs.Dumping.{DumpsOnce, WritesDump};
 
+use crate::dumps::dump;
 use crate::nowhere::Nowhere;
 use crate::once::{exit_status, serve_opened};
 use crate::opening::{MAX_PLACES, NOT_OPENED, server_config};
-use history_dump::dump_version;
 use history_lock::{Closed, Opened};
 use std::alloc::Global;
 use std::marker::Brand;
@@ -77,7 +77,7 @@ fn write_dump<J: Opening, W: Sink>(
     ensures { WritesDump (W.taken writer.old) (W.taken writer.new) (W.failed_writes writer.old)
         (W.failed_writes writer.new) (record { base = J.base; entries = closed.now.history }) status result }
 {
-    let Ok(text) = dump_version(alloc, closed.version()) else {
+    let Ok(text) = dump(alloc, closed) else {
         return NO_MEMORY;
     };
     end_with(writer, &text, status)

@@ -5,12 +5,14 @@
 #![tactic(auto)]
 
 mod dumping;
+mod dumps;
 mod nowhere;
 mod once;
 mod opening;
 mod server;
 
 pub use dumping::run_dump;
+pub use dumps::dump;
 pub use http_handlers::{
     CallFault, Calls, Lines, Pace, Setting, Terms, Viewer, Watch, Workers, listen, serve,
 };

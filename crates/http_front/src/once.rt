@@ -1,6 +1,6 @@
 //! What the program does with its standard streams.
 ghost use Rattle.std.specs.Prelude.{◌≡◌, [], ◌∷◌, IfSome, IfNone, None};
-ghost use Rattle.http_connection.specs.Served.{streams_of};
+ghost use Rattle.streams.specs.Streams.{streams_of};
 ghost use Rattle.sessions.specs.Known.{fresh};
 ghost use Rattle.history_lock.specs.Names.{IsNamed};
 ghost use Rattle.http_front.specs.Once.{ServesDatabase, ServesOnce, exit_status};

@@ -12,7 +12,8 @@ use Rattle.model.specs.Told.{NoneFalls}
 use Rattle.model.proofs.TellLaws.{Tells-append}
 use Rattle.http_framing.specs.Input.{closes_connection}
 use Rattle.http_connection.specs.Turn.{Turn, all_turns}
-use Rattle.http_connection.specs.Served.{Streams, Served}
+use Rattle.streams.specs.Streams.{Streams}
+use Rattle.http_connection.specs.Served.{Served}
 use Rattle.http_connection.specs.declared.outcome.Ended.{Ended}
 use Rattle.http_handlers.specs.Deeds.{Deed}
 use Rattle.http_handlers.specs.Known.{Known, database_at, sees_more, with_calls}

@@ -4,7 +4,8 @@ use Rattle.std.specs.List.{flat_map, AllZip}
 use Rattle.std.specs.Io.KnownBytes.{Consumes, Appends}
 use Rattle.http_framing.specs.Input.{Splits}
 use Rattle.http_connection.specs.Turn.{Turn, AreWhole, all_turns, items_of, responses_of}
-use Rattle.http_connection.specs.Served.{Streams, IsPartOf, EndsBy, CountsReads, CountsWrites}
+use Rattle.streams.specs.Streams.{Streams}
+use Rattle.http_connection.specs.Served.{IsPartOf, EndsBy, CountsReads, CountsWrites}
 use Rattle.http_connection.specs.declared.outcome.Ended.{Ended}
 use Rattle.model.specs.Command.{Entry}
 use Rattle.model.specs.History.{IsLegal, of_session, base_of}

@@ -1,7 +1,7 @@
 -- What a worker does with the session that it is lent.
 use Rattle.std.specs.Prelude.{◌≡◌, ℕ, ◌≤◌, ◌==◌, List, length, Option, None, Some, if◌then◌else◌}
 use Rattle.std.specs.List.{FoldsTo}
-use Rattle.http_connection.specs.Served.{Streams}
+use Rattle.streams.specs.Streams.{Streams}
 use Rattle.http_connection.specs.declared.outcome.Ended.{Ended}
 use Rattle.http_handlers.specs.Known.{Known}
 use Rattle.http_handlers.specs.Connection.{IsConnection}

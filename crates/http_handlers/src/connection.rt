@@ -1,6 +1,6 @@
 //! The connections of a session.
 ghost use Rattle.std.specs.Prelude.{◌≡◌, length};
-ghost use Rattle.http_connection.specs.Served.{streams_of};
+ghost use Rattle.streams.specs.Streams.{streams_of};
 ghost use Rattle.http_handlers.specs.Answers.{Answers};
 ghost use Rattle.http_handlers.specs.Connection.{IsConnection};
 ghost use Rattle.model.specs.History.{IsLegal, base_of};

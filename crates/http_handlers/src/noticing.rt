@@ -1,6 +1,6 @@
 //! Connections of which an operator hears.
 ghost use Rattle.std.specs.Prelude.{◌≡◌};
-ghost use Rattle.http_connection.specs.Served.{streams_of};
+ghost use Rattle.streams.specs.Streams.{streams_of};
 ghost use Rattle.http_handlers.specs.Answers.{Answers};
 ghost use Rattle.http_handlers.specs.Connection.{IsConnection};
 ghost use Rattle.http_handlers.specs.Listening.{Serves};

@@ -1,7 +1,7 @@
 -- What a run of `replay base` writes where it reports a verdict.
 use Rattle.std.proofs.Common.{◌≡◌, ◌⊎◌, ℕ, List, inl, inr, sym, subst}
 use Rattle.std.specs.Io.KnownBytes.{Consumes, IsAtEnd}
-use Rattle.http_connection.specs.Served.{Streams}
+use Rattle.streams.specs.Streams.{Streams}
 use Rattle.replay_cli.specs.Run.{Told, Judged, NoMemory, IsFound}
 use Rattle.replay_cli.specs.RunBase.{Instead, IsGiven, IsInstead}
 use Rattle.replay_cli.specs.Successors.{IsRefused}

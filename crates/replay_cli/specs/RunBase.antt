@@ -1,7 +1,7 @@
 -- A run of `replay base`.
 use Rattle.std.specs.Prelude.{ℕ, List, codes, ⊤}
 use Rattle.streams.specs.Ends.{Ends}
-use Rattle.http_connection.specs.Served.{Streams}
+use Rattle.streams.specs.Streams.{Streams}
 use Rattle.replay_cli.specs.Run.{Told, Judged, NoMemory, ReadFailed, IsFound, IsOfInput, told_text, told_status}
 use Rattle.replay_cli.specs.Successors.{IsLastEpoch, IsRefused, IsSuccessorLine}
 

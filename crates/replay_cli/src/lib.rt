@@ -1,11 +1,10 @@
-//! The dump of a history, and its audit.
+//! The audit of a dump.
 //!
 //! A dump is a text: a first line that says what the history begins from, and a line for each entry. Whoever has it can
 //! say whether the history in it is legal, without asking the database that wrote it.
 #![tactic(auto)]
 
 mod audit;
-mod dumps;
 mod input;
 mod judge;
 mod lines;
@@ -16,7 +15,6 @@ mod successor;
 mod verdict;
 
 pub use audit::check;
-pub use dumps::dump;
 pub use next_base::run_base;
 pub use read::read_entry;
 pub use run::run_check;

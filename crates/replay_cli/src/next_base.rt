@@ -1,7 +1,7 @@
 //! What the program does with its standard streams where the base of a next epoch is asked for.
 ghost use Rattle.std.specs.Prelude.{◌≡◌, ◌⊎◌, ◌↔◌, ℕ, List, Ok, Err, IfOk};
 ghost use Rattle.std.specs.Io.KnownBytes.{Consumes, IsAtEnd};
-ghost use Rattle.http_connection.specs.Served.{streams_of};
+ghost use Rattle.streams.specs.Streams.{streams_of};
 ghost use Rattle.streams.specs.Ends.{Ends};
 ghost use Rattle.replay_cli.specs.Input.{CountsReads};
 ghost use Rattle.replay_cli.specs.RunBase.{RunsBase, Given, given_status, given_text};

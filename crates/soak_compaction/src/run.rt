@@ -8,8 +8,9 @@ use crate::part::{meet, part};
 use crate::replay::replayed;
 use crate::soak::soak;
 use commands::{Config, Limits};
+use history_dump::dump_version;
 use history_lock::{Closed, Opened, open};
-use replay_cli::{Verdict, check, dump};
+use replay_cli::{Verdict, check};
 use sessions::Session;
 use snapshots::Version;
 use std::alloc::Global;
@@ -144,7 +145,7 @@ fn meet_in<X: Wait, C: Wait + Drop, J: Opening, G: Gate + Drop>(
 
 /// What an audit of its dump says of a closed history. Nothing where memory was refused.
 fn audited<J: Opening>(alloc: Global, closed: &Closed<J>) -> Option<Verdict> {
-    let text = dump(alloc, closed).ok()?;
+    let text = dump_version(alloc, closed.version()).ok()?;
     check(alloc, text.as_slice()).ok()
 }
 

@@ -4,3 +4,4 @@ pub mod Stream
 pub mod Lending
 pub mod Writes
 pub mod Script
+pub mod Streams

@@ -1,5 +1,5 @@
 use Rattle.std.proofs.Common.{rules, List, ℕ, subst}
-use Rattle.http_connection.specs.Served.{Streams}
+use Rattle.streams.specs.Streams.{Streams}
 use Rattle.streams.specs.Ends.{Ends}
 use Rattle.replay_cli.specs.Run.{NoMemory, ReadFailed}
 use Rattle.replay_cli.specs.RunBase.{Line, NoneFollows, Instead}
