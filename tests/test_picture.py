@@ -5,6 +5,9 @@
 An arrow leads from a crate to one that it depends on, and is left out where another way leads there. So the arrows must be
 those of crates.txt without the ones that others imply. The first picture has the groups of crates, which are the headings of
 crates.txt; the second has the crates of each group. Crates of tests and measurements are in neither.
+
+What an audit and a journal depend on is small: below `replay` there are at most 24 crates, and below it and `journal` none of
+threads or HTTP.
 """
 import os
 import re
@@ -21,11 +24,20 @@ def pictures():
         return re.findall(r"^```mermaid\n(.*?)^```$", file.read(), re.S | re.M)
 
 
-def arrows_wanted(below):
-    """The pairs of a name and one below it with no third between them."""
+MOST_BELOW_REPLAY = 24
+
+
+def all_below(below):
+    """For each name all that it depends on, by way of others too."""
     reached = {}
     for name, names in below.items():
         reached[name] = set(names).union(*(reached[it] for it in names))
+    return reached
+
+
+def arrows_wanted(below):
+    """The pairs of a name and one below it with no third between them."""
+    reached = all_below(below)
     return {(name, it) for name, names in below.items() for it in names if not any(it in reached[other] for other in names)}
 
 
@@ -50,6 +62,18 @@ def members_drawn(picture):
     """The crates of each group of the second picture."""
     rows = re.findall(r'^ +subgraph \w+\["([^"]+)"\]\n +(.+)\n +end$', picture, re.M)
     return {heading: names.split(" & ") for heading, names in rows}
+
+
+def check_audit(below, members):
+    """What is wrong with what an audit and a journal depend on."""
+    reached = all_below(below)
+    if len(reached["replay"]) > MOST_BELOW_REPLAY:
+        yield "%d crates are below replay: %s" % (len(reached["replay"]), " ".join(sorted(reached["replay"])))
+    threads = set(members["concurrency"])
+    http = {name for name in below if name.startswith("http_")} | {"sockets", "request_log"}
+    for name in ("replay", "journal"):
+        for it in sorted(reached[name] & (threads | http)):
+            yield "%s depends on %s" % (name, it)
 
 
 class Tally:
@@ -78,6 +102,9 @@ def main():
     drawn = members_drawn(second)
     tally.compare("member", {(heading, it) for heading in members for it in members[heading]}, {(heading, it) for heading in drawn for it in drawn[heading]})
     tally.compare("arrow", arrows_wanted(below), arrows_drawn(second))
+    wrong = list(check_audit(below, members))
+    print("".join(line + "\n" for line in wrong), end="")
+    tally.passed, tally.failed = tally.passed + (not wrong), tally.failed + len(wrong)
     return report(tally.passed, tally.failed)
 
 
