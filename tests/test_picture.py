@@ -17,14 +17,13 @@ from lib.checks import report
 from lib.crates import depends_on, groups
 from lib.programs import ROOT
 
+MOST_BELOW_REPLAY = 24
+
 
 def pictures():
     """The text of each picture."""
     with open(os.path.join(ROOT, "docs", "ARCHITECTURE.md"), encoding="utf-8") as file:
         return re.findall(r"^```mermaid\n(.*?)^```$", file.read(), re.S | re.M)
-
-
-MOST_BELOW_REPLAY = 24
 
 
 def all_below(below):
