@@ -2,10 +2,10 @@
 
     python3 benches/bench_compaction.py [--thousands N] [--store] [BENCH_COMPACTION]
 
-There are so many thousand documents of 10 revisions each, 100 where no number is given. The program waits after each step for a byte,
-and then its processor time and its memory are read; a time is the least of three runs. How often it asks for memory is counted in
-runs of their own, each of which ends after a step. That needs a C compiler. The ratios are of a slice and of the end to the edits
-beside them, and of their requests for memory.
+There are so many thousand documents of 10 revisions each, 100 where no number is given. The program waits after each step for a
+byte, and then its processor time and its memory are read; a time is the least of three runs. How often it asks for memory is
+counted in runs of their own, each of which ends after a step. That needs a C compiler. The ratios are of a slice and of the end
+to the edits beside them, and of their requests for memory.
 """
 import subprocess
 import sys
@@ -32,7 +32,9 @@ class Program:
     """A run of the program."""
 
     def __init__(self, path, thousands):
-        self.process = subprocess.Popen([path, str(thousands)], stdin=subprocess.PIPE, stdout=subprocess.PIPE, text=True, bufsize=1)
+        self.process = subprocess.Popen(
+            [path, str(thousands)], stdin=subprocess.PIPE, stdout=subprocess.PIPE, text=True, bufsize=1
+        )
 
     def used(self):
         """Its processor time so far, in milliseconds."""

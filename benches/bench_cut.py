@@ -2,10 +2,9 @@
 
     python3 benches/bench_cut.py [--purges N] [--store] [COUCHD]
 
-A server has its limit of the log set to so many purges (1,000,000 where no
-number is given), and as many documents are put and purged, 10,000 by each request. Then one connection sets the limit to 1, while
-a second one reads and a third one writes a document, again and again. The same two are timed beside a bulk that fills a request. The
-ratio is of the cut to that bulk.
+A server has its limit of the log set to so many purges (1,000,000 where no number is given), and as many documents are put and
+purged, 10,000 by each request. Then one connection sets the limit to 1, while a second one reads and a third one writes a
+document, again and again. The same two are timed beside a bulk that fills a request. The ratio is of the cut to that bulk.
 """
 import sys
 import threading

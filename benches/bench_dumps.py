@@ -2,11 +2,11 @@
 
     python3 benches/bench_dumps.py [--store] [COUCHD REPLAY]
 
-Each history of the first table has so many PUTs of new documents. Of serving them, of dumping their history and of its audit the table
-has the processor time, the least of five runs, and the most memory that was held, behind it what that is of the dump. Each history of
-the second has so many documents of ten revisions, a merge of a path each, in bulks of 1,000. Of serving them, of the audit of their
-dump, of `replay base` over it and of the audit of the line that this writes the table has the same. The ratios are of an audit to
-serving and dumping, of its memory to the dump, and of the largest history to the smallest.
+Each history of the first table has so many PUTs of new documents. Of serving them, of dumping their history and of its audit the
+table has the processor time, the least of five runs, and the most memory that was held, behind it what that is of the dump. Each
+history of the second has so many documents of ten revisions, a merge of a path each, in bulks of 1,000. Of serving them, of the
+audit of their dump, of `replay base` over it and of the audit of the line that this writes the table has the same. The ratios are
+of an audit to serving and dumping, of its memory to the dump, and of the largest history to the smallest.
 """
 import hashlib
 import os
@@ -64,7 +64,9 @@ def path(number):
 
 def print_audits(couchd, replay, ratios):
     each = []  # the seconds of an entry's audit
-    print("| Entries | Dump (MB) | `couchd once` (s) | `couchd dump` (s) | `replay check` (s) | memory of the audit (MB), of the dump |")
+    print(
+        "| Entries | Dump (MB) | `couchd once` (s) | `couchd dump` (s) | `replay check` (s) | memory of the audit (MB), of the dump |"
+    )
     print("|---|---|---|---|---|---|")
     for count in COUNTS:
         data = puts(count)
@@ -74,15 +76,20 @@ def print_audits(couchd, replay, ratios):
         assert said == b"legal %d\n" % count, said
         size = len(dump) / 2**20
         each.append(checking / count)
-        print("| %d | %.1f | %.2f | %.2f | %.2f | %.0f / %.1f |" % (count, size, once, dumping, checking, held, held / size), flush=True)
+        print(
+            "| %d | %.1f | %.2f | %.2f | %.2f | %.0f / %.1f |" % (count, size, once, dumping, checking, held, held / size),
+            flush=True,
+        )
     ratios.add("audit of %d entries, of serving and dumping them" % count, checking / dumping)
     ratios.add("memory of that audit, of the dump", held / size)
     ratios.add("audit of an entry of %d, of one of %d" % (COUNTS[-1], COUNTS[0]), each[-1] / each[0])
 
 
 def print_epochs(couchd, replay, ratios):
-    print("| Documents | Dump, line (MB) | `couchd once` (s) | `replay check` (s) | `replay base` (s) | `replay check` of the line (s) "
-          "| memory of `replay base` (MB), of the dump | of the line's audit (MB), of the line |")
+    print(
+        "| Documents | Dump, line (MB) | `couchd once` (s) | `replay check` (s) | `replay base` (s) | `replay check` of the line (s) "
+        "| memory of `replay base` (MB), of the dump | of the line's audit (MB), of the line |"
+    )
     print("|---|---|---|---|---|---|---|---|")
     for count in DOCUMENTS:
         data = merges(count)
@@ -93,8 +100,11 @@ def print_epochs(couchd, replay, ratios):
         said, reading, read = least([replay, "check"], line)
         assert said == b"legal 0\n", said
         size, width = len(dump) / 2**20, len(line) / 2**20
-        print("| %d | %.1f, %.1f | %.2f | %.2f | %.2f | %.2f | %.0f / %.1f | %.0f / %.1f |"
-              % (count, size, width, once, checking, making, reading, held, held / size, read, read / width), flush=True)
+        print(
+            "| %d | %.1f, %.1f | %.2f | %.2f | %.2f | %.2f | %.0f / %.1f | %.0f / %.1f |"
+            % (count, size, width, once, checking, making, reading, held, held / size, read, read / width),
+            flush=True,
+        )
     ratios.add("the line of a base of %d documents read, of serving them" % count, reading / once)
     ratios.add("memory of that reading, of the line", read / width)
 

@@ -2,16 +2,17 @@
 
     python3 benches/bench_journal.py [--seconds N] [--rounds N] [--entries N] [--store] [COUCHD]
 
-It needs wrk. Sixteen connections PUT new documents: requests a second without `--data`, and for each `--sync`. Beside it
-`redis-benchmark` SETs as many bytes over sixteen connections, for `appendfsync everysec` and `always`. All that a row compares is
-measured in turns, so often as there are rounds, and the best of each counts. Then a journal of so many entries (100,000 where
-that is not given) is written and read: how long the writes took, and how long the start after them. At last an epoch of as many documents
-is full: how long no write is taken until the next one is there.
+It needs wrk. One, 16 and 48 connections PUT new documents: requests a second without `--data`, and for each `--sync`. Beside it
+`redis-benchmark` SETs as many bytes over as many connections, for `appendfsync everysec` and `always`. All that a row compares is
+measured in turns, so often as there are rounds, and the median of each counts. Then a journal of so many entries (100,000 where
+that is not given) is written and read: how long the writes took, and how long the start after them. At last an epoch of as many
+documents is full: how long no write is taken until the next one is there.
 """
 import contextlib
 import os
 import shutil
 import socket
+import statistics
 import subprocess
 import sys
 import tempfile
@@ -24,7 +25,8 @@ from shared.ratios import Ratios, with_store
 from lib.programs import arguments
 from lib.server import Connection, Server
 
-CONNECTIONS = 16
+CONNECTIONS = (1, 16, 48)
+WORKERS = 50
 LENGTH = 29  # of a body of the PUTs
 BULK = 1000  # so many requests are sent before their answers are read, and so many documents are in one
 
@@ -38,16 +40,19 @@ class Couchd:
 
     @contextlib.contextmanager
     def running(self, folder):
-        words = [] if self.sync is None else ["--data", os.path.join(folder, "data"), "--sync", self.sync]
-        with Server(self.program, "--workers", "32", *words) as server:
+        kept = {} if self.sync is None else {"data": os.path.join(folder, "data")}
+        options = [] if self.sync is None else ["--sync", self.sync]
+        with Server(self.program, "--workers", str(WORKERS), *options, **kept) as server:
             yield server.port
 
-    def rate(self, folder, seconds):
+    def rate(self, folder, connections, seconds):
+        """Writes a second that are answered as done."""
         with self.running(folder) as port:
             script = os.path.join(folder, "requests.lua")
             with open(script, "w") as file:
                 file.write(PUT)
-            return load("http://127.0.0.1:%d/db/" % port, CONNECTIONS, seconds, script)[1]
+            requests, rate, _, _, failed = load("http://127.0.0.1:%d/db/" % port, connections, seconds, script)
+            return rate * (requests - failed) / max(requests, 1)
 
 
 class Redis:
@@ -57,34 +62,56 @@ class Redis:
         self.policy = policy
         self.name = "redis, appendfsync " + policy
 
-    def rate(self, folder, seconds):
+    def rate(self, folder, connections, seconds):
         with socket.socket() as free:
             free.bind(("127.0.0.1", 0))
             port = free.getsockname()[1]
         words = ["--port", str(port), "--appendonly", "yes", "--appendfsync", self.policy, "--save", "", "--dir", folder]
         with subprocess.Popen(["redis-server", *words], stdout=subprocess.DEVNULL) as server:
             time.sleep(0.5)
-            requests = str(20_000 * seconds if self.policy == "everysec" else 1_000 * seconds)
-            sets = ["-t", "set", "-c", str(CONNECTIONS), "-n", requests, "-d", str(LENGTH), "-r", "100000000", "--csv"]
+            each = 20_000 if self.policy == "everysec" else 500  # that one connection may write in a second
+            requests = str(each * min(connections, 16) * seconds)
+            sets = ["-t", "set", "-c", str(connections), "-n", requests, "-d", str(LENGTH), "-r", "100000000", "--csv"]
             text = subprocess.run(["redis-benchmark", "-p", str(port), *sets], capture_output=True, text=True, check=True).stdout
             server.terminate()
         return float(text.strip().splitlines()[-1].split(",")[1].strip('"'))
 
 
-def compared(servers, seconds, rounds, folder):
-    """The best rate of each server, measured in turns."""
-    rates = {server: 0.0 for server in servers}
-    for _ in range(rounds):
+def compared(servers, connections, given, folder):
+    """The median rate of each server, by its name, measured in turns."""
+    rates = {server.name: [] for server in servers}
+    for _ in range(given.rounds):
         for server in servers:
             with tempfile.TemporaryDirectory(dir=folder) as place:
-                rates[server] = max(rates[server], server.rate(place, seconds))
-    return rates
+                rates[server.name].append(server.rate(place, connections, given.seconds))
+    return {name: statistics.median(found) for name, found in rates.items()}
+
+
+def compare_all(given, ratios, folder):
+    """The rates over each number of connections, and their ratios."""
+    plain, second, never, always = (Couchd(given.couchd, sync) for sync in (None, "second", "never", "always"))
+    servers = [plain, second, never, always]
+    if shutil.which("redis-server"):
+        servers += [Redis("everysec"), Redis("always")]
+    for connections in CONNECTIONS:
+        rates = compared(servers, connections, given, folder)
+        for name, rate in rates.items():
+            print("%2d connections, %-28s %8s a second" % (connections, name, format(round(rate), ",")), flush=True)
+        if connections != 48:
+            ratios.add(
+                "PUT with --sync second, of none, %d connections" % connections,
+                rates[second.name] / rates[plain.name],
+                more_is_better=True,
+            )
+        if servers[-1] is not always:
+            ratio = rates[always.name] / rates[servers[-1].name]
+            ratios.add("PUT with --sync always, of a SET of redis, %d connections" % connections, ratio, more_is_better=True)
 
 
 def starts(program, entries, folder):
     """Seconds to write so many entries, seconds of the start after them, and the megabytes of both runs."""
-    words = ["--data", os.path.join(folder, "long"), "--sync", "second", "--max-places", "4294967295", "--workers", "2"]
-    with Server(program, *words) as server:
+    options, data = ["--sync", "second", "--max-places", "4294967295", "--workers", "2"], os.path.join(folder, "long")
+    with Server(program, *options, data=data) as server:
         connection = Connection(server.port)
         began = time.monotonic()
         for at in range(0, entries, BULK):
@@ -96,15 +123,15 @@ def starts(program, entries, folder):
         time.sleep(2)  # until the keeper has synced
         before = machine.megabytes(server.process.pid, "VmHWM")
     began = time.monotonic()
-    with Server(program, *words) as server:
+    with Server(program, *options, data=data) as server:
         return written, time.monotonic() - began, before, machine.megabytes(server.process.pid, "VmHWM")
 
 
 def pause(program, documents, folder):
     """Seconds in which no write is taken while an epoch of so many documents ends and the next one begins."""
     bulks = documents // BULK
-    words = ["--data", os.path.join(folder, "full"), "--sync", "second", "--max-places", str(bulks + 1000), "--workers", "2"]
-    with Server(program, *words) as server:
+    options = ["--sync", "second", "--max-places", str(bulks + 1000), "--workers", "2"]
+    with Server(program, *options, data=os.path.join(folder, "full")) as server:
         connection = Connection(server.port)
         for bulk in range(bulks):
             docs = [{"_id": "d%d-%d" % (bulk, number), "n": number, "text": "some words"} for number in range(BULK)]
@@ -135,16 +162,9 @@ def main():
     given = reader.parse_args()
     if shutil.which("wrk") is None:
         sys.exit("bench_journal: wrk is not installed")
-    servers = [Couchd(given.couchd, sync) for sync in (None, "second", "never", "always")]
-    if shutil.which("redis-server"):
-        servers += [Redis("everysec"), Redis("always")]
     ratios = Ratios("journal", given)
     with tempfile.TemporaryDirectory() as folder:
-        rates = compared(servers, given.seconds, given.rounds, folder)
-        for server, rate in rates.items():
-            print("%-28s %s a second" % (server.name, format(round(rate), ",")), flush=True)
-        plain, second = (rates[server] for server in servers[:2])
-        ratios.add("PUT with --sync second to none", second / plain, more_is_better=True)
+        compare_all(given, ratios, folder)
         written, read, before, after = starts(given.couchd, given.entries, folder)
         print("%d entries: written in %.1f s, read in %.1f s; %d and %d MB" % (given.entries, written, read, before, after))
         ratios.add("a start to the writes before it", read / written)

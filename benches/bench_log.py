@@ -2,12 +2,11 @@
 
     python3 benches/bench_log.py [--count N] [--rounds N] [--store] [COUCHD]
 
-One worker is asked for one document, so many times one after the other (20,000 where no number is given), over one connection. Both servers
-are measured in turns, each with a server of its own that writes its lines into a file, and the least of the rounds counts. The ratio is
-of a GET that is logged to one that is not.
+One worker is asked for one document, so many times one after the other (20,000 where no number is given), over one connection.
+Both servers are measured in turns, each with a server of its own that writes its lines into a file, and the least of the rounds
+counts. The ratio is of a GET that is logged to one that is not.
 """
 import sys
-import tempfile
 
 from shared import machine
 from shared.ratios import Ratios, with_store
@@ -21,7 +20,7 @@ OPTIONS = {"without --log": [], "with --log": ["--log"]}
 
 def used(couchd, options, count):
     """The processor seconds of one worker for each of so many GETs."""
-    with tempfile.TemporaryFile() as errors, Server(couchd, "--workers", "1", *options, errors=errors) as server:
+    with Server(couchd, "--workers", "1", *options) as server:
         client = Connection(server.port)
         client.ask("PUT", "/db/a", {"value": 123})
         for _ in range(WARM):

@@ -2,10 +2,9 @@
 
     python3 benches/bench_polls.py [--polls N]... [--only all|some]... [--store] [COUCHD]
 
-A server with 64 workers and no documents is asked for so many long polls
-at once (1, and then 32, where no number is given), each over a connection of its own: of all documents, and then of ten that are
-listed. A poll takes about two minutes. The processor time is that of the server's process, as the system counts it. The ratio is of
-a poll of some documents to one of all.
+A server with 64 workers and no documents is asked for so many long polls at once (1, and then 32, where no number is given), each
+over a connection of its own: of all documents, and then of ten that are listed. A poll takes about two minutes. The processor
+time is that of the server's process, as the system counts it. The ratio is of a poll of some documents to one of all.
 """
 import socket
 import sys
@@ -56,7 +55,9 @@ def main():
                 print(what + ", %.2f seconds of processor time each, %.2f a minute" % each, flush=True)
     ratios = Ratios("polls", given)
     for polls in [] if given.only else counts:
-        ratios.add("processor time of %d polls of some documents, of polls of all" % polls, used["some", polls] / used["all", polls])
+        ratios.add(
+            "processor time of %d polls of some documents, of polls of all" % polls, used["some", polls] / used["all", polls]
+        )
     return ratios.report()
 
 

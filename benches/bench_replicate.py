@@ -56,7 +56,7 @@ def one_batch(source, target, since):
     missing = target.ask("POST", "/db/_revs_diff", asked)
     documents = []
     for id, found in missing.items():
-        revs = "%5B" + "%2C".join('%22' + rev + '%22' for rev in found["missing"]) + "%5D"
+        revs = "%5B" + "%2C".join("%22" + rev + "%22" for rev in found["missing"]) + "%5D"
         opened = source.ask("GET", "/db/%s?revs=true&latest=true&open_revs=%s" % (id, revs))
         documents += [one["ok"] for one in opened]
     if documents:

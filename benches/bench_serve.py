@@ -2,10 +2,10 @@
 
     python3 benches/bench_serve.py [--seconds N] [--rounds N] [--only NAME] [--preload LIBRARY]... [--store] [COUCHD]...
 
-It needs wrk. For GET of a document, PUT of a new one, a bulk of 100 and
-`_changes` of 100 rows, at 1, 4, 16 and 64 connections: requests a second, the latency that half and 99 of 100 requests stay under,
-and the server's processor time a request. Each program runs once more with each LIBRARY in front of the C library, as another
-heap. nginx answers the GET alone, with `return 200` and as many bytes.
+It needs wrk. For GET of a document, PUT of a new one, a bulk of 100 and `_changes` of 100 rows, at 1, 4, 16 and 64 connections:
+requests a second, the latency that half and 99 of 100 requests stay under, and the server's processor time a request. Each
+program runs once more with each LIBRARY in front of the C library, as another heap. nginx answers the GET alone, with `return
+200` and as many bytes.
 
 All that a row of ratios compares is measured in turns, so often as there are rounds, and the best of each counts. A server is
 started for each measurement, with 10,000 documents, so that no run is slowed by what another one wrote. The ratios are of the
@@ -37,13 +37,18 @@ local threads = 0
 function setup(thread) thread:set("name", threads); threads = threads + 1 end
 function init(args) count = 0 end
 """
-PUT = NAMES + """
+PUT = (
+    NAMES
+    + """
 function request()
     count = count + 1
     return wrk.format("PUT", "/db/" .. name .. "-" .. count, nil, '{"n":' .. count .. ',"text":"some words"}')
 end
 """
-BULK = NAMES + """
+)
+BULK = (
+    NAMES
+    + """
 function request()
     count = count + 1
     local docs = {}
@@ -53,6 +58,7 @@ function request()
     return wrk.format("POST", "/db/_bulk_docs", nil, '{"docs":[' .. table.concat(docs, ",") .. "]}")
 end
 """
+)
 
 # what is asked, and the script that makes its requests
 OPERATIONS = {
@@ -108,7 +114,11 @@ class Nginx:
 worker_processes 4; daemon off; pid %s/pid; error_log /dev/null;
 events { worker_connections 256; }
 http { access_log off; keepalive_requests 1000000000; server { listen 127.0.0.1:%d; default_type application/json; return 200 "%s"; } }
-""" % (folder, port, "x" * LENGTH)
+""" % (
+            folder,
+            port,
+            "x" * LENGTH,
+        )
         path = os.path.join(folder, "nginx.conf")
         with open(path, "w") as file:
             file.write(text)
@@ -140,9 +150,7 @@ def measure(server, operation, connections, seconds, folder):
         file.write(text or "")
     with server.running(folder) as (port, processes):
         before = sum(map(machine.processor_seconds, processes))
-        requests, rate, half, most, failed = load(
-            "http://127.0.0.1:%d%s" % (port, target), connections, seconds, text and script
-        )
+        requests, rate, half, most, failed = load("http://127.0.0.1:%d%s" % (port, target), connections, seconds, text and script)
         spent = sum(map(machine.processor_seconds, processes)) - before
     return rate, half, most, spent / max(requests, 1) * 1e6, failed
 
@@ -172,7 +180,17 @@ def compare(servers, operation, seconds, rounds, folder):
     for (server, count), (rate, half, most, spent, failed) in found.items():
         print(
             "%-22s %3d connections %9.0f/s   p50 %7.3f ms   p99 %7.3f ms   %7.2f us of processor time   %s: %s%s"
-            % (operation, count, rate, half, most, spent, server.name, ", ".join(ratios_of(server, count, found)), "   %d FAILED" % failed if failed else ""),
+            % (
+                operation,
+                count,
+                rate,
+                half,
+                most,
+                spent,
+                server.name,
+                ", ".join(ratios_of(server, count, found)),
+                "   %d FAILED" % failed if failed else "",
+            ),
             flush=True,
         )
     return {key: measured[0] for key, measured in found.items()}

@@ -2,8 +2,8 @@
 
     python3 benches/bench_shared_map.py [--store]
 
-It builds the crate `bench_shared_map` as a static library, and runs shared_map/main.rs over it. It needs `rustc`. The ratios are those of
-the table to `BTreeMap` for the most keys, and the allocations.
+It builds the crate `bench_shared_map` as a static library, and runs shared_map/main.rs over it. It needs `rustc`. The ratios are
+those of the table to `BTreeMap` for the most keys, and the allocations.
 """
 import os
 import re

@@ -2,16 +2,16 @@
 
     python3 benches/bench_speed.py [--sizes 1000,10000,100000] [--runs N] [--only TEXT]... [--store] [COUCHD ...]
 
-A figure is the processor time of the program for one operation, in microseconds; of several programs they are behind one
-another, with the ratio of the last to the first. The requests of a row are cut into pieces, at most 20, which go to each
-program in turn; a figure is that of the best piece. Every program runs on the last processor. Requests are sent without
-waiting for the response before. The database has so many documents when a row's measurement begins; the rows that write make
-it larger, and come last. The ratios are of the largest database to the smallest.
+A figure is the processor time of the program for one operation, in microseconds; of several programs they are behind one another,
+with the ratio of the last to the first. The requests of a row are cut into pieces, at most 20, which go to each program in turn;
+a figure is that of the best piece. Every program runs on the last processor. Requests are sent without waiting for the response
+before. The database has so many documents when a row's measurement begins; the rows that write make it larger, and come last. The
+ratios are of the largest database to the smallest; with `--store` those of each size are stored for the plots too.
 
 With `--runs`, figures and ratios are the medians of so many runs, each of which begins with empty databases. With `--only`, which
 may be given several times, only the rows are measured whose names contain one of the texts, over the documents that are put
-first. A program beside others may be any server that reads requests from its standard input when it is run as `PROGRAM once`: a row
-that one of them answers with another status is left out, and a line says so.
+first. A program beside others may be any server that reads requests from its standard input when it is run as `PROGRAM once`: a
+row that one of them answers with another status is left out, and a line says so.
 """
 import hashlib
 import json
@@ -19,6 +19,7 @@ import random
 import statistics
 import sys
 
+from shared.figures import Figures
 from shared.pipe import OtherStatus, Program, compared, figure, least
 from shared.ratios import Ratios, with_store
 
@@ -29,7 +30,13 @@ OPERATIONS = 10000  # of the rows for single documents
 PIECES = 20
 FIRST = "to put the documents, in bulks of 1,000, for each"
 MEMORY = "most memory, megabytes"
-COMPARED = ["GET of a document", "PUT of a new document", "PUT of a next revision", "bulk of 1,000, for each document", "merge of 100 conflicts, for each"]
+COMPARED = [
+    "GET of a document",
+    "PUT of a new document",
+    "PUT of a next revision",
+    "bulk of 1,000, for each document",
+    "merge of 100 conflicts, for each",
+]
 
 
 class Documents:
@@ -110,7 +117,9 @@ def rows(size, source, documents):
     yield "bulk of 100, for each document", bulks, 201, 100
     bulks = [bulk([documents.new_in_bulk() for _ in range(1000)]) for _ in range(5)]
     yield "bulk of 1,000, for each document", bulks, 201, 1000
-    merges = [merge([{"_id": documents.id(n), "_rev": "1-" + "%032x" % n} for n in (some() for _ in range(100))]) for _ in range(20)]
+    merges = [
+        merge([{"_id": documents.id(n), "_rev": "1-" + "%032x" % n} for n in (some() for _ in range(100))]) for _ in range(20)
+    ]
     yield "merge of 100 conflicts, for each", merges, 201, 100
     puts = []
     for _ in range(OPERATIONS):
@@ -126,7 +135,8 @@ def pieces(requests):
 
 
 class Bench:
-    """Runs of some programs side by side, over the rows whose names contain one of the texts, or over all where there are none."""
+    """Runs of some programs side by side, over the rows whose names contain one of the texts, or over all where there are
+    none."""
 
     def __init__(self, paths, texts):
         self.paths, self.texts = paths, texts
@@ -182,11 +192,13 @@ def main():
     print_table(sizes, names, runs)
     for name, why in bench.left_out.items():
         print("left out: %s: %s" % (name, why))
-    ratios = Ratios("speed", given)
-    for name in COMPARED:
-        if name in names:
-            growth = statistics.median(tables[-1][name][-1] / tables[0][name][-1] for tables in runs)
-            ratios.add("%s, %d documents of %d" % (name, sizes[-1], sizes[0]), growth)
+    ratios, figures = Ratios("speed", given), Figures("growth", given)
+    for name in [name for name in COMPARED if name in names]:
+        for at, size in enumerate(sizes):
+            grown = statistics.median(tables[at][name][-1] / tables[0][name][-1] for tables in runs)
+            figures.add("Processor time of an operation", name, size, grown)
+        ratios.add("%s, %d documents of %d" % (name, sizes[-1], sizes[0]), grown)
+    figures.store()
     return ratios.report()
 
 

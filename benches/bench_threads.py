@@ -2,13 +2,13 @@
 
     python3 benches/bench_threads.py [--writes] [--rounds N] [--preload LIBRARY]... [--store] [PROBE_THREADS]
 
-A round runs each cell of a table once, and there are eleven, or N. A cell has the
-median of its rates, in the time that goes by, and the median of its ratios to the first row's run of the same round, since what a
-machine gives changes from minute to minute. Looks, with a snapshot of their own and without, are timed beside an `Arc` that is cloned
-under an `RwLock` in plain Rust, and beside an `Arc` of each thread's own, which shows what the machine gives. Writes are timed on the
-C library's heap, on the same where it grows by 32 MB of huge pages, and with each LIBRARY in front of the C library, as another heap.
-`--writes` leaves the looks out. A last line says how much of the processors' time the machine took away meanwhile. The ratios are of
-the most threads to one.
+A round runs each cell of a table once, and there are eleven, or N. A cell has the median of its rates, in the time that goes by,
+and the median of its ratios to the first row's run of the same round, since what a machine gives changes from minute to minute.
+Looks, with a snapshot of their own and without, are timed beside an `Arc` that is cloned under an `RwLock` in plain Rust, and
+beside an `Arc` of each thread's own, which shows what the machine gives. Writes are timed on the C library's heap, on the same
+where it grows by 32 MB of huge pages, and with each LIBRARY in front of the C library, as another heap. `--writes` leaves the
+looks out. A last line says how much of the processors' time the machine took away meanwhile. The ratios are of the most threads
+to one.
 """
 import os
 import statistics
@@ -51,7 +51,8 @@ class Cell:
 
 
 def print_table(name, columns, rounds, rows):
-    """Runs the cells in rounds, prints the table, and gives the ratios of the last row. The rows are pairs: a count, and the cells."""
+    """Runs the cells in rounds, prints the table, and gives the ratios of the last row. The rows are pairs: a count, and the
+    cells."""
     for _ in range(rounds):
         for _, cells in rows:
             for cell in cells:
@@ -60,7 +61,9 @@ def print_table(name, columns, rounds, rows):
     print("|---|%s" % ("---|" * 2 * len(columns)))
     first = rows[0][1]
     for count, cells in rows:
-        print("| %d | %s |" % (count, " | ".join(text for cell, one in zip(cells, first) for text in cell.shown(one))), flush=True)
+        print(
+            "| %d | %s |" % (count, " | ".join(text for cell, one in zip(cells, first) for text in cell.shown(one))), flush=True
+        )
     return [cell.ratio(one) for cell, one in zip(rows[-1][1], first)]
 
 

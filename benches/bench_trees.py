@@ -27,7 +27,11 @@ EDITED = 20  # of these in one bulk
 ASKED = 380  # revisions of the chain in one GET, which a head has just room for
 BRANCHES = 100  # of a document, each of as many revisions as are kept
 DEEP = 1000
-SHORT, LONG, FULL = "PUT over 10 to 20 revisions", "PUT over 980 to 990 revisions, below the limit", "PUT over 1,000 revisions, at the limit"
+SHORT, LONG, FULL = (
+    "PUT over 10 to 20 revisions",
+    "PUT over 980 to 990 revisions, below the limit",
+    "PUT over 1,000 revisions, at the limit",
+)
 
 
 class Histories:
@@ -139,7 +143,7 @@ def latest(name):
 def opened_latest(name):
     """A GET of the latest over many revisions of the chain."""
     revs = json.dumps(["%d-%s" % (generation, link(generation)) for generation in range(1, ASKED + 1)], separators=(",", ":"))
-    return request("GET", "/db/%s?latest=true&open_revs=%s" % (name, urllib.parse.quote(revs, safe="[],\"")))
+    return request("GET", "/db/%s?latest=true&open_revs=%s" % (name, urllib.parse.quote(revs, safe='[],"')))
 
 
 def rows(many):
@@ -157,7 +161,9 @@ def rows(many):
     yield "`open_revs` of %d of them with `latest`, for each" % CONFLICTS, [], gets, 200, CONFLICTS, 1e6
     over = "over {:,} leaves on a chain, milliseconds".format(LEAVES)
     yield "GET with `latest` " + over, spread("spread"), [[latest("spread")] for _ in range(PIECES)], 200, 1, 1e3
-    yield "`open_revs` of %d with `latest` %s" % (ASKED, over), [], [[opened_latest("spread")] for _ in range(PIECES)], 200, 1, 1e3
+    yield "`open_revs` of %d with `latest` %s" % (ASKED, over), [], [
+        [opened_latest("spread")] for _ in range(PIECES)
+    ], 200, 1, 1e3
     edits = [[edited_spread("spread", at * EDITED)] for at in range(PIECES)]
     yield "edit of one of {:,} leaves on a chain, at the limit, for each".format(LEAVES), [], edits, 201, EDITED, 1e6
     branches = Branches("branches")
@@ -165,7 +171,9 @@ def rows(many):
     yield deep, branches.grown(), [[branches.edits()] for _ in range(PIECES)], 201, BRANCHES, 1e6
     last = [request("PUT", "/db/_revs_limit", 1)]
     yield "PUT of a limit of 1, after that many conflicts of another document", [conflicts("n", many)], [last], 200, 1, 1e6
-    yield "bulk of an edit of each of {:,} conflicts, at a limit of 1, milliseconds".format(many), [], [[edited_conflicts("n", many)]], 201, 1, 1e3
+    yield "bulk of an edit of each of {:,} conflicts, at a limit of 1, milliseconds".format(many), [], [
+        [edited_conflicts("n", many)]
+    ], 201, 1, 1e3
 
 
 def main():

@@ -3,12 +3,13 @@
     python3 tests/test_allocations.py
 
 A node of the map is one block and so is an entry, so calls have to ask for as many blocks as the nodes that they report and the
-entries that they insert: a copy that is not counted is seen. With every request refused a version still answers each read, and the
-entries of its single edits are copied. With one request of a write or a compaction refused there is a receipt, or out of memory
-and no entry, and the next one has that call. With one request of an opening of a closed database refused it is opened, or out of
-memory and the next one is opened. A look is answered though its request is refused. With one request of a replication refused it is
-done, or out of memory and a new worker finishes it. `lib/refused_rows.py` does the same to rows of statements. The programs are probe_maps,
-probe_store, probe_threads, soak_replication and test_store, as the gate built them. It needs a C compiler.
+entries that they insert: a copy that is not counted is seen. With every request refused a version still answers each read, and
+the entries of its single edits are copied. With one request of a write or a compaction refused there is a receipt, or out of
+memory and no entry, and the next one has that call. With one request of an opening of a closed database refused it is opened, or
+out of memory and the next one is opened. A look is answered though its request is refused. With one request of a replication
+refused it is done, or out of memory and a new worker finishes it. `lib/refused_rows.py` does the same to rows of statements. The
+programs are probe_maps, probe_store, probe_threads, soak_replication and test_store, as the gate built them. It needs a C
+compiler.
 """
 import re
 import sys
@@ -42,7 +43,9 @@ purges counted 0
 touched {0}
 shared true
 records true
-""".format(DOCUMENTS, DOCUMENTS + 1)
+""".format(
+    DOCUMENTS, DOCUMENTS + 1
+)
 
 ENDED = r"{0}, (?:changes since \d|no changes), bulks [01], failures 0 and 0\n"
 ENDS = r"source at place \d, .*\ntarget at place \d, .*\n(?:target has .*\n)+"
@@ -59,8 +62,12 @@ ONCE, TWICE = (REPLICATED.format(place=counter + 1, counter=counter, a="a" * 32,
 
 DONE = "again where memory is refused:\ndone, changes since 0, bulks 1, failures 0 and 0\n" + ONCE
 AGAIN = re.compile(
-    "again where memory is refused:\n" + ENDED.format("out of memory") + ENDS + ENDED.format("done")
-    + "(?:%s|%s)" % (re.escape(ONCE), re.escape(TWICE)))
+    "again where memory is refused:\n"
+    + ENDED.format("out of memory")
+    + ENDS
+    + ENDED.format("done")
+    + "(?:%s|%s)" % (re.escape(ONCE), re.escape(TWICE))
+)
 
 RECEIPT = "call 1 place 1\n1\n"  # of a session's first write, and its one entry
 
@@ -79,7 +86,8 @@ class Runs:
         return ran.status, ran.output, requests
 
     def answers(self, program, *arguments):
-        """What each run of the program prints with one request for memory refused, in turn, and last the one that has all memory."""
+        """What each run of the program prints with one request for memory refused, in turn, and last the one that has all
+        memory."""
         return [(ran.status, ran.output) for ran in self.refuser.each([built(program), *map(str, arguments)], "")]
 
     # ---- the shared map
@@ -137,10 +145,18 @@ class Runs:
         *found, ample = self.answers("probe_threads", word)
         self.check(ample == (0, receipt), "a session has its %s" % what)
         before = found.index((0, again)) if (0, again) in found else len(found)
-        print("a %s makes %d requests, of which %d are answered as out of memory" % (what, len(found) - before, found.count((0, again))))
+        print(
+            "a %s makes %d requests, of which %d are answered as out of memory"
+            % (what, len(found) - before, found.count((0, again)))
+        )
         self.check((0, again) in found, "a request of a %s that is refused is answered as out of memory" % what)
-        self.check(all(it in [(1, ""), (0, receipt)] for it in found[:before]), "a run that is refused memory before ends, or has its %s" % what)
-        self.check(all(it in [(0, receipt), (0, again)] for it in found[before:]), "a %s has an entry, or no entry and no call" % what)
+        self.check(
+            all(it in [(1, ""), (0, receipt)] for it in found[:before]),
+            "a run that is refused memory before ends, or has its %s" % what,
+        )
+        self.check(
+            all(it in [(0, receipt), (0, again)] for it in found[before:]), "a %s has an entry, or no entry and no call" % what
+        )
 
     def check_calls(self):
         self.check_call("write", "write", RECEIPT, "out of memory, place 0\n")
@@ -155,10 +171,20 @@ class Runs:
         refused = [number for number, it in enumerate(found) if it == (0, opened)]
         self.check(refused != [], "a request of an opening that is refused is answered as out of memory")
         first, last = (refused[0], refused[-1]) if refused else (len(found), len(found))
-        print("an opening of a successor makes %d requests, of which %d are answered as out of memory" % (last - first + 1, len(refused)))
-        self.check(all(it in [(1, ""), (0, RECEIPT)] for it in found[:first]), "a run that is refused memory before ends, or goes on")
-        self.check(all(it in [(0, RECEIPT), (0, opened)] for it in found[first:last]), "a successor is opened at once or the next time")
-        self.check(all(it in [(1, ""), (0, RECEIPT), (0, written)] for it in found[last + 1:]), "then the run ends, or has its write in the end")
+        print(
+            "an opening of a successor makes %d requests, of which %d are answered as out of memory"
+            % (last - first + 1, len(refused))
+        )
+        self.check(
+            all(it in [(1, ""), (0, RECEIPT)] for it in found[:first]), "a run that is refused memory before ends, or goes on"
+        )
+        self.check(
+            all(it in [(0, RECEIPT), (0, opened)] for it in found[first:last]), "a successor is opened at once or the next time"
+        )
+        self.check(
+            all(it in [(1, ""), (0, RECEIPT), (0, written)] for it in found[last + 1 :]),
+            "then the run ends, or has its write in the end",
+        )
 
     def check_looks(self):
         """Two looks at one version ask for memory once, and are answered where that is refused."""
@@ -166,18 +192,24 @@ class Runs:
         *found, ample = self.answers("probe_threads", "looks", 1, 2)
         self.check(ample == (0, "1\n"), "a session looks")
         self.check(len(found) == len(none) + 1, "two looks at one version ask for memory once")
-        self.check(all(it in [(1, ""), (0, "0\n"), (0, "1\n")] for it in found), "a run that is refused memory ends, or its looks are answered")
+        self.check(
+            all(it in [(1, ""), (0, "0\n"), (0, "1\n")] for it in found),
+            "a run that is refused memory ends, or its looks are answered",
+        )
         self.check(found[-1] == (0, "1\n"), "looks that are refused memory are answered")
 
     def check_replication(self):
-        """Each request up to a replication and of it, refused in turn: the run ends before it, or it is done, at once or by a new worker."""
+        """Each request up to a replication and of it, refused in turn: the run ends before it, or it is done, at once or by a new
+        worker."""
         *found, ample = self.answers("soak_replication", "replicate")
         self.check(ample == (0, DONE), "a replication is done")
         refused = [number for number, (status, output) in enumerate(found) if status == 0 and AGAIN.fullmatch(output)]
         before = refused[0] if refused else len(found)
         print("a replication makes %d requests, of which %d are answered as out of memory" % (len(found) - before, len(refused)))
         self.check(refused != [], "a request of a replication that is refused is answered as out of memory")
-        self.check(all(it in [(1, ""), (0, DONE)] for it in found[:before]), "a run that is refused memory before ends, or is done")
+        self.check(
+            all(it in [(1, ""), (0, DONE)] for it in found[:before]), "a run that is refused memory before ends, or is done"
+        )
         others = [it for number, it in enumerate(found[before:], before) if number not in refused and it != (0, DONE)]
         self.check(others == [], "a replication is done, or is out of memory and a new worker finishes it")
 

@@ -1,9 +1,10 @@
-"""Runs the built programs with arguments of all kinds, and compares exit status, output and standard error with the texts of `clap`.
+"""Runs the built programs with arguments of all kinds, and compares exit status, output and standard error with the texts of
+`clap`.
 
     python3 tests/test_arguments.py [COUCHD REPLAY]
 
-Standard input holds a request each time, which only `couchd once` may answer, or a dump, which only `replay` may audit. Of streams
-that fail it compares what can still be written. `clap` is Rust's.
+Standard input holds a request each time, which only `couchd once` may answer, or a dump, which only `replay` may audit. Of
+streams that fail it compares what can still be written. `clap` is Rust's.
 """
 import os
 import re
@@ -15,8 +16,7 @@ from lib.programs import SECONDS, TESTS, arguments
 
 REQUEST = b"GET / HTTP/1.1\r\n\r\n"
 WELCOME = (
-    b"HTTP/1.1 200 OK\r\nContent-Type: application/json\r\nContent-Length: 21\r\nCouch-Place: 0\r\n\r\n"
-    b'{"couchdb":"Welcome"}'
+    b"HTTP/1.1 200 OK\r\nContent-Type: application/json\r\nContent-Length: 21\r\nCouch-Place: 0\r\n\r\n" b'{"couchdb":"Welcome"}'
 )
 
 DUMP = b'{"couch_history":1}\n'  # of the same request, which is no entry of a history
@@ -31,14 +31,22 @@ USAGE_OF_DUMP = "\nUsage: couchd dump\n" + HINT
 OPTIONS = "\nOptions:\n  -h, --help  Print help\n"
 
 USAGE_OF_SERVE = "\nUsage: couchd serve [OPTIONS]\n" + HINT
-NO_COMMAND = "error: 'couchd' requires a subcommand but one was not provided\n  [subcommands: once, dump, serve, replicate]\n" + USAGE
+NO_COMMAND = (
+    "error: 'couchd' requires a subcommand but one was not provided\n  [subcommands: once, dump, serve, replicate, repair]\n"
+    + USAGE
+)
 NO_TEXT = "error: invalid UTF-8 was detected in one or more arguments\n" + USAGE
 ONCE = "Serves standard input to standard output"
 DUMPS = "Serves standard input, and writes the dump of its history at the end"
 SERVE = "Serves connections on a port of 127.0.0.1"
 REPLICATE = "Brings the changes of one database to another"
-COMMANDS = (
-    "\nCommands:\n  once       " + ONCE + "\n  dump       " + DUMPS + "\n  serve      " + SERVE + "\n  replicate  " + REPLICATE + "\n"
+REPAIR = "Moves what is damaged of a journal to files of its own, so that a server starts from the rest"
+COMMANDS = "\nCommands:\n  once       %s\n  dump       %s\n  serve      %s\n  replicate  %s\n  repair     %s\n" % (
+    ONCE,
+    DUMPS,
+    SERVE,
+    REPLICATE,
+    REPAIR,
 )
 OPTIONS_WITH_VERSION = "\nOptions:\n  -h, --help     Print help\n  -V, --version  Print version\n"
 HELP = "A replicating document store\n\nUsage: couchd <COMMAND>\n" + COMMANDS + OPTIONS_WITH_VERSION
@@ -70,6 +78,14 @@ HELP_OF_REPLICATE = (
     "      --patience <SECONDS>  How long an end may be silent [default: 60]\n"
     "  -h, --help                Print help\n"
 )
+USAGE_OF_REPAIR = "\nUsage: couchd repair --data <DIR>\n"
+HELP_OF_REPAIR = (
+    REPAIR
+    + "\n"
+    + USAGE_OF_REPAIR
+    + "\nOptions:\n      --data <DIR>  The folder of the journal\n  -h, --help        Print help\n"
+)
+NO_DATA = "error: the following required arguments were not provided:\n  --data <DIR>\n" + USAGE_OF_REPAIR + HINT
 NO_SOURCE = "error: the source is no numeric address with a port\n" + USAGE
 NO_TARGET = "error: the target is no numeric address with a port\n" + USAGE
 NO_ID = "error: the id has not 1 to 512 bytes, or begins with '_'\n" + USAGE
@@ -168,14 +184,21 @@ REFUSED = [
     (["version"], unknown_command("version")),
     (["replicate", "--help"], HELP_OF_REPLICATE),
     (replication("127.0.0.1:1", "[::1]:1", "r") + ["--patience", "0"], out_of_range("0", "patience", 1, 86400, "SECONDS")),
-    (replication("127.0.0.1:1", "[::1]:1", "r") + ["--patience", "86401"], out_of_range("86401", "patience", 1, 86400, "SECONDS")),
+    (
+        replication("127.0.0.1:1", "[::1]:1", "r") + ["--patience", "86401"],
+        out_of_range("86401", "patience", 1, 86400, "SECONDS"),
+    ),
     (
         ["replicate", "--source", "127.0.0.1:1"],
-        "error: the following required arguments were not provided:\n  --target <HOST:PORT>\n  --id <ID>\n" + USAGE_OF_REPLICATE + HINT,
+        "error: the following required arguments were not provided:\n  --target <HOST:PORT>\n  --id <ID>\n"
+        + USAGE_OF_REPLICATE
+        + HINT,
     ),
     (
         ["replicate", "--id", "r"],
-        "error: the following required arguments were not provided:\n  --source <HOST:PORT>\n  --target <HOST:PORT>\n" + USAGE_OF_REPLICATE + HINT,
+        "error: the following required arguments were not provided:\n  --source <HOST:PORT>\n  --target <HOST:PORT>\n"
+        + USAGE_OF_REPLICATE
+        + HINT,
     ),
     (replication("localhost:1", "127.0.0.1:1", "r"), NO_SOURCE),
     (replication("localhost:1", "127.0.0.1", "_r"), NO_SOURCE),
@@ -192,6 +215,15 @@ REFUSED = [
     (with_list("a,%C3"), NO_LIST),
     (with_list("%ff"), NO_LIST),
     (with_list("a," + "b" * 513), NO_LIST),
+    (["repair", "--help"], HELP_OF_REPAIR),
+    (["repair"], NO_DATA),
+    (["repair", "--data"], "error: a value is required for '--data <DIR>' but none was supplied\n" + HINT),
+    (["repair", "d"], unexpected("d", USAGE_OF_REPAIR + HINT)),
+    (
+        ["repair", "--data", "d", "--data", "e"],
+        "error: the argument '--data <DIR>' cannot be used multiple times\n" + USAGE_OF_REPAIR + HINT,
+    ),
+    (["repair", "--data", "d", "--port", "1"], unexpected("--port", USAGE_OF_REPAIR + HINT)),
     ([b"\xff"], NO_TEXT),
     (["once", b"\xc3"], NO_TEXT),
     ([b"once\xff"], NO_TEXT),
@@ -199,9 +231,11 @@ REFUSED = [
 
 USAGE_OF_REPLAY = "\nUsage: replay <COMMAND>\n" + HINT
 USAGE_OF_CHECK = "\nUsage: replay check\n" + HINT
-USAGE_OF_BASE = "\nUsage: replay base\n" + HINT
+USAGE_OF_BASE = "\nUsage: replay base [OPTIONS]\n" + HINT
 CHECK = "Tells whether standard input is the dump of a legal history"
 BASE = "Writes the first line of the next history's dump, if standard input is the dump of a legal one"
+RAISED = "Raises its update number by 16777216, as a start does after an end that may have lost numbers that were shown"
+HELP_OF_BASE = BASE + "\n\nUsage: replay base [OPTIONS]\n\nOptions:\n      --raised  " + RAISED + "\n  -h, --help    Print help\n"
 NO_COMMAND_OF_REPLAY = (
     "error: 'replay' requires a subcommand but one was not provided\n  [subcommands: check, base]\n" + USAGE_OF_REPLAY
 )
@@ -212,8 +246,14 @@ HELP_OF_REPLAY = (
 
 # arguments of `replay base` that name no run
 REFUSED_OF_BASE = [
-    (["base", "--help"], BASE + "\n\nUsage: replay base\n" + OPTIONS),
-    (["base", "-h"], BASE + "\n\nUsage: replay base\n" + OPTIONS),
+    (["base", "--help"], HELP_OF_BASE),
+    (["base", "-h"], HELP_OF_BASE),
+    (["base", "--raised", "--raised"], "error: the argument '--raised' cannot be used multiple times\n" + USAGE_OF_BASE),
+    (
+        ["base", "--raised=1"],
+        "error: unexpected value '1' for '--raised' found; no more were expected\n\nUsage: replay base --raised\n" + HINT,
+    ),
+    (["check", "--raised"], unexpected("--raised", USAGE_OF_CHECK)),
     (["base", "more"], unexpected("more", USAGE_OF_BASE)),
     (["base", "base"], unexpected("base", USAGE_OF_BASE)),
     (["base", "check"], unexpected("check", USAGE_OF_BASE)),
@@ -259,7 +299,13 @@ def outcomes(couchd, replay):
         ]:
             yield word, run(program, [word]), asked
             yield "no input of " + word, run(program, [word], nothing), unasked
-    for program, given in [(couchd, ["once"]), (couchd, ["dump"]), (couchd, ["serve", "--port", "0"]), (replay, ["check"]), (replay, ["base"])]:
+    for program, given in [
+        (couchd, ["once"]),
+        (couchd, ["dump"]),
+        (couchd, ["serve", "--port", "0"]),
+        (replay, ["check"]),
+        (replay, ["base"]),
+    ]:
         wanted = (FAILED, None, os.path.basename(program) + ": standard output can't be written\n")
         for how, out in (("has no room", full), ("is closed", closed)):
             yield "output of %s that %s" % (given[0], how), out(program, given), wanted

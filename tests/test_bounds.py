@@ -10,8 +10,6 @@ have none, they may be refused a read, but are never silent.
 """
 import json
 import os
-import resource
-import subprocess
 import sys
 from collections import Counter
 
@@ -91,25 +89,16 @@ def long_answer(couchd, checks):
 
 def full_memory(couchd, checks, heaps):
     """A server whose memory is used up by documents goes on to answer reads."""
-    process = subprocess.Popen(
-        [couchd, "serve", "--port", "0", "--workers", "4"],
-        stdin=subprocess.DEVNULL, stdout=subprocess.PIPE, env=dict(os.environ, **heaps),
-        preexec_fn=lambda: resource.setrlimit(resource.RLIMIT_AS, (SPACE, SPACE)),
-    )
-    try:
-        port = int(process.stdout.readline().decode().rsplit(":", 1)[1])
-        write_large(port, checks)
-        taken = fill(port)
+    with Server(couchd, "--workers", "4", env=dict(os.environ, **heaps), limits={"as": SPACE}) as server:
+        write_large(server.port, checks)
+        taken = fill(server.port)
         checks.check(taken > 0, "no document is taken")
         for name, count in ("d", taken), ("large", LARGE):
             for each_anew in (False, True):
-                statuses = reads(port, name, count, each_anew)
+                statuses = reads(server.port, name, count, each_anew)
                 print("%s: %d documents, then reads of %s: %s" % (heaps, taken, name, dict(statuses)))
                 checks.check(set(statuses) <= {200, 507}, "reads: %s", statuses)
                 checks.check(heaps != ONE_HEAP or set(statuses) == {200}, "reads with one heap: %s", statuses)
-    finally:
-        process.kill()
-        process.wait()
 
 
 def write_large(port, checks):

@@ -1,25 +1,21 @@
-"""Runs the commands that the documents show with their output, and compares that output; checks their links, tables and sizes.
+"""Runs the commands that the documents show with their output, and compares that output; checks their links, diffs and sizes.
 
     python3 tests/test_documents.py [COUCHD REPLAY]
 
-The documents are README.md, CONTRIBUTING.md, CHANGELOG.md, tests/README.md and those of docs/ and its folders.
+The documents are README.md, CONTRIBUTING.md, CHANGELOG.md, the README.md of tests and of benches, and those of docs/ and its
+folders. Of the pages that docs/make.py writes only the links are checked.
 
 - Commands: a block fenced as `sh` is run where a block with no language follows it under the same heading, which is its output.
-  The blocks of a document run in order, each in a shell of its own, in a new folder with the repository's `examples` in it and the
-  programs on the path. Two servers are started for the document: 127.0.0.1:5984 and 127.0.0.1:5985 mean their ports. Standard
+  The blocks of a document run in order, each in a shell of its own, in a new folder with the repository's `examples` in it and
+  the programs on the path. Two servers are started for the document: 127.0.0.1:5984 and 127.0.0.1:5985 mean their ports. Standard
   error counts as output, and `curl`, which has to be there, ends each answer with a line feed. A block without output that starts
-  servers is run too, on free ports: after a second each of them must be running, and have written nothing but its port. Blocks without
-  output that build or test (`rt`, `tests/all`) are not run.
+  servers is run too, on free ports: after a second each of them must be running, and have written nothing but its port. Blocks
+  without output that build or test (`rt`, `tests/all`) are not run.
 - Links: a link to a file of the repository leads to one, and to a heading of it where it names one.
-- Crates: the table of docs/PROOFS.md has a row for each crate that the programs or the proofs depend on, in the order of crates.txt,
-  whose second column is the first sentence of the crate's `//!`. The tables of docs/ARCHITECTURE.md name the same crates.
-- Steps: the table of tests/README.md has a row for each step of tests/all, in order, with its command and the first sentence of the
-  docstring of its script.
 - Diffs: a line that a block fenced as `diff` adds, under `+++ FILE`, is a line of that file.
-- Sizes: README.md has at most 900 words, CONTRIBUTING.md at most 150 lines.
+- Sizes: README.md has at most 600 words, each other page 3,500, and all together 20,000. The pages are README.md, CONTRIBUTING.md and
+  those of docs/ itself. What docs/make.py writes in them isn't counted.
 """
-import ast
-import glob
 import os
 import re
 import subprocess
@@ -27,32 +23,19 @@ import sys
 import tempfile
 
 from lib.checks import Checks
-from lib.crates import depends_on
+from lib.documents import REFERENCE, content, every
 from lib.programs import ROOT, arguments
 from lib.server import Server
 
 PORTS = ("5984", "5985")  # that the documents name
 SECONDS = 60  # that one block may take
-WORDS = 900  # of README.md
-LINES = 150  # of CONTRIBUTING.md
+FIRST, PAGE, ALL = 600, 3500, 20000  # words of README.md, of each other page, and of all together
 CURL = 'silent\nshow-error\nwrite-out = "\\n"\nnoproxy = "*"\n'
 
 BLOCK = re.compile(r"^```(\w*)\n(.*?)^```$|^#+ ([^\n]*)$", re.S | re.M)
+WORD = re.compile(r"\S*\w\S*")
+MADE = re.compile(r"<!-- docs/make\.py: .*?<!-- docs/make\.py ends -->", re.S)
 LINK = re.compile(r"\[[^\]]*\]\(([^)\s]+)\)")
-STEP = re.compile(r"^\| `(\w+)` \| `([^`]+)` \| (.*?) \| ", re.M)
-NAMES = re.compile(r"^\| ((?:`\w+`(?:, )?)+) \|[^|]*\|[^|]*\|$", re.M)
-ROW = re.compile(r"^\| `(\w+)` \| (.*?) \| ", re.M)
-
-
-def content(path):
-    with open(os.path.join(ROOT, path), encoding="utf-8") as file:
-        return file.read()
-
-
-def documents():
-    """The names of all documents."""
-    docs = sorted(glob.glob("docs/**/*.md", root_dir=ROOT, recursive=True))
-    return ["README.md", "CONTRIBUTING.md", "CHANGELOG.md", "tests/README.md", *docs]
 
 
 # ---- commands
@@ -107,8 +90,13 @@ class Room:
         env = dict(os.environ, CURL_HOME=self.folder.name, PATH=self.path("bin") + os.pathsep + os.environ["PATH"])
         try:
             ran = subprocess.run(
-                ["bash", "-c", commands], cwd=self.folder.name, env=env, timeout=SECONDS, stdin=subprocess.DEVNULL,
-                stdout=subprocess.PIPE, stderr=subprocess.STDOUT,
+                ["bash", "-c", commands],
+                cwd=self.folder.name,
+                env=env,
+                timeout=SECONDS,
+                stdin=subprocess.DEVNULL,
+                stdout=subprocess.PIPE,
+                stderr=subprocess.STDOUT,
             )
         except subprocess.TimeoutExpired:
             return "no end after %d seconds" % SECONDS
@@ -135,7 +123,9 @@ def check_commands(checks, name, programs):
                 check_started(checks, name, room, commands)
                 continue
             found = room.run(commands)
-            checks.check(found.rstrip("\n") == wanted.rstrip("\n"), "%s:\n%s  wanted\n%s  found\n%s", name, commands, wanted, found)
+            checks.check(
+                found.rstrip("\n") == wanted.rstrip("\n"), "%s:\n%s  wanted\n%s  found\n%s", name, commands, wanted, found
+            )
 
 
 # ---- links
@@ -171,72 +161,25 @@ def check_diffs(checks, name):
                 checks.check(line[1:] in lines, "%s adds a line that isn't there: %s", name, line)
 
 
-# ---- the table of crates
-
-
-def first_sentence(crate):
-    """The first sentence of a crate's `//!`."""
-    for file in ("lib.rt", "main.rt"):
-        path = os.path.join("crates", crate, "src", file)
-        if os.path.exists(os.path.join(ROOT, path)):
-            lines = re.match(r"((?://!.*\n)*)", content(path)).group(1)
-            return re.match(r"(.*?\.)(?: |$)", re.sub(r"\s*//! ?", " ", lines).strip(), re.S).group(1)
-    return None
-
-
-def check_table(checks):
-    rows = ROW.findall(content("docs/PROOFS.md"))
-    names = [crate for crate, _ in rows]
-    crates = list(depends_on())
-    checks.check(names == crates, "docs/PROOFS.md has rows of\n  %s\nand crates.txt\n  %s", names, crates)
-    named = [name for cell in NAMES.findall(content("docs/ARCHITECTURE.md")) for name in re.findall(r"\w+", cell)]
-    checks.check(sorted(named) == sorted(crates), "docs/ARCHITECTURE.md has tables of\n  %s\nand crates.txt\n  %s", named, crates)
-    for crate, what in rows:
-        wanted = first_sentence(crate)
-        checks.check(what == wanted, "docs/PROOFS.md says of %s\n  %s\nand its //!\n  %s", crate, what, wanted)
-
-
-# ---- the table of steps
-
-
-def first_line(command):
-    """The first sentence of the docstring of the script that a step runs."""
-    script = re.match(r"(?:python3 )?(\S+)", command).group(1)
-    docstring = " ".join(ast.get_docstring(ast.parse(content(script))).split())
-    return re.match(r"(.*?\.)(?: |$)", docstring).group(1)
-
-
-def check_steps(checks):
-    ran = subprocess.run([os.path.join(ROOT, "tests", "all"), "--list"], capture_output=True, text=True, check=True)
-    steps = [line.split(": ", 1) for line in ran.stdout.splitlines()]
-    rows = STEP.findall(content("tests/README.md"))
-    listed = [[name, command.removeprefix("python3 ")] for name, command in steps]
-    checks.check([list(row[:2]) for row in rows] == listed, "tests/README.md has rows of\n  %s\nand tests/all\n  %s", rows, listed)
-    says = {name: what for name, _, what in rows}
-    for name, command in steps:
-        if name != "ci":
-            wanted, found = first_line(command), says.get(name)
-            checks.check(found == wanted, "tests/README.md says of %s\n  %s\nand its script\n  %s", name, found, wanted)
-
-
 # ---- sizes
 
 
 def check_sizes(checks):
-    words, lines = len(content("README.md").split()), content("CONTRIBUTING.md").count("\n")
-    checks.check(words <= WORDS, "README.md has %d words", words)
-    checks.check(lines <= LINES, "CONTRIBUTING.md has %d lines", lines)
+    pages = [name for name in every() if name.count("/") == name.startswith("docs/") and name != "CHANGELOG.md"]
+    words = {name: len(WORD.findall(MADE.sub("", content(name)))) for name in pages}
+    for name, count in words.items():
+        checks.check(count <= (FIRST if name == "README.md" else PAGE), "%s has %d words", name, count)
+    checks.check(sum(words.values()) <= ALL, "all pages have %d words", sum(words.values()))
 
 
 def main():
     given = arguments(__doc__, "couchd", "replay").parse_args()
     checks = Checks(100)
-    for name in documents():
-        check_commands(checks, name, (given.couchd, given.replay))
+    for name in every():
         check_links(checks, name)
-        check_diffs(checks, name)
-    check_table(checks)
-    check_steps(checks)
+        if not name.startswith(REFERENCE):
+            check_commands(checks, name, (given.couchd, given.replay))
+            check_diffs(checks, name)
     check_sizes(checks)
     return checks.report()
 

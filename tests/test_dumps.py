@@ -88,7 +88,9 @@ def changes(lines, at):
     yield line(command, reply, [session + 1, call]), call == 1
     for rev in sorted(set(re.findall(rb"[0-9]+-[0-9a-f]{32}", found))):
         yield found.replace(rev, rev[:-1] + (b"0" if rev.endswith(b"1") else b"1"), 1), True
-        yield found.replace(rev, rev.replace(rev[-32:], rev[-32:].upper()) if rev[-32:].upper() != rev[-32:] else b"0" + rev, 1), False
+        yield found.replace(
+            rev, rev.replace(rev[-32:], rev[-32:].upper()) if rev[-32:].upper() != rev[-32:] else b"0" + rev, 1
+        ), False
     for name in {"limit", "purged_limit"} & set(command):
         for number, is_limit in ENDS:
             yield line({name: number}, reply, [session, call]), is_limit

@@ -1,14 +1,15 @@
-"""Compares what `replay check` and `replay base` say of histories that go on from one another with what the second reading says.
+"""Compares what `replay check` and `replay base`, raised or not, say of histories that go on from one another with what the
+second reading says.
 
     python3 tests/test_epochs.py [--reference] [--seed N] [--epochs N] [--bases N] [COUCHD REPLAY]
 
-- Rows: those of `tests/rows/dumps`, whose verdicts were worked by hand from the rules. The second reading must say the same, and of
-  each base that is none for the reason that the row names; together they have every reason.
+- Rows: those of `tests/rows/dumps`, whose verdicts were worked by hand from the rules. The second reading must say the same, and
+  of each base that is none for the reason that the row names; together they have every reason.
 - Bytes: each byte of a small dump with a base is left out, doubled, and replaced by others.
 - Bases at random, bases with one thing changed, and what requests at random leave over those that are readable.
 - Transcripts: the base after each of them is read and written again.
-- Epochs: many histories of requests at random, of many sessions, each over the base that the one before leaves, beside one history
-  of all these requests. At each end both leave the same base, and the last base is that of the dump of the one history.
+- Epochs: many histories of requests at random, of many sessions, each over the base that the one before leaves, beside one
+  history of all these requests. At each end both leave the same base, and the last base is that of the dump of the one history.
 
 What the programs must say of all this is what the second reading says; with `--reference` no program is run.
 """
@@ -27,14 +28,14 @@ from lib.requests import request
 from reference import queries, worked_epochs
 from reference.bases import REASONS, base_value, first_line, is_same, read_first_line, successor
 from reference.compactions import Behind, Compaction, Overrun
-from reference.dump_rows import STATUS, Dump
+from reference.dump_rows import ASKED, STATUS, Dump
 from reference.epochs import is_right
 from reference.history import Recorder, dump_of, line, next_base, read_entry, verdict
 from reference.json_profile import text
 
 REQUESTS = 30  # of an epoch
 SESSIONS = 64
-ROOM = 2 ** 20  # numbers that are left above a base of large ones
+ROOM = 2**20  # numbers that are left above a base of large ones
 
 TWO_PUTS = request("PUT", "/db/a", "{}") * 2
 
@@ -52,25 +53,26 @@ class Audit:
         self.checks.check(holds, what, *more)
 
     def says(self, name, data, seldom=False):
-        """What the second reading says of a dump, which the programs must say too. Where it is seldom asked for the base after what
-        is not legal, that is one time in eight."""
+        """What the second reading says of a dump, which the programs must say too. Where it is seldom asked for the base after
+        what is not legal, that is one time in eight."""
         said, status = verdict(data)
         wanted, ended = next_base(data) if status == 0 else (said.encode() + b"\n", status)
         if (status, ended) == (0, 0):
             self.check(next_base(wanted) == (wanted, 0), "%s: %r is no base", name, wanted)
         both = status == 0 or not seldom or len(self.runs) % 8 == 0
-        self.agree(name, data, (said + "\n", status), (wanted, ended) if both else None)
+        raised = next_base(data, True) if len(self.runs) % 4 == 0 else None
+        self.agree(name, data, check=(said + "\n", status), base=(wanted, ended) if both else None, raised=raised)
         return said, wanted
 
-    def agree(self, name, data, check, base):
-        """What the programs must say, in a thread of their own; nothing of the base where that is None."""
+    def agree(self, name, data, **wanted):
+        """What the programs must say to each question, in a thread of their own; what is None isn't asked."""
         if self.programs is not None:
-            self.runs.append(self.threads.submit(self.compare, name, data, check, base))
+            self.runs.append(self.threads.submit(self.compare, name, data, wanted))
 
-    def compare(self, name, data, check, base):
-        for what, run, wanted in [("check", self.programs.check, check), ("base", self.programs.base, base)]:
-            found = None if wanted is None else run(data)
-            self.check(found == wanted, "%s: %s says %r, and not %r, of %r", name, what, found, wanted, data[-2000:])
+    def compare(self, name, data, wanted):
+        for asked, answer in wanted.items():
+            found = None if answer is None else getattr(self.programs, asked)(data)
+            self.check(found == answer, "%s: %s says %r, and not %r, of %r", name, asked, found, answer, data[-2000:])
 
     def report(self):
         for run in self.runs:
@@ -86,21 +88,24 @@ def audit_rows(audit):
     for row in all_rows():
         found = row.second_reading()
         audit.check(found == row.wanted, "%s: the second reading says %s, and not %s", row.name, found, row.wanted)
-        asked = [one for one in row.statements if one in ("check", "base", "reason")]
+        asked = [one for one in row.statements if one in ASKED]
         wanted = dict(zip(asked, row.wanted))
         reasons.add(wanted.get("reason"))
         dump = Dump(row.statements)
-        audit.agree(row.name, dump.data(), *outputs(dump, wanted))
+        audit.agree(row.name, dump.data(), **outputs(dump, wanted))
     missing = set(REASONS) - reasons
     audit.check(not missing, "no row is refused for these reasons: %s", sorted(missing))
 
 
 def outputs(dump, wanted):
-    """What both runs print for what a row says, with the exit statuses."""
+    """What each run prints for what a row says, with the exit status."""
     first = dump.data().split(b"\n")[0] + b"\n"
     lines = {"same": first, "next": dump.next_line()}
-    base = lines.get(wanted["base"], wanted["base"].encode() + b"\n")
-    return [(found, STATUS[wanted[name].split(" ")[0]]) for name, found in [("check", wanted["check"] + "\n"), ("base", base)]]
+    found = {"check": wanted["check"] + "\n"}
+    for asked in ("base", "raised"):
+        if asked in wanted:
+            found[asked] = lines.get(wanted[asked], wanted[asked].encode() + b"\n")
+    return {asked: (text, STATUS[wanted[asked].split(" ")[0]]) for asked, text in found.items()}
 
 
 # ---- bytes
@@ -147,7 +152,13 @@ def audit_over(audit, source, name, base, seen):
     past = written == b"no successor\n"
     seen["past the most"] += past
     right = past or verdict(written) == ("legal 0", 0)
-    audit.check(said == "legal %d" % len(recorder.lines) and right, "%s, gone on from, is %s, and the base after it is %r", name, said, written)
+    audit.check(
+        said == "legal %d" % len(recorder.lines) and right,
+        "%s, gone on from, is %s, and the base after it is %r",
+        name,
+        said,
+        written,
+    )
 
 
 def audit_bases(audit, seed, count):
@@ -168,9 +179,14 @@ def audit_bases(audit, seed, count):
                 audit_over(audit, source, name + ", changed", read_first_line(changed), seen)
             else:
                 audit.check(said == "unreadable line 1", "%s, changed, is %s", name, said)
-    print("bases at random: %d of %d changed ones are readable; %d histories over all these have no next one" % (
-        seen["readable"], 10 * count, seen["past the most"],
-    ))
+    print(
+        "bases at random: %d of %d changed ones are readable; %d histories over all these have no next one"
+        % (
+            seen["readable"],
+            10 * count,
+            seen["past the most"],
+        )
+    )
     audit.check(all(seen.values()), "the bases at random don't come to all of these: %s", seen)
 
 
@@ -257,16 +273,30 @@ def audit_epochs(audit, name, seed, count, base=None):
             found = [replies(list(bases.Connection(session).responses(data))) for session in (recorder, one)]
             audit.check(found[0] == found[1], "%s: %r is answered %r, and in one history %r", what, data, *found)
             onlookers.look(what, recorder.database)
-        audit.check(recorder.place == len(recorder.lines) and is_same(recorder.database, one.database), "%s leaves another database than one history", what)
+        audit.check(
+            recorder.place == len(recorder.lines) and is_same(recorder.database, one.database),
+            "%s leaves another database than one history",
+            what,
+        )
         said, written = audit.says(what, first_line(recorder.base) + seated(source, recorder.lines))
         recorder = recorder.successor()
-        audit.check(said.startswith("legal ") and written == recorder.dump(), "%s: %s, and the base after it is %r", what, said, written)
+        audit.check(
+            said.startswith("legal ") and written == recorder.dump(), "%s: %s, and the base after it is %r", what, said, written
+        )
     said, written = audit.says("all of " + name, first_line(base) + seated(source, one.lines))
     audit.check(said == "legal %d" % len(one.lines) and written == recorder.dump(), "the last base is not that of one history")
     audit.check(onlookers.swapped > 0, "%s: no compaction came to its end", name)
-    print("%s: %d histories, %d entries, %d compactions of other copies; update number %d, purge number %d" % (
-        name, count, len(one.lines), onlookers.swapped, one.database.update_seq, one.database.purge_seq,
-    ))
+    print(
+        "%s: %d histories, %d entries, %d compactions of other copies; update number %d, purge number %d"
+        % (
+            name,
+            count,
+            len(one.lines),
+            onlookers.swapped,
+            one.database.update_seq,
+            one.database.purge_seq,
+        )
+    )
 
 
 def audit_served(audit):

@@ -3,8 +3,9 @@
 
     python3 tests/test_fuzz.py [--seed N] [--inputs N] [COUCHD]
 
-The requests are sequences that make sense, refusals, and cut and malformed input; the same seed makes the same ones. An input is many requests, so that a run of the program answers many cases. Where it differs, hangs or ends otherwise, the
-input is made smaller and kept in a file. The last line counts inputs.
+The requests are sequences that make sense, refusals, and cut and malformed input; the same seed makes the same ones. An input is
+many requests, so that a run of the program answers many cases. Where it differs, hangs or ends otherwise, the input is made
+smaller and kept in a file. The last line counts inputs.
 """
 import random
 import sys

@@ -3,10 +3,10 @@
     python3 tests/test_holding.py [--workers N] [--idle SECONDS] [--patience SECONDS] [COUCHD]
 
 As many clients as there are workers say nothing, send a byte at a time, or never read; one more client is served as soon as their
-time is over. Others are refused and go on sending, or end by `Connection: close` and stay. Clients that keep their
-connections, more than there are workers, are served in turn. Long polls and feeds go on while nothing comes, and so does a client
-whose pauses are short. A server that gets fewer threads than it wants says how many workers serve.
-The short form has 4 workers; the times of the program and as many workers as it may have are given so: --workers 64 --idle 15 --patience 60.
+time is over. Others are refused and go on sending, or end by `Connection: close` and stay. Clients that keep their connections,
+more than there are workers, are served in turn. Long polls and feeds go on while nothing comes, and so does a client whose pauses
+are short. A server that gets fewer threads than it wants says how many workers serve. The short form has 4 workers; the times of
+the program and as many workers as it may have are given so: --workers 64 --idle 15 --patience 60.
 """
 import contextlib
 import os
@@ -25,9 +25,6 @@ SLACK = 2.5  # seconds that a machine with other work may add
 DRAIN_SECONDS = 2  # for which the program reads what comes after a refusal
 DRAIN_BYTES = 8 * 1_048_576  # of which it reads so many at most
 LARGE = 1_000_000  # bytes of a document whose answers fill the buffers of a socket
-
-CHECKS = Checks()
-check = CHECKS.check
 
 
 class Times:
@@ -63,21 +60,23 @@ def end_of(connected):
     return data
 
 
-def wait_of_another(port):
+def wait_of_another(checks, port):
     """How many seconds one more client waits for its answer."""
     start = time.monotonic()
     another = Connection(port)
     another.socket.settimeout(SECONDS * 3)
     status, _ = another.ask("GET", "/db/_all_docs")
-    check(status == 200, "%d for one more client", status)
+    checks.check(status == 200, "%d for one more client", status)
     another.close()
     return time.monotonic() - start
 
 
-def waits(what, port, least, most):
+def waits(checks, what, port, least, most):
     """One more client waits at least and at most so many seconds beside clients that hold the workers."""
-    took = wait_of_another(port)
-    check(least <= took <= most + SLACK, "beside %s one more client waited %.2f s, and not %s to %s", what, took, least, most)
+    took = wait_of_another(checks, port)
+    checks.check(
+        least <= took <= most + SLACK, "beside %s one more client waited %.2f s, and not %s to %s", what, took, least, most
+    )
 
 
 def drip(connected, data, pause):
@@ -91,16 +90,16 @@ def drip(connected, data, pause):
 # ---- what holds workers
 
 
-def say_nothing(times):
+def say_nothing(checks, times):
     with times.server() as server:
         held = [plain(server.port) for _ in range(times.workers)]
         time.sleep(0.1)
-        waits("clients that say nothing", server.port, times.idle * 0.5, times.idle)
+        waits(checks, "clients that say nothing", server.port, times.idle * 0.5, times.idle)
         for one in held:
-            check(end_of(one) == b"", "a client that said nothing got an answer")
+            checks.check(end_of(one) == b"", "a client that said nothing got an answer")
 
 
-def send_slowly(times, what, beginning):
+def send_slowly(checks, times, what, beginning):
     """Clients that send a byte at a time behind this beginning, which is no whole request."""
     with times.server() as server:
         held = [plain(server.port, beginning) for _ in range(times.workers)]
@@ -108,16 +107,16 @@ def send_slowly(times, what, beginning):
         for one in held:
             threading.Thread(target=drip, args=(one, b"x" * 1000, pause), daemon=True).start()
         time.sleep(0.1)
-        waits("clients that send %s slowly" % what, server.port, times.patience * 0.5, times.patience)
+        waits(checks, "clients that send %s slowly" % what, server.port, times.patience * 0.5, times.patience)
         for one in held:
-            check(end_of(one) == b"", "a client that sent %s slowly got an answer", what)
+            checks.check(end_of(one) == b"", "a client that sent %s slowly got an answer", what)
 
 
-def never_read(times, pause=None):
+def never_read(checks, times, pause=None):
     """Clients that ask for more than the buffers of a socket hold, and read nothing, or a little at a time."""
     with times.server() as server:
         writer = Connection(server.port)
-        check(writer.ask("PUT", "/db/large", {"text": "x" * LARGE})[0] == 201, "a large document is not taken")
+        checks.check(writer.ask("PUT", "/db/large", {"text": "x" * LARGE})[0] == 201, "a large document is not taken")
         writer.close()
         wanted = b"GET /db/large HTTP/1.1\r\nHost: db\r\n\r\n" * 40
         held = [plain(server.port, wanted, 4096) for _ in range(times.workers)]
@@ -126,7 +125,7 @@ def never_read(times, pause=None):
                 threading.Thread(target=read_slowly, args=(one, pause), daemon=True).start()
         time.sleep(0.1)
         what = "clients that never read" if pause is None else "clients that read slowly"
-        waits(what, server.port, times.patience * 0.5, times.patience)
+        waits(checks, what, server.port, times.patience * 0.5, times.patience)
         for one in held:
             one.close()
 
@@ -140,17 +139,17 @@ def read_slowly(connected, pause):
 # ---- after the last response
 
 
-def refused_but_sending(times):
+def refused_but_sending(checks, times):
     """Clients that are refused, and send a byte at a time: they hold a worker for two seconds in all."""
     with times.server(1) as server:
         one = plain(server.port, b"GET / HTTP/1.1\r\nno header\r\n\r\n")
         threading.Thread(target=drip, args=(one, b"x" * 1000, 0.1), daemon=True).start()
         time.sleep(0.1)
-        waits("a client that is refused and goes on sending", server.port, 0.5, DRAIN_SECONDS)
-        check(end_of(one).startswith(b"HTTP/1.1 400 "), "the refusal was lost")
+        waits(checks, "a client that is refused and goes on sending", server.port, 0.5, DRAIN_SECONDS)
+        checks.check(end_of(one).startswith(b"HTTP/1.1 400 "), "the refusal was lost")
 
 
-def refused_but_flooding(times):
+def refused_but_flooding(checks, times):
     """A client that is refused and sends as fast as it can: so many bytes are read, and no more."""
     with times.server(1) as server:
         one = plain(server.port, b"GET / HTTP/1.1\r\nno header\r\n\r\n")
@@ -159,34 +158,34 @@ def refused_but_flooding(times):
             while sent < 16 * DRAIN_BYTES:
                 sent += one.send(b"x" * 65536)
         took = time.monotonic() - start
-        check(sent >= DRAIN_BYTES // 2, "only %d bytes were read after a refusal", sent)
-        check(sent < 4 * DRAIN_BYTES, "%d bytes were read after a refusal", sent)
-        check(took < DRAIN_SECONDS + SLACK, "a client that was refused sent for %.1f s", took)
+        checks.check(sent >= DRAIN_BYTES // 2, "only %d bytes were read after a refusal", sent)
+        checks.check(sent < 4 * DRAIN_BYTES, "%d bytes were read after a refusal", sent)
+        checks.check(took < DRAIN_SECONDS + SLACK, "a client that was refused sent for %.1f s", took)
 
 
-def closing_and_staying(times):
+def closing_and_staying(checks, times):
     """Clients that ask for an end, and keep their sockets open: they cost nobody any time."""
     wanted = b"GET / HTTP/1.1\r\nHost: db\r\nConnection: close\r\n\r\n"
     with times.server(1) as server:
         start = time.monotonic()
         held = [plain(server.port, wanted) for _ in range(30)]
         for one in held:
-            check(end_of(one).startswith(b"HTTP/1.1 200 "), "no answer before an end")
+            checks.check(end_of(one).startswith(b"HTTP/1.1 200 "), "no answer before an end")
         took = time.monotonic() - start
-        check(took < SLACK, "30 clients that ask for an end took %.2f s", took)
+        checks.check(took < SLACK, "30 clients that ask for an end took %.2f s", took)
 
 
-def closing_and_sending(times):
+def closing_and_sending(checks, times):
     """A client that asks for an end and has sent more by then still reads its answer."""
     with times.server(1) as server:
         one = plain(server.port, b"GET / HTTP/1.1\r\nHost: db\r\nConnection: close\r\n\r\n" + b"x" * 200_000)
-        check(end_of(one).startswith(b"HTTP/1.1 200 "), "the answer before an end was lost")
+        checks.check(end_of(one).startswith(b"HTTP/1.1 200 "), "the answer before an end was lost")
 
 
 # ---- what is served all the same
 
 
-def pool(times):
+def pool(checks, times):
     """Clients that keep their connections, three for each worker, and pause for longer than they may be idle."""
     count, rounds = 3 * times.workers, 2
     longest = []
@@ -196,9 +195,9 @@ def pool(times):
         for _ in range(rounds):
             start = time.monotonic()
             one = Connection(server.port)
-            check(one.ask("GET", "/db/_all_docs")[0] == 200, "no answer to a client of a pool")
+            checks.check(one.ask("GET", "/db/_all_docs")[0] == 200, "no answer to a client of a pool")
             worst = max(worst, time.monotonic() - start)
-            check(end_of(one.socket) == b"", "an answer that was not asked for")  # it pauses until it is closed
+            checks.check(end_of(one.socket) == b"", "an answer that was not asked for")  # it pauses until it is closed
             one.close()
         longest.append(worst)
 
@@ -208,23 +207,25 @@ def pool(times):
             one.start()
         for one in clients:
             one.join()
-    check(len(longest) == count, "%d of %d clients of a pool were served", len(longest), count)
+    checks.check(len(longest) == count, "%d of %d clients of a pool were served", len(longest), count)
     most = 3 * times.idle + SLACK
-    check(max(longest, default=0) <= most, "a client of a pool waited %.1f s, and not %.1f at most", max(longest, default=0), most)
+    checks.check(
+        max(longest, default=0) <= most, "a client of a pool waited %.1f s, and not %.1f at most", max(longest, default=0), most
+    )
 
 
-def short_pauses(times):
+def short_pauses(checks, times):
     """A client that pauses for less than it may be idle keeps its connection for longer than patience lasts."""
     with times.server(1) as server:
         one = Connection(server.port)
         end = time.monotonic() + times.patience + times.idle
         while time.monotonic() < end:
-            check(one.ask("GET", "/db/_all_docs")[0] == 200, "a client that pauses was given up")
+            checks.check(one.ask("GET", "/db/_all_docs")[0] == 200, "a client that pauses was given up")
             time.sleep(times.idle / 2)
         one.close()
 
 
-def part_of_the_next(times):
+def part_of_the_next(checks, times):
     """A request of which a part came with the one before has begun, so it is waited for as long as patience lasts."""
     first, second = b"GET / HTTP/1.1\r\nHost: db\r\n\r\n", b"GET /db/_all_docs HTTP/1.1\r\nHost: db\r\n\r\n"
     with times.server(1) as server:
@@ -233,27 +234,27 @@ def part_of_the_next(times):
         one.sendall(second[10:])
         one.shutdown(socket.SHUT_WR)
         data = end_of(one)
-        check(data.count(b"HTTP/1.1 200 ") == 2, "a request that was begun with another one got no answer: %r", data)
+        checks.check(data.count(b"HTTP/1.1 200 ") == 2, "a request that was begun with another one got no answer: %r", data)
 
 
-def wait_for_changes(times):
+def wait_for_changes(checks, times):
     """A long poll and a feed last while nothing comes, for longer than a connection may be idle and patience lasts."""
     with times.server(3) as server:
         poll, feed, writer = (Connection(server.port) for _ in range(3))
         poll.send("GET", "/db/_changes?feed=longpoll")
         feed.send("GET", "/db/_changes?feed=continuous")
-        check(feed.head()[0] == 200, "no feed")
+        checks.check(feed.head()[0] == 200, "no feed")
         end = time.monotonic() + times.patience + times.idle
         while time.monotonic() < end:
             writer.ask("GET", "/db/_all_docs")
             time.sleep(times.idle / 2)
-        check(writer.ask("PUT", "/db/a", {})[0] == 201, "no write beside followers")
+        checks.check(writer.ask("PUT", "/db/a", {})[0] == 201, "no write beside followers")
         status, value = poll.answer()
-        check(status == 200 and [row["id"] for row in value["results"]] == ["a"], "a long poll got %r", value)
+        checks.check(status == 200 and [row["id"] for row in value["results"]] == ["a"], "a long poll got %r", value)
         while b"\n" not in feed.rest:
             if not feed.more():
                 break
-        check(b'"id":"a"' in feed.rest, "a feed got %r", feed.rest)
+        checks.check(b'"id":"a"' in feed.rest, "a feed got %r", feed.rest)
         for one in (poll, feed, writer):
             one.close()
 
@@ -261,29 +262,8 @@ def wait_for_changes(times):
 # ---- fewer workers than were asked for
 
 
-def limited(program, workers, kilobytes):
-    """A server with so much room for addresses, and where its standard error goes."""
-    words = ["bash", "-c", 'ulimit -v "$1"; shift; exec "$@"', "bash", str(kilobytes), program]
-    words += ["serve", "--port", "0", "--workers", str(workers)]
-    return subprocess.Popen(words, stdin=subprocess.DEVNULL, stdout=subprocess.PIPE, stderr=subprocess.PIPE)
-
-
-def line_of(process, seconds):
-    """The first line of a program's standard error, or none in so many seconds."""
-    os.set_blocking(process.stderr.fileno(), False)
-    data, end = b"", time.monotonic() + seconds
-    while b"\n" not in data and time.monotonic() < end:
-        piece = process.stderr.read()
-        if piece == b"":
-            break
-        data += piece or b""
-        time.sleep(0.02)
-    return data.decode()
-
-
-def served_at_once(process, most):
+def served_at_once(port, most):
     """How many clients that keep their connections are answered, of so many."""
-    port = int(process.stdout.readline().rsplit(b":", 1)[1])
     held = [plain(port, b"GET / HTTP/1.1\r\nHost: db\r\n\r\n") for _ in range(most)]
     time.sleep(1)
     answered = 0
@@ -306,51 +286,60 @@ def ends_within(process, seconds):
 FEW = re.compile(r"couchd: (\d+) of 4 workers serve: threads or memory are refused\n")
 
 
-def fewer_workers(times):
+def limited(times, kilobytes):
+    """A server with so much room for addresses, which wants 4 workers."""
+    return Server(times.program, "--workers", "4", limits={"as": kilobytes * 1024}, seconds=SLACK)
+
+
+def serving_of(checks, server, kilobytes):
+    """How many workers a server says that serve, or None where it says nothing and goes on."""
+    said = FEW.fullmatch(server.first_report(SLACK))
+    if said is None:
+        ends = ends_within(server.process, 0.5)
+        checks.check(not ends, "a server with room for %d kilobytes ends and doesn't say that none serve", kilobytes)
+        return None
+    return int(said.group(1))
+
+
+def fewer_workers(checks, times):
     """With less and less room for addresses fewer of 4 workers serve, and at last none. Each of it is said."""
     counts, ends = set(), 0
     for kilobytes in (32000, 28000, 24000, 20000, *range(18000, 5000, -500)):
-        process = limited(times.program, 4, kilobytes)
-        said = FEW.fullmatch(line_of(process, 2.5))
-        if said is None:
-            check(not ends_within(process, 0.5), "a server with room for %d kilobytes ends and doesn't say that none serve", kilobytes)
-            process.kill()
-            process.wait()
-            continue
-        serving = int(said.group(1))
-        if serving == 0:
-            check(ends_within(process, 3) and process.returncode == 1, "status %s where no worker can be had", process.returncode)
-            process.kill()
-            ends += 1
-            continue
-        # A worker that has a thread and gets its memory later serves too.
-        threads = len(os.listdir("/proc/%d/task" % process.pid))
-        at_once = served_at_once(process, 4)
-        check(serving <= at_once <= threads, "%d clients are served at once by %d threads, of which %d were said to serve", at_once, threads, serving)
-        counts.add(serving)
-        process.kill()
-        process.wait()
-    check(counts != set(), "fewer workers than were asked for are never said")
-    check(ends > 0, "a server with too little room for a second thread goes on")
+        with limited(times, kilobytes) as server:
+            serving = serving_of(checks, server, kilobytes)
+            if serving == 0:
+                has_ended = ends_within(server.process, 3) and server.process.returncode == 1
+                checks.check(has_ended, "status %s where no worker can be had", server.process.returncode)
+                ends += 1
+            elif serving is not None:
+                # A worker that has a thread and gets its memory later serves too.
+                is_heard = server.port is not None or server.listens()
+                checks.check(is_heard, "a server of which %d workers serve doesn't listen", serving)
+                threads = len(os.listdir("/proc/%d/task" % server.process.pid))
+                at_once = served_at_once(server.port, 4)
+                text = "%d clients are served at once by %d threads, of which %d were said to serve"
+                checks.check(serving <= at_once <= threads, text, at_once, threads, serving)
+                counts.add(serving)
+    checks.check(counts != set(), "fewer workers than were asked for are never said")
+    checks.check(ends > 0, "a server with too little room for a second thread goes on")
 
 
-def all_workers(times):
+def all_workers(checks, times):
     """A server that gets all its workers says nothing."""
-    process = limited(times.program, 4, 4_000_000)
-    check(line_of(process, 2) == "", "a server that gets all its workers says something")
-    process.kill()
-    process.wait()
+    with limited(times, 4_000_000) as server:
+        checks.check(server.first_report(2) == "", "a server that gets all its workers says something")
 
 
-def whole(times, step, *more):
+def whole(checks, times, step, *more):
     """Runs a step, of which an exception is a failure."""
     try:
-        step(times, *more)
+        step(checks, times, *more)
     except (OSError, ValueError, subprocess.SubprocessError) as fault:
-        check(False, "%s ended with %r", step.__name__, fault)
+        checks.check(False, "%s ended with %r", step.__name__, fault)
 
 
 def main():
+    checks = Checks()
     reader = arguments(__doc__, "couchd")
     reader.add_argument("--workers", type=int, default=4)
     reader.add_argument("--idle", type=int, default=1)
@@ -373,12 +362,12 @@ def main():
         (fewer_workers,),
         (all_workers,),
     ]
-    running = [threading.Thread(target=whole, args=(times, *step)) for step in steps]
+    running = [threading.Thread(target=whole, args=(checks, times, *step)) for step in steps]
     for one in running:
         one.start()
     for one in running:
         one.join()
-    return CHECKS.report()
+    return checks.report()
 
 
 if __name__ == "__main__":

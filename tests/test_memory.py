@@ -83,7 +83,10 @@ INPUTS = {
     "purges and compactions": b"".join(
         [
             bulk('{"docs":[{"_id":"d","_revisions":{"ids":["%s","%s"],"start":2}}],"new_edits":false}' % (B, A)),
-            bulk('{"docs":[{"_id":"d","_revisions":{"ids":["%s","%s"],"start":2}},{"_id":"e","_rev":"1-%s"}],"new_edits":false}' % (C, A, A)),
+            bulk(
+                '{"docs":[{"_id":"d","_revisions":{"ids":["%s","%s"],"start":2}},{"_id":"e","_rev":"1-%s"}],"new_edits":false}'
+                % (C, A, A)
+            ),
             bulk('{"docs":[{"_id":"f"},{"_id":"d","_rev":"2-%s","n":1}]}' % C),
             request("POST", "/db/_compact"),
             request("POST", "/db/_purge", '{"d":["2-%s","1-%s","2-%s"],"e":["1-%s"],"g":["1-%s"]}' % (B, A, B, A, A)),

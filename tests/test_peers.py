@@ -4,7 +4,8 @@
 
 What a bulk asks is read by the reference. The same with a list of documents: one that comes alone, ids that have to be escaped in
 a path or in JSON, two pages, checkpoints on both ends, and sources that answer with a document off the list, or that take no
-filter. A document that no bulk can hold, and checkpoints past the source's end, are named on standard error. Either end is silent
+filter. Documents are asked for ahead of the answers, within bounds, in order and by the same bytes; a source that is cut within the
+answers to them, or gives them in another order, is named. A document that no bulk can hold, and checkpoints past the source's end, are named on standard error. Either end is silent
 at each of its calls, and is given up in time and named. Then the source's first answer comes in forms that are read and in forms
 that aren't, in pieces, and cut: what the program reports must be right.
 """
@@ -14,7 +15,7 @@ from urllib.parse import quote, quote_plus
 
 from lib import ends
 from lib.checks import Checks
-from lib.ends import SILENT, Cut, Failing, Scripted
+from lib.ends import SILENT, Cut, Failing, Gathering, Scripted
 from lib.programs import arguments
 from lib.requests import encoded, request
 from reference import bodies, revisions
@@ -143,6 +144,71 @@ def one_segment(program):
     are(ran, READ, "two responses in one segment")
     first = asked("GET", "/db/_local/r")
     are((of_source, of_target), ([first, changes_asked(0)], [first]), "the requests to both ends")
+
+
+# ---- requests that are written ahead
+
+MOST_AHEAD = 100, 16384  # requests without an answer, and bytes of them
+
+
+def opened(id):
+    """The request for the first revision of a document whose id has no bytes to escape."""
+    return asked("GET", "/db/%s?revs=true&latest=true&open_revs=%%5B%%22%s%%22%%5D" % (id, FIRST))
+
+
+def given(id):
+    return answer([{"ok": {"_id": id, "_rev": FIRST, "_revisions": {"ids": [FIRST[2:]], "start": 1}}}])
+
+
+def ahead(program):
+    """The documents of a page are asked for ahead of the answers, in their order and by the same bytes, and only so far ahead that they
+    can be written although they aren't read; each answer belongs to the request of its number."""
+    for width in (4, 90, 500):
+        ids = ["%0*d" % (width, number) for number in range(100)]
+        rows = [row(number + 1, id, FIRST) for number, id in enumerate(ids)]
+        source = Gathering(NOTHING, changes(100, *rows), *map(given, ids), written(1), changes(100))
+        differences = answer({id: {"missing": [FIRST]} for id in ids})
+        target = Scripted(NOTHING, differences, answer([], "201 Created"), written(1))
+        ran, of_source, of_target = replicate(program, source, target, "r")
+        are(ran, (0, "documents read 100, written 100: done\n", ""), "documents that are asked for ahead")
+        requests = [opened(id) for id in ids]
+        are(of_source[2:-2], requests, "the requests of ids of %d bytes" % width)
+        merged = bodies.bulk_changes(of_target[2].split(b"\r\n\r\n", 1)[1])[0]
+        are([merge.id for merge in merged], ids, "the documents of ids of %d bytes" % width)
+        for number, waiting in enumerate(source.waiting[2:-2]):
+            within = len(waiting) <= MOST_AHEAD[0] and sum(map(len, waiting)) <= MOST_AHEAD[1]
+            check(within, "%d requests with %d bytes are ahead at document %d", len(waiting), sum(map(len, waiting)), number)
+        first = source.waiting[2]
+        next_fits = sum(map(len, requests[: len(first) + 1])) <= MOST_AHEAD[1]
+        check(len(first) == 100 or not next_fits, "only %d requests with ids of %d bytes are ahead at first", len(first), width)
+
+
+def cut_ahead(program):
+    """The connection ends within the answers to requests that were written ahead: it is said, and nothing is written or marked."""
+    ids = ["c%d" % number for number in range(5)]
+    page = changes(5, *[row(number + 1, id, FIRST) for number, id in enumerate(ids)])
+    answers = b"".join(map(given, ids))
+    ends_of = [len(b"".join(map(given, ids[:number]))) for number in range(6)]
+    for at in sorted({*range(0, len(answers), 97), *ends_of, *[end - 1 for end in ends_of[1:]]} - {len(answers)}):
+        read = sum(end <= at for end in ends_of[1:])
+        source = Scripted(NOTHING, page, Cut(answers[:at]))
+        target = Scripted(NOTHING, answer({id: {"missing": [FIRST]} for id in ids}))
+        ran, _, of_target = replicate(program, source, target, "r")
+        are(ran[:2], (1, "documents read %d, written 0: the source failed\n" % read), "a source that is cut after %d bytes" % at)
+        are(len(of_target), 2, "the number of requests to the target of a source that is cut")
+
+
+def other_order(program):
+    """Answers that come in another order than the requests are answers to other requests: nothing is written or marked."""
+    ids = ["a", "b", "c"]
+    page = changes(3, *[row(number + 1, id, FIRST) for number, id in enumerate(ids)])
+    for number, order in enumerate([("b", "a", "c"), ("c", "b", "a"), ("b", "c", "a"), ("a", "c", "b")]):
+        source = Scripted(NOTHING, page, *map(given, order))
+        target = Scripted(NOTHING, answer({id: {"missing": [FIRST]} for id in ids}))
+        ran, _, of_target = replicate(program, source, target, "r")
+        read = 2 if order[0] == "a" else 1  # an answer counts although it turns out to be another one's
+        are(ran, (3, "documents read %d, written 0: an answer can't be read\n" % read, ""), "order %d of answers" % number)
+        are(len(of_target), 2, "the number of requests to the target with answers in another order")
 
 
 # ---- what keeps a replication from going on
@@ -340,6 +406,9 @@ def main():
     later_checkpoints(program)
     one_revision(program)
     one_segment(program)
+    ahead(program)
+    cut_ahead(program)
+    other_order(program)
     large_document(program)
     past_end(program)
     silent(program)

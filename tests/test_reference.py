@@ -13,7 +13,15 @@ from lib.transcripts import content
 from reference import json_profile, once, queries, revisions, trees, worked, worked_epochs
 from reference.database import Database, Merge
 
-STATUS = {200: "200 OK", 201: "201 Created", 202: "202 Accepted", 400: "400 Bad Request", 404: "404 Not Found", 405: "405 Method Not Allowed", 409: "409 Conflict"}
+STATUS = {
+    200: "200 OK",
+    201: "201 Created",
+    202: "202 Accepted",
+    400: "400 Bad Request",
+    404: "404 Not Found",
+    405: "405 Method Not Allowed",
+    409: "409 Conflict",
+}
 
 
 def md5(text):
@@ -56,7 +64,12 @@ def written(id, rev):
 
 
 def info(documents, deleted, update_seq, purge_seq=0):
-    return '{"db_name":"db","doc_count":%d,"doc_del_count":%d,"purge_seq":%d,"update_seq":%d}' % (documents, deleted, purge_seq, update_seq)
+    return '{"db_name":"db","doc_count":%d,"doc_del_count":%d,"purge_seq":%d,"update_seq":%d}' % (
+        documents,
+        deleted,
+        purge_seq,
+        update_seq,
+    )
 
 
 def purged(purge_seq, **leaves):
@@ -145,7 +158,11 @@ WORKED = {
     "conflicts/differences": [
         (201, 1, "[]"),
         (201, 2, "[]"),
-        (200, 2, '{"d":{"missing":["%s","%s"],"possible_ancestors":["%s"]}}' % (revision("3-e*"), revision("2-f*"), revision("2-b*"))),
+        (
+            200,
+            2,
+            '{"d":{"missing":["%s","%s"],"possible_ancestors":["%s"]}}' % (revision("3-e*"), revision("2-f*"), revision("2-b*")),
+        ),
     ],
     "conflicts/write-after-deletion": [
         (201, 1, written("a", A1)),
@@ -202,7 +219,8 @@ WORKED = {
         (
             200,
             2,
-            '[{"ok":{"_id":"d","_rev":"%s"}},{"ok":{"_id":"d","_rev":"%s"}},{"missing":"%s"}]' % (revision("3-c*"), revision("2-b*"), revision("9-9*")),
+            '[{"ok":{"_id":"d","_rev":"%s"}},{"ok":{"_id":"d","_rev":"%s"}},{"missing":"%s"}]'
+            % (revision("3-c*"), revision("2-b*"), revision("9-9*")),
         ),
     ],
     "queries/changes-followed": [
@@ -222,12 +240,20 @@ WORKED = {
     "queries/differences-with-the-largest-generation-last": [
         (201, 1, "[]"),
         (201, 2, "[]"),
-        (200, 2, '{"d":{"missing":["%s","%s"],"possible_ancestors":["%s"]}}' % (revision("2-f*"), revision("3-e*"), revision("2-b*"))),
+        (
+            200,
+            2,
+            '{"d":{"missing":["%s","%s"],"possible_ancestors":["%s"]}}' % (revision("2-f*"), revision("3-e*"), revision("2-b*")),
+        ),
     ],
     "queries/differences-with-ancestors-in-order": [
         (201, 1, "[]"),
         (201, 2, "[]"),
-        (200, 2, '{"d":{"missing":["%s"],"possible_ancestors":["%s","%s"]}}' % (revision("4-e*"), revision("2-b*"), revision("3-c*"))),
+        (
+            200,
+            2,
+            '{"d":{"missing":["%s"],"possible_ancestors":["%s","%s"]}}' % (revision("4-e*"), revision("2-b*"), revision("3-c*")),
+        ),
     ],
     "queries/differences-of-an-unknown-document": [
         (201, 1, "[]"),
@@ -242,7 +268,12 @@ WORKED = {
     ],
     "queries/live-and-deleted-losers": [
         (201, 1, "[]"),
-        (200, 1, '{"_conflicts":["%s"],"_deleted_conflicts":["%s"],"_id":"d","_rev":"%s"}' % (revision("1-0*"), revision("2-f*"), revision("1-b*"))),
+        (
+            200,
+            1,
+            '{"_conflicts":["%s"],"_deleted_conflicts":["%s"],"_id":"d","_rev":"%s"}'
+            % (revision("1-0*"), revision("2-f*"), revision("1-b*")),
+        ),
         (200, 1, '{"_deleted_conflicts":["%s"],"_id":"d","_rev":"%s"}' % (revision("2-f*"), revision("1-b*"))),
     ],
     "queries/status-of-an-inner-deletion": [
@@ -294,7 +325,11 @@ WORKED = {
         (200, 4, info(1, 0, 3, 1)),
         (200, 4, changes(3, 0, row("d", 3, A1))),
     ],
-    "purges/purge-in-the-order-asked": [(201, 1, "[]"), (201, 2, "[]"), (201, 3, purged(1, d=[revision("2-c*"), revision("2-b*")]))],
+    "purges/purge-in-the-order-asked": [
+        (201, 1, "[]"),
+        (201, 2, "[]"),
+        (201, 3, purged(1, d=[revision("2-c*"), revision("2-b*")])),
+    ],
     "purges/purge-by-byte-order": [
         (201, 1, written("b", A1)),
         (201, 2, written("é", A1)),
@@ -352,8 +387,11 @@ WORKED = {
         (200, 4, changes(4, 0, ROW_B, ROW_C, ROW_A)),
     ],
     "queries/changes-of-some": THREE + [(200, 3, changes(3, 0, ROWS[0], ROWS[2])), (200, 3, changes(2, 1, ROWS[1]))],
-    "queries/changes-of-some-followed": THREE + [(200, 3, changes(2, 1, ROWS[1])), (200, 3, changes(3, 0, ROWS[2])), (200, 3, changes(3, 0))],
-    "queries/changes-of-some-limits": THREE_AND_A_DELETION + [(200, 4, changes(3, 1, ROW_C))] * 2 + [(200, 4, changes(4, 0, ROW_C, ROW_A))] * 3,
+    "queries/changes-of-some-followed": THREE
+    + [(200, 3, changes(2, 1, ROWS[1])), (200, 3, changes(3, 0, ROWS[2])), (200, 3, changes(3, 0))],
+    "queries/changes-of-some-limits": THREE_AND_A_DELETION
+    + [(200, 4, changes(3, 1, ROW_C))] * 2
+    + [(200, 4, changes(4, 0, ROW_C, ROW_A))] * 3,
     "queries/changes-of-some-since": THREE_AND_A_DELETION
     + [(200, 4, changes(4, 0, ROW_C, ROW_A))] * 2
     + [(200, 4, changes(4, 0, ROW_A))]
@@ -397,7 +435,9 @@ WORKED = {
     "queries/filter-by-get": THREE + [(400, 3, PARAMETER)] * 6 + [(200, 3, changes(3, 0, *ROWS))] * 2,
     "queries/filter-parameter-before-body": [(400, 0, PARAMETER)] * 11,
     "queries/method-of-changes": [(200, 0, changes(0, 0)), not_allowed("GET, POST")],
-    "queries/methods-of-changes": [(405, 0, METHOD, "Allow: GET, POST\r\n")] * 4 + [not_allowed("GET, POST")] * 2 + [(405, 0, METHOD, "Allow: GET, POST\r\n")] * 4,
+    "queries/methods-of-changes": [(405, 0, METHOD, "Allow: GET, POST\r\n")] * 4
+    + [not_allowed("GET, POST")] * 2
+    + [(405, 0, METHOD, "Allow: GET, POST\r\n")] * 4,
     "purges/purged-limit": [(200, 0, "1000"), (200, 1, DONE), (200, 1, "1"), (400, 1, SHAPE)],
     "purges/purged-limit-ends": [
         (200, 1, DONE),
@@ -439,7 +479,10 @@ WORKED = {
         (201, 10, written("a", A1)),
         (200, 10, info(1, 0, 5, 4)),
     ],
-    "purges/method-of-purged-limit": [(405, 0, METHOD, "Allow: GET, PUT\r\n")] * 2 + [not_allowed("GET, PUT")] + [(405, 0, METHOD, "Allow: GET, PUT\r\n")] * 2 + [(200, 0, "1000")],
+    "purges/method-of-purged-limit": [(405, 0, METHOD, "Allow: GET, PUT\r\n")] * 2
+    + [not_allowed("GET, PUT")]
+    + [(405, 0, METHOD, "Allow: GET, PUT\r\n")] * 2
+    + [(200, 0, "1000")],
     "queries/number-below-i64": [
         (201, 1, written("a", LOWEST)),
         (200, 1, '{"_id":"a","_rev":"%s","n":-9223372036854775808}' % LOWEST),
@@ -476,15 +519,21 @@ def all_docs(*ids):
 AT_ENDS = {
     "ids-in-byte-order": [(201, at + 1, written(id, A1)) for at, id in enumerate(["café", "Za", "Z"])]
     + [(200, 3, '{"_id":"café","_rev":"%s"}' % A1), (200, 3, all_docs("Z", "Za", "café"))],
-    "ids-of-sixteen-bytes-and-more": [(201, at + 1, written(id, A1)) for at, id in enumerate(["0123456789abcdef0", "1", "0123456789abcdef"])]
+    "ids-of-sixteen-bytes-and-more": [
+        (201, at + 1, written(id, A1)) for at, id in enumerate(["0123456789abcdef0", "1", "0123456789abcdef"])
+    ]
     + [(200, 3, '{"_id":"%s","_rev":"%s"}' % (id, A1)) for id in ["0123456789abcdef", "0123456789abcdef0"]]
     + [(200, 3, all_docs("0123456789abcdef", "0123456789abcdef0", "1"))],
     "ids-of-one-to-512-bytes": bad("id")
-    + [(201, 1, "[%s]" % written("x", A1)), (201, 2, "[%s]" % written("x" * 512, A1))] + later(2, bad("id")) + [(200, 2, info(2, 0, 2))],
+    + [(201, 1, "[%s]" % written("x", A1)), (201, 2, "[%s]" % written("x" * 512, A1))]
+    + later(2, bad("id"))
+    + [(200, 2, info(2, 0, 2))],
     "ids-in-targets": [(201, 1, written("a" * 512, A1))] + later(1, bad("id", "id", "id", "id")),
     "numbers-of-bodies": [(201, 1, written("a", "1-" + md5('0,,{"n":9223372036854775807}'))), (409, 2, CONFLICT)]
     + later(2, bad(*["number"] * 7, "json", "json", "shape", "shape", "number", "number", "json")),
-    "limits-of-revisions": [(200, 1, DONE), (200, 1, "4294967295")] + later(1, bad("shape", "shape", "shape", "shape", "number")) + [(200, 2, DONE), (200, 2, "1")],
+    "limits-of-revisions": [(200, 1, DONE), (200, 1, "4294967295")]
+    + later(1, bad("shape", "shape", "shape", "shape", "number"))
+    + [(200, 2, DONE), (200, 2, "1")],
     "texts-that-are-json": bad(*["json"] * 6, "shape"),
     "values-nested-to-the-limit": bad("shape", "depth", "depth", "json"),
     "last-of-two-members": [
@@ -493,26 +542,60 @@ AT_ENDS = {
     ],
     "special-members-among-others": [
         one
-        for at, (body, text) in enumerate([
-            ("{}", '{"_id":"0","_rev":"%s"}'),
-            ('{"A":[2],"a":"x","b":1}', '{"A":[2],"_id":"1","_rev":"%s","a":"x","b":1}'),
-            ('{"b":1}', '{"_id":"2","_rev":"%s","b":1}'),
-            ('{"":2,"Z":1}', '{"":2,"Z":1,"_id":"3","_rev":"%s"}'),
-        ])
+        for at, (body, text) in enumerate(
+            [
+                ("{}", '{"_id":"0","_rev":"%s"}'),
+                ('{"A":[2],"a":"x","b":1}', '{"A":[2],"_id":"1","_rev":"%s","a":"x","b":1}'),
+                ('{"b":1}', '{"_id":"2","_rev":"%s","b":1}'),
+                ('{"":2,"Z":1}', '{"":2,"Z":1,"_id":"3","_rev":"%s"}'),
+            ]
+        )
         for one in [(201, at + 1, written(str(at), "1-" + md5("0,," + body))), (200, at + 1, text % ("1-" + md5("0,," + body)))]
     ],
-    "bodies-with-revisions-of-their-own": [(201, at + 1, written(str(at), "1-" + md5("0,," + body))) for at, body in enumerate([
-        '{"a":[1,{"b":"x"}],"c":null}', '{"a":[1,{"b":"x"}],"c":null}', "{}", '{"a":[1,{"b":"x"}],"d":null}', '{"a":[1,{"b":"y"}],"c":null}',
-        '{"a":[-1,{"b":"x"}],"c":null}', '{"a":[1],"c":null}', '{"a":[1,{"b":"x"}],"c":false}', '{"a":[1,{"b":"x"}],"c":null,"d":0}', "{}",
-    ])],
+    "bodies-with-revisions-of-their-own": [
+        (201, at + 1, written(str(at), "1-" + md5("0,," + body)))
+        for at, body in enumerate(
+            [
+                '{"a":[1,{"b":"x"}],"c":null}',
+                '{"a":[1,{"b":"x"}],"c":null}',
+                "{}",
+                '{"a":[1,{"b":"x"}],"d":null}',
+                '{"a":[1,{"b":"y"}],"c":null}',
+                '{"a":[-1,{"b":"x"}],"c":null}',
+                '{"a":[1],"c":null}',
+                '{"a":[1,{"b":"x"}],"c":false}',
+                '{"a":[1,{"b":"x"}],"c":null,"d":0}',
+                "{}",
+            ]
+        )
+    ],
     "revisions-in-order": [(201, 1, "[]"), (201, 2, "[]"), (201, 3, "[]")]
-    + [(200, 3, "[%s]" % ",".join('{"ok":{"_id":"%s","_rev":"%s"}}' % (id, rev) for rev in revs)) for id, revs in [("d", (A2, X2)), ("e", (A3, X2))]]
+    + [
+        (200, 3, "[%s]" % ",".join('{"ok":{"_id":"%s","_rev":"%s"}}' % (id, rev) for rev in revs))
+        for id, revs in [("d", (A2, X2)), ("e", (A3, X2))]
+    ]
     + [(200, 3, '{"_id":"%s","_rev":"%s"}' % pair) for pair in [("d", A2), ("e", A3)]],
     "revisions-malformed": bad(*["revision"] * 13) + [(404, 0, MISSING)] * 2 + bad("shape", "shape"),
     "targets-of-no-route": [(404, 0, MISSING)] * 11,
-    "targets-of-routes": [(405, 0, METHOD, "Allow: %s\r\n" % methods) for methods in [
-        "GET", "GET, PUT, DELETE", "GET", "GET", "GET, PUT", "GET", "POST", "GET, POST", "POST", "POST", "GET, PUT, DELETE", "POST", "GET, PUT, DELETE", "GET, PUT, DELETE",
-    ]],
+    "targets-of-routes": [
+        (405, 0, METHOD, "Allow: %s\r\n" % methods)
+        for methods in [
+            "GET",
+            "GET, PUT, DELETE",
+            "GET",
+            "GET",
+            "GET, PUT",
+            "GET",
+            "POST",
+            "GET, POST",
+            "POST",
+            "POST",
+            "GET, PUT, DELETE",
+            "POST",
+            "GET, PUT, DELETE",
+            "GET, PUT, DELETE",
+        ]
+    ],
     "targets-and-methods": [(404, 0, MISSING)] * 2
     + [(405, 0, METHOD, "Allow: %s\r\n" % methods) for methods in ["GET, PUT"] + ["POST"] * 4]
     + [not_allowed("GET, PUT, DELETE"), not_allowed("GET, PUT, DELETE", 0, CLOSED)],
@@ -523,7 +606,8 @@ AT_ENDS = {
         (404, 2, DELETED),
         (200, 2, '{"_deleted":true,"_id":"café/a","_rev":"2-%s","n":1}' % md5("1," + A1 + ',{"n":1}')),
     ],
-    "refusal-at-the-twelfth-place": [(201, number + 1, written(str(number), A1)) for number in range(12)] + later(12, bad("number")),
+    "refusal-at-the-twelfth-place": [(201, number + 1, written(str(number), A1)) for number in range(12)]
+    + later(12, bad("number")),
     "get-by-flags": [
         (201, 1, "[]"),
         (200, 1, '{"_conflicts":["%s"],"_id":"a","_rev":"%s"}' % (revision("1-a*"), revision("1-b*"))),
@@ -532,21 +616,42 @@ AT_ENDS = {
     ],
     "get-and-close": [(201, 1, written("a", A1)), (200, 1, '{"_id":"a","_rev":"%s"}' % A1, CLOSED)],
     "get-of-a-deletion-and-close": [(201, 1, written("a", A1)), (200, 2, written("a", X2)), (404, 2, DELETED, CLOSED)],
-    "delete-over-a-revision": [(201, 1, written("a", A1)), (200, 2, written("a", X2)), (200, 2, '{"_deleted":true,"_id":"a","_rev":"%s"}' % X2)],
+    "delete-over-a-revision": [
+        (201, 1, written("a", A1)),
+        (200, 2, written("a", X2)),
+        (200, 2, '{"_deleted":true,"_id":"a","_rev":"%s"}' % X2),
+    ],
     "local-document-of-many-numbers": [(201, number, written("_local/a", "0-%d" % number)) for number in range(1, 8)]
     + [(200, 7, '{"_id":"_local/a","_rev":"0-7"}'), (404, 7, MISSING), (200, 8, written("_local/a", "0-0")), (404, 9, MISSING)],
     "open-revisions-of-capitals": [
         (201, 1, written("a", "1-" + md5('0,,{"Kind":1,"text":[]}'))),
-        (200, 1, '[{"ok":{"Kind":1,"_id":"a","_rev":"1-%s","text":[]}},{"missing":"1-%s"}]' % (md5('0,,{"Kind":1,"text":[]}'), HASH)),
+        (
+            200,
+            1,
+            '[{"ok":{"Kind":1,"_id":"a","_rev":"1-%s","text":[]}},{"missing":"1-%s"}]' % (md5('0,,{"Kind":1,"text":[]}'), HASH),
+        ),
     ],
     "bulk-faults-in-order": bad("json", "number", *["shape"] * 6, "member", "id", "revision"),
-    "merge-paths-at-their-ends": [(201, 1, "[]"), (201, 2, "[]")] + later(2, bad(*["shape"] * 7)) + [
-        (200, 2, '[{"ok":{"_id":"a","_rev":"4294967295-%s",%s}},{"ok":{"_id":"a","_rev":"1-%s",%s}}]' % (
-            HASH, '"_revisions":{"ids":["%s","%s"],"start":4294967295}' % (HASH, HASH), HASH, path("1-" + HASH),
-        )),
+    "merge-paths-at-their-ends": [(201, 1, "[]"), (201, 2, "[]")]
+    + later(2, bad(*["shape"] * 7))
+    + [
+        (
+            200,
+            2,
+            '[{"ok":{"_id":"a","_rev":"4294967295-%s",%s}},{"ok":{"_id":"a","_rev":"1-%s",%s}}]'
+            % (
+                HASH,
+                '"_revisions":{"ids":["%s","%s"],"start":4294967295}' % (HASH, HASH),
+                HASH,
+                path("1-" + HASH),
+            ),
+        ),
     ],
     "merge-faults": bad("shape", "shape", "shape", "revision"),
-    "merge-of-a-deletion": [(201, 1, "[]"), (200, 1, '[{"ok":{"_deleted":true,"_id":"a","_rev":"2-%s",%s}}]' % (HASH, path("2-" + HASH, "1-" + OTHER)))],
+    "merge-of-a-deletion": [
+        (201, 1, "[]"),
+        (200, 1, '[{"ok":{"_deleted":true,"_id":"a","_rev":"2-%s",%s}}]' % (HASH, path("2-" + HASH, "1-" + OTHER))),
+    ],
     "bulk-of-two": [
         (201, 1, "[%s,%s]" % (written("b", A1), written("a", "1-" + md5('0,,{"n":1}')))),
         (200, 1, changes(2, 0, row("b", 1, A1), row("a", 2, "1-" + md5('0,,{"n":1}')))),
@@ -570,13 +675,34 @@ WORKED.update(("wire-edges/" + name, responses) for name, responses in AT_ENDS.i
 
 NO_ROUTE = (404, 0, MISSING, "", False)
 OF_HEAD = {
-    "of-each-route": [not_allowed(methods) for methods in [
-        "GET", "GET", "GET", "GET", "POST", "GET, POST", "POST", "GET, PUT, DELETE", "POST", "GET, PUT", "POST", "GET, PUT", "GET, PUT, DELETE",
-    ]],
+    "of-each-route": [
+        not_allowed(methods)
+        for methods in [
+            "GET",
+            "GET",
+            "GET",
+            "GET",
+            "POST",
+            "GET, POST",
+            "POST",
+            "GET, PUT, DELETE",
+            "POST",
+            "GET, PUT",
+            "POST",
+            "GET, PUT",
+            "GET, PUT, DELETE",
+        ]
+    ],
     "of-no-route": [NO_ROUTE] * 5,
     "between-others": [
-        (200, 0, '{"couchdb":"Welcome"}'), not_allowed("GET"), (404, 0, MISSING), NO_ROUTE,
-        (201, 1, written("a", A1)), not_allowed("GET, PUT, DELETE", 1), (404, 1, MISSING, "", False), (200, 1, '{"_id":"a","_rev":"%s"}' % A1),
+        (200, 0, '{"couchdb":"Welcome"}'),
+        not_allowed("GET"),
+        (404, 0, MISSING),
+        NO_ROUTE,
+        (201, 1, written("a", A1)),
+        not_allowed("GET, PUT, DELETE", 1),
+        (404, 1, MISSING, "", False),
+        (200, 1, '{"_id":"a","_rev":"%s"}' % A1),
     ],
     "with-a-body": [not_allowed("GET, PUT, DELETE"), NO_ROUTE, (404, 0, MISSING)],
     "that-closes": [(201, 1, written("a", A1)), not_allowed("GET, PUT, DELETE", 1, CLOSED)],

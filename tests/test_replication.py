@@ -1,4 +1,5 @@
-"""Runs `couchd replicate` between two servers, with ends that fail or lie and without memory, and looks at what both hold afterwards.
+"""Runs `couchd replicate` between two servers, with ends that fail or lie and without memory, and looks at what both hold
+afterwards.
 
     python3 tests/test_replication.py [--seeds N] [--pairs N] [COUCHD]
 
@@ -24,11 +25,25 @@ import socket
 import subprocess
 import sys
 
+from lib.checks import Checks
 from lib.ends import Proxy, replicate, replication
 from lib.programs import SECONDS, arguments
 from lib.refusals import refuser, was_refused
 from lib.replicas import (
-    B, CHECKS, End, as_list, check, checkpoint, checkpoints_are, conflict, counts, edit, has_conflict, has_documents, put, ran_as, reported, settle,
+    B,
+    End,
+    as_list,
+    checkpoint,
+    checkpoints_are,
+    conflict,
+    counts,
+    edit,
+    has_conflict,
+    has_documents,
+    put,
+    ran_as,
+    reported,
+    settle,
 )
 from lib.requests import encoded
 from reference import bodies, queries
@@ -43,27 +58,27 @@ LISTS = 4  # at most, of disjoint documents, between the two of one pair
 OUT_OF_MEMORY = re.compile(r"documents read [0-2], written [0-2]: out of memory\n")
 
 
-def worked(program):
+def worked(checks, program):
     """A conflict comes to an empty target, once."""
-    with End(program) as source, End(program) as target:
+    with End(checks, program) as source, End(checks, program) as target:
         conflict(source)
-        ran_as(replicate(program, source.port, target.port, "r"), 0, reported(2, 2, "done"))
+        ran_as(checks, replicate(program, source.port, target.port, "r"), 0, reported(2, 2, "done"))
         has_conflict(target)
         checkpoints_are(source, target, "r", ("0-1", 2), ("0-1", 2))
         places = source.place(), target.place()
-        ran_as(replicate(program, source.port, target.port, "r"), 0, reported(0, 0, "done"))
-        check((source.place(), target.place()) == places, "a second run writes")
+        ran_as(checks, replicate(program, source.port, target.port, "r"), 0, reported(0, 0, "done"))
+        checks.check((source.place(), target.place()) == places, "a second run writes")
 
 
-def unreachable(program):
+def unreachable(checks, program):
     """An end that nobody listens at."""
-    with socket.socket() as closed, End(program) as end:
+    with socket.socket() as closed, End(checks, program) as end:
         closed.bind(("127.0.0.1", 0))  # so that nobody else takes its port
         port = closed.getsockname()[1]
         for source, target, name in (port, port, "source"), (port, end.port, "source"), (end.port, port, "target"):
             ran = replicate(program, source, target, "r")
             wanted = 1, "", "couchd: cannot reach the %s at 127.0.0.1:%d\n" % (name, port)
-            check(ran == wanted, "%r where nobody listens as %s", ran, name)
+            checks.check(ran == wanted, "%r where nobody listens as %s", ran, name)
 
 
 def is_of(request, method, path):
@@ -92,25 +107,85 @@ def answers_bulk(text):
     return lambda request, answer: text if answer and is_of(request, b"POST", b"_bulk_docs") else answer
 
 
-def failing(program):
+def failing(checks, program):
     """Each end fails or lies once; then a run without it brings all."""
     rows = [
-        ("target", cut_after_bulk, 1, reported(2, 0, "the target failed"), None, None, reported(0, 0, "done"), ("0-1", 2), ("0-1", 2)),
-        ("source", cut_before_checkpoint, 1, reported(2, 2, "the source failed"), None, ("0-1", 2), reported(0, 0, "done"), ("0-1", 2), ("0-2", 2)),
-        ("source", leave_out, 3, reported(1, 0, "an answer can't be read"), None, None, reported(2, 2, "done"), ("0-1", 2), ("0-1", 2)),
-        ("target", answers_bulk(REFUSAL), 3, reported(2, 0, "a write was refused"), None, None, reported(0, 0, "done"), ("0-1", 2), ("0-1", 2)),
-        ("target", answers_bulk(b"{}"), 3, reported(2, 0, "a write was refused"), None, None, reported(0, 0, "done"), ("0-1", 2), ("0-1", 2)),
-        ("target", answers_bulk(b"["), 3, reported(2, 0, "an answer can't be read"), None, None, reported(0, 0, "done"), ("0-1", 2), ("0-1", 2)),
+        (
+            "target",
+            cut_after_bulk,
+            1,
+            reported(2, 0, "the target failed"),
+            None,
+            None,
+            reported(0, 0, "done"),
+            ("0-1", 2),
+            ("0-1", 2),
+        ),
+        (
+            "source",
+            cut_before_checkpoint,
+            1,
+            reported(2, 2, "the source failed"),
+            None,
+            ("0-1", 2),
+            reported(0, 0, "done"),
+            ("0-1", 2),
+            ("0-2", 2),
+        ),
+        (
+            "source",
+            leave_out,
+            3,
+            reported(1, 0, "an answer can't be read"),
+            None,
+            None,
+            reported(2, 2, "done"),
+            ("0-1", 2),
+            ("0-1", 2),
+        ),
+        (
+            "target",
+            answers_bulk(REFUSAL),
+            3,
+            reported(2, 0, "a write was refused"),
+            None,
+            None,
+            reported(0, 0, "done"),
+            ("0-1", 2),
+            ("0-1", 2),
+        ),
+        (
+            "target",
+            answers_bulk(b"{}"),
+            3,
+            reported(2, 0, "a write was refused"),
+            None,
+            None,
+            reported(0, 0, "done"),
+            ("0-1", 2),
+            ("0-1", 2),
+        ),
+        (
+            "target",
+            answers_bulk(b"["),
+            3,
+            reported(2, 0, "an answer can't be read"),
+            None,
+            None,
+            reported(0, 0, "done"),
+            ("0-1", 2),
+            ("0-1", 2),
+        ),
     ]
     for end, change, status, text, at_source, at_target, again, last_source, last_target in rows:
-        with End(program) as source, End(program) as target:
+        with End(checks, program) as source, End(checks, program) as target:
             conflict(source)
             proxy = Proxy(source.port if end == "source" else target.port, change)
             ports = (proxy.port, target.port) if end == "source" else (source.port, proxy.port)
-            ran_as(replicate(program, *ports, "r"), status, text)
+            ran_as(checks, replicate(program, *ports, "r"), status, text)
             proxy.join()
             checkpoints_are(source, target, "r", at_source, at_target)
-            ran_as(replicate(program, source.port, target.port, "r"), 0, again)
+            ran_as(checks, replicate(program, source.port, target.port, "r"), 0, again)
             has_conflict(target)
             checkpoints_are(source, target, "r", last_source, last_target)
 
@@ -128,11 +203,11 @@ def read_terminal(terminal):
         text += piece
 
 
-def progress(program):
+def progress(checks, program):
     """Each batch of 100 changes is a line on standard error, where that is a terminal, and else nothing."""
-    with End(program) as source, End(program) as target:
+    with End(checks, program) as source, End(checks, program) as target:
         docs = [{"_id": "d%d" % number} for number in range(BATCH + 1)]
-        check(source.ask("POST", "/db/_bulk_docs", {"docs": docs})[0] == 201, "no documents are made")
+        checks.check(source.ask("POST", "/db/_bulk_docs", {"docs": docs})[0] == 201, "no documents are made")
         terminal, errors = pty.openpty()
         command = replication(program, source.port, target.port, "t")
         ran = subprocess.run(command, stdin=subprocess.DEVNULL, stdout=subprocess.PIPE, stderr=errors, timeout=SECONDS)
@@ -141,48 +216,48 @@ def progress(program):
         os.close(terminal)
         found = ran.returncode, ran.stdout.decode()
         wanted = 0, reported(BATCH + 1, BATCH + 1, "done")
-        check(found == wanted, "%r on a terminal in place of %r", found, wanted)
+        checks.check(found == wanted, "%r on a terminal in place of %r", found, wanted)
         has_documents(target, *(doc["_id"] for doc in docs))
         wanted = "".join("checkpoint %d: documents read %d\r\n" % (last, last) for last in (BATCH, BATCH + 1))
-        check(lines == wanted, "%r on the terminal in place of %r", lines, wanted)
-        ran_as(replicate(program, source.port, target.port, "u"), 0, reported(0, 0, "done"))
+        checks.check(lines == wanted, "%r on the terminal in place of %r", lines, wanted)
+        ran_as(checks, replicate(program, source.port, target.port, "u"), 0, reported(0, 0, "done"))
 
 
 # ---- listed documents
 
 
-def listed_documents(program):
+def listed_documents(checks, program):
     """A document comes alone to an empty target, once, and later its next revision."""
-    with End(program) as source, End(program) as target:
+    with End(checks, program) as source, End(checks, program) as target:
         put(source, "a", "b", "c")
-        ran_as(replicate(program, source.port, target.port, "r", "b"), 0, reported(1, 1, "done"))
+        ran_as(checks, replicate(program, source.port, target.port, "r", "b"), 0, reported(1, 1, "done"))
         has_documents(target, "b")
         checkpoints_are(source, target, "r", ("0-1", 3), ("0-1", 3))
         places = source.place(), target.place()
-        ran_as(replicate(program, source.port, target.port, "r", "b"), 0, reported(0, 0, "done"))
-        check((source.place(), target.place()) == places, "a second run writes")
+        ran_as(checks, replicate(program, source.port, target.port, "r", "b"), 0, reported(0, 0, "done"))
+        checks.check((source.place(), target.place()) == places, "a second run writes")
         for id in "b", "a":
             rev = source.ask("GET", "/db/" + id)[1]["_rev"]
-            check(source.ask("PUT", "/db/%s?rev=%s" % (id, rev), {"n": 1})[0] == 201, "%s isn't changed", id)
-        ran_as(replicate(program, source.port, target.port, "r", "b"), 0, reported(1, 1, "done"))
+            checks.check(source.ask("PUT", "/db/%s?rev=%s" % (id, rev), {"n": 1})[0] == 201, "%s isn't changed", id)
+        ran_as(checks, replicate(program, source.port, target.port, "r", "b"), 0, reported(1, 1, "done"))
         has_documents(target, "b")
-        check(source.leaves("b") == target.leaves("b"), "other leaves of b")
+        checks.check(source.leaves("b") == target.leaves("b"), "other leaves of b")
         checkpoints_are(source, target, "r", ("0-2", 5), ("0-2", 5))
 
 
-def lists(program):
+def lists(checks, program):
     """Ids that are escaped, that come twice, and that no document has; and lists that are none."""
-    with End(program) as source, End(program) as target:
+    with End(checks, program) as source, End(checks, program) as target:
         put(source, "x,y", "100%", "é", "other")
         ids = ["é", "100%", "zz", "x,y", "100%"]
-        ran_as(replicate(program, source.port, target.port, "r", as_list(ids)), 0, reported(3, 3, "done"))
+        ran_as(checks, replicate(program, source.port, target.port, "r", as_list(ids)), 0, reported(3, 3, "done"))
         has_documents(target, "x,y", "100%", "é")
-        ran_as(replicate(program, source.port, target.port, "none", "zz"), 0, reported(0, 0, "done"))
+        ran_as(checks, replicate(program, source.port, target.port, "none", "zz"), 0, reported(0, 0, "done"))
         for listed in "", "a,", ",a", "a,,b", "%ff", "x" * 513:
             status, text, errors = replicate(program, source.port, target.port, "r", listed)
             wanted = "error: the list of documents has an id that is no text of 1 to 512 bytes\n"
-            check((status, text) == (2, ""), "status %d, %r for the list %r", status, text, listed)
-            check(errors.startswith(wanted), "%r for the list %r", errors, listed)
+            checks.check((status, text) == (2, ""), "status %d, %r for the list %r", status, text, listed)
+            checks.check(errors.startswith(wanted), "%r for the list %r", errors, listed)
 
 
 def is_list_of_changes(request):
@@ -203,17 +278,17 @@ def no_page(request, answer):
     return b'{"results":"b"}' if answer and is_list_of_changes(request) else answer
 
 
-def lying_lists(program):
+def lying_lists(checks, program):
     """A source answers with another document, or with no page; nothing is written, and a run without it brings the list."""
     for change in other_row, no_page:
-        with End(program) as source, End(program) as target:
+        with End(checks, program) as source, End(checks, program) as target:
             put(source, "a", "b")
             proxy = Proxy(source.port, change)
-            ran_as(replicate(program, proxy.port, target.port, "r", "b"), 3, reported(0, 0, "an answer can't be read"))
+            ran_as(checks, replicate(program, proxy.port, target.port, "r", "b"), 3, reported(0, 0, "an answer can't be read"))
             proxy.join()
             has_documents(target)
             checkpoints_are(source, target, "r", None, None)
-            ran_as(replicate(program, source.port, target.port, "r", "b"), 0, reported(1, 1, "done"))
+            ran_as(checks, replicate(program, source.port, target.port, "r", "b"), 0, reported(1, 1, "done"))
             has_documents(target, "b")
 
 
@@ -227,13 +302,15 @@ def dealt(dice, ids):
     return lists
 
 
-def together(id, *servers):
+def together(checks, id, *servers):
     """What `leaves` gives for a document where all that the servers have of it is in one database, by the reference."""
     database = Database()
     for server in servers:
         _, leaves = server.ask("GET", "/db/%s?open_revs=all&revs=true" % id)
         merges, _ = bodies.bulk_changes(encoded({"docs": [leaf["ok"] for leaf in leaves], "new_edits": False}))
-        check(not any(isinstance(reply, Refused) for reply in database.bulk(merges)), "the leaves of %s contradict one another", id)
+        checks.check(
+            not any(isinstance(reply, Refused) for reply in database.bulk(merges)), "the leaves of %s contradict one another", id
+        )
     leaves = queries.open_revs(database, id, None, queries.Options(revs=True))
     try:
         winner = queries.get(database, id, None, queries.Options())["_rev"]
@@ -242,55 +319,55 @@ def together(id, *servers):
     return sorted(json.dumps(leaf, sort_keys=True) for leaf in leaves), winner
 
 
-def by_lists(program, source, target, lists, order, pair):
-    """Replicates each list in turn, and gives the counts of each run. Behind each run the documents that were listed are those of both
-    databases together, and the others are as they were."""
+def by_lists(checks, program, source, target, lists, order, pair):
+    """Replicates each list in turn, and gives the counts of each run. Behind each run the documents that were listed are those of
+    both databases together, and the others are as they were."""
     ids = [id for listed in lists for id in listed]
     held = {id: target.leaves(id) for id in ids}
     parts = []
     for number in order:
         for id in lists[number]:
-            held[id] = together(id, target, source)
-        parts.append(counts(replicate(program, source.port, target.port, "list-%d" % number, as_list(lists[number]))))
+            held[id] = together(checks, id, target, source)
+        parts.append(counts(checks, replicate(program, source.port, target.port, "list-%d" % number, as_list(lists[number]))))
         for id in ids:
             found = target.leaves(id)
-            check(found == held[id], "%s of pair %d: %r behind list %d, in place of %r", id, pair, found, number, held[id])
+            checks.check(found == held[id], "%s of pair %d: %r behind list %d, in place of %r", id, pair, found, number, held[id])
     return parts
 
 
-def disjoint_lists(program, pairs):
+def disjoint_lists(checks, program, pairs):
     """What replications of disjoint lists bring together is what one without a list brings to a database that was the same."""
     brought = 0
     for pair in range(pairs):
         dice = random.Random("pair %d" % pair)
         ids = ["p%d" % number for number in range(DOCUMENTS)]
-        with End(program) as source, End(program) as some, End(program) as whole:
+        with End(checks, program) as source, End(checks, program) as some, End(checks, program) as whole:
             for _ in range(dice.randrange(EDITS)):
                 edit(whole, dice, ids)
-            counts(replicate(program, whole.port, some.port, "before"))
+            counts(checks, replicate(program, whole.port, some.port, "before"))
             lists = dealt(dice, ids)
             for _ in range(2):
                 for _ in range(EDITS):
                     edit(source, dice, ids)
                 order = dice.sample(range(len(lists)), len(lists))
-                parts = by_lists(program, source, some, lists, order, pair)
-                at_once = counts(replicate(program, source.port, whole.port, "whole"))
+                parts = by_lists(checks, program, source, some, lists, order, pair)
+                at_once = counts(checks, replicate(program, source.port, whole.port, "whole"))
                 sums = [sum(column) for column in zip(*parts)]
-                check(sums == at_once, "pair %d: %r by lists, %r at once", pair, sums, at_once)
+                checks.check(sums == at_once, "pair %d: %r by lists, %r at once", pair, sums, at_once)
                 for id in ids:
                     listed, without = some.leaves(id), whole.leaves(id)
-                    check(listed == without, "%s of pair %d: %r by lists, %r at once", id, pair, listed, without)
+                    checks.check(listed == without, "%s of pair %d: %r by lists, %r at once", id, pair, listed, without)
                 brought += at_once[1]
     print("disjoint lists: %d documents brought" % brought)
-    check(brought > 0 or pairs == 0, "nothing was brought")
+    checks.check(brought > 0 or pairs == 0, "nothing was brought")
 
 
 # ---- databases that are edited at random
 
 
-def random_edits(program, seeds):
+def random_edits(checks, program, seeds):
     conflicts = 0  # documents with more than one leaf that is not deleted
-    with End(program) as one, End(program) as other:
+    with End(checks, program) as one, End(checks, program) as other:
         for seed in range(seeds):
             dice = random.Random(seed)
             ids = ["s%d-%d" % (seed, number) for number in range(DOCUMENTS)]
@@ -301,10 +378,10 @@ def random_edits(program, seeds):
                 settle(program, one, other, seed)
             for id in ids:
                 here, there = one.leaves(id), other.leaves(id)
-                check(here == there, "%s of seed %d: %r here, %r there", id, seed, here, there)
+                checks.check(here == there, "%s of seed %d: %r here, %r there", id, seed, here, there)
                 conflicts += len(one.live(id)) > 1
     print("edits at random: %d documents with a conflict" % conflicts)
-    check(conflicts > 0 or seeds == 0, "no document has a conflict")
+    checks.check(conflicts > 0 or seeds == 0, "no document has a conflict")
 
 
 # ---- memory
@@ -314,61 +391,63 @@ def is_out_of_memory(ran):
     return ran.status == 1 and OUT_OF_MEMORY.fullmatch(ran.output) is not None
 
 
-def check_refused(program, source, target, what, id, ran, listed):
+def check_refused(checks, program, source, target, what, id, ran, listed):
     """What a run reports that was refused memory, and what a run with memory then leaves."""
     is_done = ran[:2] == (0, reported(2, 2, "done"))
     is_right = is_done or is_out_of_memory(ran) or ran[:2] == (1, "")
-    check(is_right, "%s refused: status %d, %r, %r", what, *ran)
+    checks.check(is_right, "%s refused: status %d, %r, %r", what, *ran)
     again = replicate(program, source.port, target.port, id, listed)
-    check(again.status == 0, "after %s: %r", what, again)
+    checks.check(again.status == 0, "after %s: %r", what, again)
     has_conflict(target)
     last = checkpoint(target, id)
-    check(last in (("0-1", 2), ("0-2", 2)), "after %s: the target's checkpoint is %r", what, last)
+    checks.check(last in (("0-1", 2), ("0-2", 2)), "after %s: the target's checkpoint is %r", what, last)
     last = checkpoint(source, id)
-    check(last == ("0-1", 2), "after %s: the source's checkpoint is %r", what, last)
+    checks.check(last == ("0-1", 2), "after %s: the source's checkpoint is %r", what, last)
 
 
-def refused(program, runs, name, listed=None):
+def refused(checks, program, runs, name, listed=None):
     """Each request for memory of one replication is refused; a run with memory then comes to the same end. A refusal may be made
-    good; else it is reported, or nothing is where it comes before the first request to a server. The servers have all their memory."""
+    good; else it is reported, or nothing is where it comes before the first request to a server. The servers have all their
+    memory."""
     numbers = itertools.count(1)
-    with End(program) as source:
+    with End(checks, program) as source:
         conflict(source)
 
         def attempt(env):
             number = next(numbers)
             id = "m%d" % number
-            with End(program) as target:
+            with End(checks, program) as target:
                 ran = replicate(program, source.port, target.port, id, listed, env)
                 if was_refused(ran):
-                    check_refused(program, source, target, "request %d of %s" % (number, name), id, ran, listed)
+                    check_refused(checks, program, source, target, "request %d of %s" % (number, name), id, ran, listed)
             return ran
 
         *found, _ample = runs.in_turn(attempt)
     reports = sum(map(is_out_of_memory, found))
     print("%s: %d requests for memory, of which %d are reported as out of memory" % (name, len(found), reports))
-    check(reports > 0, "no request of %s that was refused is reported as out of memory", name)
+    checks.check(reports > 0, "no request of %s that was refused is reported as out of memory", name)
 
 
 def main():
+    checks = Checks()
     reader = arguments(__doc__, "couchd")
     reader.add_argument("--seeds", type=int, default=200)
     reader.add_argument("--pairs", type=int, default=100)
     given = reader.parse_args()
     program = given.couchd
-    worked(program)
-    unreachable(program)
-    failing(program)
-    progress(program)
-    listed_documents(program)
-    lists(program)
-    lying_lists(program)
-    disjoint_lists(program, given.pairs)
-    random_edits(program, given.seeds)
+    worked(checks, program)
+    unreachable(checks, program)
+    failing(checks, program)
+    progress(checks, program)
+    listed_documents(checks, program)
+    lists(checks, program)
+    lying_lists(checks, program)
+    disjoint_lists(checks, program, given.pairs)
+    random_edits(checks, program, given.seeds)
     with refuser() as runs:
-        refused(program, runs, "a replication")
-        refused(program, runs, "a replication of a list", "none,d%2c,d")
-    return CHECKS.report()
+        refused(checks, program, runs, "a replication")
+        refused(checks, program, runs, "a replication of a list", "none,d%2c,d")
+    return checks.report()
 
 
 if __name__ == "__main__":

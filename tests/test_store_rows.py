@@ -2,9 +2,9 @@
 
     python3 tests/test_store_rows.py [--reference] [FOLDER]
 
-A row says what must be printed of it. The second reading must print the same, and so must each program: `test_store` of databases,
-compactions and interleavings, `test_collections` of maps, lists and trees. With `--reference` no program is run. The programs
-are crates/NAME/out/NAME, or FOLDER/NAME, and the build by the other compiler too, if it is there.
+A row says what must be printed of it. The second reading must print the same, and so must each program: `test_store` of
+databases, compactions and interleavings, `test_collections` of maps, lists and trees. With `--reference` no program is run. The
+programs are crates/NAME/out/NAME, or FOLDER/NAME, and the build by the other compiler too, if it is there.
 """
 import os
 import sys
@@ -30,7 +30,9 @@ def compare(checks, who, row, found):
     for number, wanted in enumerate(row.wanted):
         piece = found[number] if number < len(found) else "nothing"
         if piece != wanted:
-            checks.check(False, "%s, %s, piece %d\n  wanted %s\n  found  %s", row.name, who, number + 1, wanted[:SHOWN], piece[:SHOWN])
+            checks.check(
+                False, "%s, %s, piece %d\n  wanted %s\n  found  %s", row.name, who, number + 1, wanted[:SHOWN], piece[:SHOWN]
+            )
             return
     checks.check(found == row.wanted, "%s, %s prints more: %s", row.name, who, found[len(row.wanted) :][:3])
 
@@ -43,7 +45,15 @@ def run_rows(checks, program, listed):
         return
     status, output, errors = run([program], "".join(row.input() + "\n" for row in listed))
     lines, who = output.splitlines(), os.path.basename(program)
-    checks.check(status == 0 and len(lines) == len(listed), "%s ends with %d after %d of %d rows: %s", who, status, len(lines), len(listed), errors)
+    checks.check(
+        status == 0 and len(lines) == len(listed),
+        "%s ends with %d after %d of %d rows: %s",
+        who,
+        status,
+        len(lines),
+        len(listed),
+        errors,
+    )
     for row, line in zip(listed, lines):
         compare(checks, who, row, rows.pieces(line))
 

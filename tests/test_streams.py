@@ -2,11 +2,11 @@
 
     python3 tests/test_streams.py [COUCHD]
 
-An input of two requests fails behind each of its bytes: `couchd once` must have answered those that came whole, `couchd dump` have
-them in its history, and both end with status 1. The output fails behind each of its bytes too, and answers are written a byte at a
-time; where it fails once, the run ends and says so. Responses to requests that come together are one write, of 16 kB at most, and none
-waits for more input. What must be written is the reference's. `couchd serve` fails to write the response to a write behind its tenth byte: the entry
-is there on the next connection. It needs a C compiler.
+An input of two requests fails behind each of its bytes: `couchd once` must have answered those that came whole, `couchd dump`
+have them in its history, and both end with status 1. The output fails behind each of its bytes too, and answers are written a
+byte at a time; where it fails once, the run ends and says so. Responses to requests that come together are one write, of 16 kB at
+most, and none waits for more input. What must be written is the reference's. `couchd serve` fails to write the response to a
+write behind its tenth byte: the entry is there on the next connection. It needs a C compiler.
 """
 import hashlib
 import resource
@@ -32,8 +32,6 @@ GET = request("GET", "/db/a")
 INPUTS = [PUT, PUT + PUT, PUT + GET]
 HELD = 16384  # bytes of responses that are held back, the most
 
-CHECKS = Checks()
-
 
 def failing_input(data):
     """A socket that these bytes come from, and then a failure: its other end was closed with a byte unread."""
@@ -51,13 +49,15 @@ def run_on_failing_input(program, word, data):
     return ran.returncode, ran.stdout
 
 
-def reads_that_fail(program):
+def reads_that_fail(checks, program):
     data = PUT + PUT
     for length in range(len(data)):
         begun = data[:length]
         for word, wanted in ("once", once.run(begun)[0]), ("dump", dump_of(begun)):
             found = run_on_failing_input(program, word, begun)
-            CHECKS.check(found == (FAILED, wanted), "%s of %d bytes and a failure: %r in place of %r", word, length, found, wanted)
+            checks.check(
+                found == (FAILED, wanted), "%s of %d bytes and a failure: %r in place of %r", word, length, found, wanted
+            )
 
 
 def run_with_room(program, data, room):
@@ -65,20 +65,27 @@ def run_with_room(program, data, room):
     with tempfile.TemporaryFile() as output:
         # a write past the limit is a failure, since Python ignores the signal, and so does the program
         ran = subprocess.run(
-            [program, "once"], input=data, stdout=output, stderr=subprocess.PIPE, timeout=SECONDS, restore_signals=False,
+            [program, "once"],
+            input=data,
+            stdout=output,
+            stderr=subprocess.PIPE,
+            timeout=SECONDS,
+            restore_signals=False,
             preexec_fn=lambda: resource.setrlimit(resource.RLIMIT_FSIZE, (room, room)),
         )
         output.seek(0)
         return ran.returncode, output.read(), ran.stderr
 
 
-def writes_that_fail(program):
+def writes_that_fail(checks, program):
     for data in INPUTS:
         wanted = once.run(data)[0]
         for room in range(len(wanted) + 1):
             found = run_with_room(program, data, room)
             status, said = (SERVED, b"") if room == len(wanted) else (FAILED, UNWRITTEN)
-            CHECKS.check(found == (status, wanted[:room], said), "%r, of whose output %d bytes can be written: %r", data, room, found)
+            checks.check(
+                found == (status, wanted[:room], said), "%r, of whose output %d bytes can be written: %r", data, room, found
+            )
 
 
 def written_pieces(command, data, env):
@@ -93,33 +100,38 @@ def written_pieces(command, data, env):
         return process.wait(SECONDS), pieces
 
 
-def writes_together(program):
+def writes_together(checks, program):
     """The responses to requests that come together are one write."""
     for data in INPUTS:
         wanted = once.run(data)[0]
         found = written_pieces([program, "once"], data, None)
-        CHECKS.check(found == (SERVED, [wanted]), "%r is answered in the pieces %r", data, found)
+        checks.check(found == (SERVED, [wanted]), "%r is answered in the pieces %r", data, found)
 
 
-def writes_of_much(program):
+def writes_of_much(checks, program):
     """More responses than are held back."""
     data = PUT + GET * 400
     status, pieces = written_pieces([program, "once"], data, None)
     wanted = once.run(data)[0]
-    CHECKS.check((status, b"".join(pieces)) == (SERVED, wanted), "%d bytes of responses are written as %d others", len(wanted), sum(map(len, pieces)))
+    checks.check(
+        (status, b"".join(pieces)) == (SERVED, wanted),
+        "%d bytes of responses are written as %d others",
+        len(wanted),
+        sum(map(len, pieces)),
+    )
     lengths = [len(piece) for piece in pieces]
-    CHECKS.check(max(lengths) <= HELD < len(wanted), "%d bytes of responses are written in pieces of %s", len(wanted), lengths)
+    checks.check(max(lengths) <= HELD < len(wanted), "%d bytes of responses are written in pieces of %s", len(wanted), lengths)
 
 
-def write_that_fails_once(program):
+def write_that_fails_once(checks, program):
     """A write that fails before more is read ends the run, though what it was to write can be written at the end."""
     with shims.environment("once") as env:
         found = run([program, "once"], PUT + GET, env)
     wanted = FAILED, once.run(PUT + GET)[0], UNWRITTEN.decode()
-    CHECKS.check(found == wanted, "a first write that failed, and a second that did not: %r", found)
+    checks.check(found == wanted, "a first write that failed, and a second that did not: %r", found)
 
 
-def writes_in_time(program):
+def writes_in_time(checks, program):
     """A response comes before more is sent."""
     near, far = socket.socketpair()
     far.settimeout(SECONDS)
@@ -129,43 +141,46 @@ def writes_in_time(program):
             process.stdin.write(data)
             process.stdin.flush()
             status, _ = responses.next_response()
-            CHECKS.check(status == wanted, "%r is answered %d", data, status)
+            checks.check(status == wanted, "%r is answered %d", data, status)
 
 
-def writes_of_a_byte(program):
+def writes_of_a_byte(checks, program):
     with shims.environment("pieces") as env:
         for data in INPUTS:
             for word, wanted in ("once", once.run(data)[0]), ("dump", dump_of(data)):
                 status, written = written_pieces([program, word], data, env)
                 found = status, b"".join(written)
-                CHECKS.check(found == (SERVED, wanted), "%s, a byte at a time: %r in place of %r", word, found, wanted)
-                CHECKS.check(all(len(piece) == 1 for piece in written), "%s: pieces of more than a byte", word)
+                checks.check(found == (SERVED, wanted), "%s, a byte at a time: %r in place of %r", word, found, wanted)
+                checks.check(all(len(piece) == 1 for piece in written), "%s: pieces of more than a byte", word)
 
 
-def entry_of_a_cut_response(program):
+def entry_of_a_cut_response(checks, program):
     with shims.environment("cut") as env, Server(program, "--workers", "1", env=env) as server:
         writer = Connection(server.port)
         writer.socket.sendall(PUT)
         while writer.more():
             pass
-        CHECKS.check(writer.rest == b"HTTP/1.1 2", "of the response to a write comes %r", writer.rest)
+        checks.check(writer.rest == b"HTTP/1.1 2", "of the response to a write comes %r", writer.rest)
         reader = Connection(server.port)
         found = reader.ask("GET", "/db/a")
         wanted = 200, {"_id": "a", "_rev": "1-" + hashlib.md5(b"0,,{}").hexdigest()}
-        CHECKS.check((found, reader.place) == (wanted, 1), "behind a response that was cut there is %r at place %d", found, reader.place)
+        checks.check(
+            (found, reader.place) == (wanted, 1), "behind a response that was cut there is %r at place %d", found, reader.place
+        )
 
 
 def main():
+    checks = Checks()
     program = arguments(__doc__, "couchd").parse_args().couchd
-    reads_that_fail(program)
-    writes_that_fail(program)
-    writes_together(program)
-    writes_of_much(program)
-    write_that_fails_once(program)
-    writes_in_time(program)
-    writes_of_a_byte(program)
-    entry_of_a_cut_response(program)
-    return CHECKS.report()
+    reads_that_fail(checks, program)
+    writes_that_fail(checks, program)
+    writes_together(checks, program)
+    writes_of_much(checks, program)
+    write_that_fails_once(checks, program)
+    writes_in_time(checks, program)
+    writes_of_a_byte(checks, program)
+    entry_of_a_cut_response(checks, program)
+    return checks.report()
 
 
 if __name__ == "__main__":

@@ -128,8 +128,14 @@ def check(checks, program, task):
     same = len(os.path.commonprefix([written, wanted]))
     shown = slice(max(same - 200, 0), same + 200)
     checks.check(
-        written == wanted and ended == "status 0", "%s, %s: %s; byte %d differs\n  wanted  %r\n  written %r",
-        name, way, ended, same, wanted[shown], written[shown],
+        written == wanted and ended == "status 0",
+        "%s, %s: %s; byte %d differs\n  wanted  %r\n  written %r",
+        name,
+        way,
+        ended,
+        same,
+        wanted[shown],
+        written[shown],
     )
 
 

@@ -3,10 +3,10 @@
     python3 tests/test_trees.py [--seed N] [--trees N] [COUCHD]
 
 Half of the trees have long histories, wide conflicts, and paths that meet, reach further back or contradict what is known, under
-small limits of revisions; the others have branches about as deep as the limit, whose leaves are edited in turn while the limit falls and
-rises and leaves are purged. A tree is one document, and a run of the program has many. Each is written by merges and edits, some of
-them sent again, and read with all leaves, paths, conflicts and what is known of the winner's path. The same seed makes the same
-requests. The last line counts trees.
+small limits of revisions; the others have branches about as deep as the limit, whose leaves are edited in turn while the limit
+falls and rises and leaves are purged. A tree is one document, and a run of the program has many. Each is written by merges and
+edits, some of them sent again, and read with all leaves, paths, conflicts and what is known of the winner's path. The same seed
+makes the same requests. The last line counts trees.
 """
 import random
 import sys

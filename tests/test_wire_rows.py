@@ -16,8 +16,6 @@ from lib.programs import TESTS, builds, missing, run
 from reference.history import Unreadable, read_entry
 from reference.json_profile import text
 
-CHECKS = Checks()
-
 
 def rows():
     """Each row, and what must be printed of it."""
@@ -65,30 +63,33 @@ def said_by_reference(row):
     return None
 
 
-def check_rows(program, pairs):
+def check_rows(checks, program, pairs):
     """What the program prints of each row must be what is wanted."""
     status, output, _ = run([program], "".join(row + "\n" for row, _ in pairs))
     for row, wanted in pairs:
         found, output = output[: len(wanted) + 1], output[len(wanted) + 1 :]
         if found != wanted + "\n":
-            CHECKS.check(False, "%s\n  wanted  %r\n  printed %r", row[:2000], wanted[:2000], (found + output)[: len(wanted) + 200])
+            checks.check(
+                False, "%s\n  wanted  %r\n  printed %r", row[:2000], wanted[:2000], (found + output)[: len(wanted) + 200]
+            )
             return
-        CHECKS.check(True, row)
-    CHECKS.check((status, output) == (0, ""), "status %d, and %r behind the last row", status, output[:200])
+        checks.check(True, row)
+    checks.check((status, output) == (0, ""), "status %d, and %r behind the last row", status, output[:200])
 
 
 def main():
+    checks = Checks()
     pairs = [*rows(), *unanswered()]
     for row, wanted in pairs:
         said = said_by_reference(row)
-        CHECKS.check(said in (None, wanted), "the reference says %r of %r", said, row)
+        checks.check(said in (None, wanted), "the reference says %r of %r", said, row)
     for program in sys.argv[1:2] or builds("test_wire"):
         why = missing(program)
         if why is None:
-            check_rows(program, pairs)
+            check_rows(checks, program, pairs)
         else:
-            CHECKS.check(False, "%s", why)
-    return CHECKS.report()
+            checks.check(False, "%s", why)
+    return checks.report()
 
 
 if __name__ == "__main__":

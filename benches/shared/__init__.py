@@ -1,6 +1,8 @@
 """What the benches share. It makes `lib` of the tests known, so it comes first among the imports.
 
     ratios    ratios that a bench measures, and the stored ones that they are compared with
+    figures   what the plots show, as it was measured
+    plots     draws these
     pipe      a run of `couchd once` that is timed over pipes
     machine   what processes have used
 """

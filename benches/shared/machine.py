@@ -22,8 +22,8 @@ def is_running(process):
 
 
 def thread_seconds(process):
-    """The processor time of the first thread of a process so far, to the nanosecond. It is read when the thread waits, since the system
-    adds a stretch of time at its end."""
+    """The processor time of the first thread of a process so far, to the nanosecond. It is read when the thread waits, since the
+    system adds a stretch of time at its end."""
     while is_running(process):
         pass
     return int(read(process, "schedstat").split()[0]) / 1e9

@@ -41,7 +41,8 @@ class Program:
         self.process.stdin.flush()
 
     def answer(self, requests, status):
-        """Processor seconds for these requests, which are sent without waiting for responses, or `OtherStatus` if one has another."""
+        """Processor seconds for these requests, which are sent without waiting for responses, or `OtherStatus` if one has
+        another."""
         data = b"".join(requests)
         used = machine.thread_seconds(self.process.pid)
         sender = threading.Thread(target=self.send, args=(data,))

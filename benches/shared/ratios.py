@@ -1,8 +1,8 @@
 """Ratios that a bench measures, compared with those that are stored in benches/baseline.json.
 
-A ratio says little about a machine and much about a program, so it can be compared from machine to machine. The file has for each bench its
-ratios by name: what was measured, and the bound that a run must keep, `at_most` or `at_least`. `--store` writes what was measured, with
-a bound of one and a half times as much, or of two thirds where more is better; a bound that is there stays.
+A ratio says little about a machine and much about a program, so it can be compared from machine to machine. The file has for each
+bench its ratios by name: what was measured, and the bound that a run must keep, `at_most` or `at_least`. `--store` writes what
+was measured, with a bound of one and a half times as much, or of two thirds where more is better; a bound that is there stays.
 """
 import json
 import os

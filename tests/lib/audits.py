@@ -21,7 +21,10 @@ class Audits:
     def base(self, data):
         return self.run(self.replay, "base", data)
 
+    def raised(self, data):
+        return self.run(self.replay, "base", data, "--raised")
+
     @staticmethod
-    def run(program, command, data):
-        status, written, _ = run([program, command], data, seconds=SECONDS)
+    def run(program, command, data, *options):
+        status, written, _ = run([program, command, *options], data, seconds=SECONDS)
         return written, status

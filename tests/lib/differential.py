@@ -12,7 +12,8 @@ MOST = 5  # failures after which it stops
 
 
 class Case(NamedTuple):
-    """An input: its name, the pieces that it may be made smaller by, and the parts of what must be written, each of which counts."""
+    """An input: its name, the pieces that it may be made smaller by, and the parts of what must be written, each of which
+    counts."""
 
     name: str
     pieces: list

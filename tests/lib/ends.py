@@ -74,6 +74,36 @@ class Scripted(Listener):
         return self.requests + ([self.rest] if self.rest else [])
 
 
+class Gathering(Scripted):
+    """An end that answers the requests of one connection in order, by a script, and each only when no more requests have come for
+    a while. It keeps their bytes, and for each answer the requests that had come without one."""
+
+    PAUSE = 0.03  # seconds without a byte
+
+    def __init__(self, *answers):
+        self.waiting = []
+        super().__init__(*answers)
+
+    def serve(self, client):
+        answered = 0
+        for answer in self.answers:
+            self.gather(client, answered)
+            self.waiting.append(self.requests[answered:])
+            answered += 1
+            client.socket.sendall(answer)
+        client.socket.settimeout(SECONDS)
+        client.more()  # the end, or one request too many
+
+    def gather(self, client, answered):
+        """Reads requests until one has no answer yet and nothing more comes."""
+        while True:
+            client.socket.settimeout(SECONDS if len(self.requests) == answered else self.PAUSE)
+            try:
+                self.requests.append(b"\r\n\r\n".join(client.next_message()))
+            except TimeoutError:
+                return
+
+
 class Proxy(Listener):
     """Passes the exchanges of one connection on to a server. `change(request, response)` gives what is answered, or nothing
     where the connection is cut; it is asked before the server gets the request too, with no response."""

@@ -21,7 +21,8 @@ class Refuser:
         self.env = env
 
     def environment(self, **orders):
-        """The environment of a run, with what the shim is to do: REFUSE the request of this number, or all from it to LAST; COUNT."""
+        """The environment of a run, with what the shim is to do: REFUSE the request of this number, or all from it to LAST;
+        COUNT."""
         return {**self.env, **{name: str(number) for name, number in orders.items()}}
 
     def run(self, command, data=b"", **orders):

@@ -1,9 +1,9 @@
 """Rows of statements, run by `test_store` with each request for memory refused in turn, or counted.
 
-Three edits of a machine, event by event: with a request of an event refused, the event is out of memory, and happens when it comes
-again, so that all is printed that is printed with ample memory. Every query of a small version: it has its answer, or is out of
-memory. The end of a compaction of many documents of which one was edited since: it asks for no more blocks than a few changes of
-shared maps.
+Three edits of a machine, event by event: with a request of an event refused, the event is out of memory, and happens when it
+comes again, so that all is printed that is printed with ample memory. Every query of a small version: it has its answer, or is
+out of memory. The end of a compaction of many documents of which one was edited since: it asks for no more blocks than a few
+changes of shared maps.
 """
 import os
 import re
@@ -99,7 +99,9 @@ def queries():
         for at, statement in enumerate(one.statements):
             if statement.startswith("?"):
                 written = [number for number in range(at) if not one.statements[number].startswith("?")]
-                yield rows.Row(statement, one.kind, [one.statements[it] for it in [*written, at]], [one.wanted[it] for it in [*written, at]])
+                yield rows.Row(
+                    statement, one.kind, [one.statements[it] for it in [*written, at]], [one.wanted[it] for it in [*written, at]]
+                )
 
 
 def check_queries(refuser, check):

@@ -3,7 +3,6 @@ import json
 import re
 from urllib.parse import quote
 
-from .checks import Checks
 from .ends import replicate
 from .server import Connection, Server
 
@@ -12,20 +11,18 @@ A, B, C = [digit * 32 for digit in "abc"]  # hashes of revisions
 # what is reported of a replication that is done
 DONE = re.compile(r"documents read (\d+), written (\d+): done\n")
 
-CHECKS = Checks()
-check = CHECKS.check
-
 
 class End(Server):
-    """A running server, and one connection to it."""
+    """A running server, one connection to it, and what counts the checks of it."""
 
-    def __init__(self, program):
+    def __init__(self, checks, program):
         super().__init__(program, "--workers", "3")
+        self.check = checks.check
         self.connection = Connection(self.port)
 
-    def stop(self):
+    def stop(self, *by):
         self.connection.close()
-        super().stop()
+        super().stop(*by)
 
     def ask(self, method, target, body=None):
         """The status and the value of the response to a request."""
@@ -61,16 +58,16 @@ def document(id, *path):
 def conflict(server, id="d"):
     """Two leaves over one parent."""
     one, other = document(id, "2-" + B, "1-" + A), document(id, "2-" + C, "1-" + A)
-    check(server.ask("POST", "/db/_bulk_docs", {"docs": [one, other], "new_edits": False}) == (201, []), "no conflict is made")
+    server.check(
+        server.ask("POST", "/db/_bulk_docs", {"docs": [one, other], "new_edits": False}) == (201, []), "no conflict is made"
+    )
 
 
 def has_conflict(server, id="d"):
     leaves, winner = server.leaves(id)
-    wanted = [
-        {"ok": {"_id": id, "_rev": "2-" + hash, "_revisions": {"ids": [hash, A], "start": 2}}} for hash in (B, C)
-    ]
-    check(leaves == sorted(json.dumps(leaf, sort_keys=True) for leaf in wanted), "leaves %r", leaves)
-    check(winner == "2-" + C, "the winner is %r", winner)
+    wanted = [{"ok": {"_id": id, "_rev": "2-" + hash, "_revisions": {"ids": [hash, A], "start": 2}}} for hash in (B, C)]
+    server.check(leaves == sorted(json.dumps(leaf, sort_keys=True) for leaf in wanted), "leaves %r", leaves)
+    server.check(winner == "2-" + C, "the winner is %r", winner)
 
 
 def checkpoint(server, id):
@@ -80,13 +77,13 @@ def checkpoint(server, id):
 
 
 def checkpoints_are(source, target, id, of_source, of_target):
-    check(checkpoint(source, id) == of_source, "the source's checkpoint is %r", checkpoint(source, id))
-    check(checkpoint(target, id) == of_target, "the target's checkpoint is %r", checkpoint(target, id))
+    source.check(checkpoint(source, id) == of_source, "the source's checkpoint is %r", checkpoint(source, id))
+    target.check(checkpoint(target, id) == of_target, "the target's checkpoint is %r", checkpoint(target, id))
 
 
-def ran_as(ran, status, text):
-    check(ran[:2] == (status, text), "status %d, %r in place of %d, %r", ran.status, ran.output, status, text)
-    check(ran.errors == "", "standard error %r", ran.errors)
+def ran_as(checks, ran, status, text):
+    checks.check(ran[:2] == (status, text), "status %d, %r in place of %d, %r", ran.status, ran.output, status, text)
+    checks.check(ran.errors == "", "standard error %r", ran.errors)
 
 
 def as_list(ids):
@@ -96,19 +93,19 @@ def as_list(ids):
 
 def put(server, *ids):
     for id in ids:
-        check(server.ask("PUT", "/db/" + quote(id, safe=""), {})[0] == 201, "%s isn't made", id)
+        server.check(server.ask("PUT", "/db/" + quote(id, safe=""), {})[0] == 201, "%s isn't made", id)
 
 
 def has_documents(server, *ids):
     _, listed = server.ask("GET", "/db/_all_docs")
     found = [row["id"] for row in listed["rows"]]
-    check(found == sorted(ids, key=str.encode), "the documents %r in place of %r", found, ids)
+    server.check(found == sorted(ids, key=str.encode), "the documents %r in place of %r", found, ids)
 
 
-def counts(ran):
+def counts(checks, ran):
     """How many documents a run that is done read and wrote."""
     done = DONE.fullmatch(ran[1]) if ran[0] == 0 else None
-    check(done is not None, "a replication ends with %r", ran)
+    checks.check(done is not None, "a replication ends with %r", ran)
     return [int(count) for count in done.groups()] if done else [0, 0]
 
 
@@ -121,16 +118,16 @@ def edit(server, dice, ids):
     kind = dice.random()
     if kind < 0.15 and parent is not None:
         status, value = server.ask("DELETE", "/db/%s?rev=%s" % (id, parent))
-        check(status == 200, "%d, %r for a deletion", status, value)
+        server.check(status == 200, "%d, %r for a deletion", status, value)
     elif kind < 0.35:
         rev = "%d-%032x" % (dice.randrange(1, 4), dice.getrandbits(128))
         document = {"_id": id, "_rev": rev, "n": dice.random().hex()}
         status, value = server.ask("POST", "/db/_bulk_docs", {"docs": [document], "new_edits": False})
-        check((status, value) == (201, []), "%d, %r for a merge", status, value)
+        server.check((status, value) == (201, []), "%d, %r for a merge", status, value)
     else:
         target = "/db/%s" % id + ("?rev=" + parent if parent else "")
         status, value = server.ask("PUT", target, {"n": dice.random().hex()})
-        check(status == 201, "%d, %r for a PUT", status, value)
+        server.check(status == 201, "%d, %r for a PUT", status, value)
 
 
 def settle(program, one, other, seed):
@@ -139,8 +136,8 @@ def settle(program, one, other, seed):
         there = replicate(program, one.port, other.port, "there")
         back = replicate(program, other.port, one.port, "back")
         if (there[0], back[0]) != (0, 0):
-            check(False, "a replication ends with %r, %r", there, back)
+            one.check(False, "a replication ends with %r, %r", there, back)
             return
         if there[1] == back[1] == reported(0, 0, "done"):
             return
-    check(False, "replications of seed %d don't come to an end", seed)
+    one.check(False, "replications of seed %d don't come to an end", seed)

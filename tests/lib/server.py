@@ -1,32 +1,82 @@
 """A running `couchd serve`, and connections to it."""
 import json
+import select
+import signal
 import socket
 import subprocess
+import sys
+import tempfile
+import time
 
 from .messages import Messages
 from .programs import SECONDS
 from .requests import request
 
+IGNORE_FULL = ["env", "--ignore-signal=XFSZ"]  # a write past the size that a file may have is refused, as on a full disk
+
+
+def bounded(limits):
+    """What runs a program whose resources are bounded: names of options of prlimit, with what each allows."""
+    return [*IGNORE_FULL, "prlimit", *("--%s=%d" % it for it in limits.items())] if limits else []
+
 
 class Server:
-    """A running `couchd serve`, on a port that was free."""
+    """A running `couchd serve`, on a port that was free, or over a folder `data`. The port is None where it ended in place of
+    listening, or didn't listen in time. What it writes on standard error is kept, and printed where an exception ends its use."""
 
-    def __init__(self, program, *options, env=None, errors=None):
+    def __init__(self, program, *options, data=None, env=None, limits=None, seconds=SECONDS):
+        folder = [] if data is None else ["--data", data]
+        self.errors = tempfile.TemporaryFile()
         self.process = subprocess.Popen(
-            [program, "serve", "--port", "0", *options], stdin=subprocess.DEVNULL, stdout=subprocess.PIPE, stderr=errors, env=env
+            [*bounded(limits), program, "serve", "--port", "0", *folder, *options],
+            stdin=subprocess.DEVNULL,
+            stdout=subprocess.PIPE,
+            stderr=self.errors,
+            env=env,
         )
-        self.line = self.process.stdout.readline().decode()  # which names the port
-        self.port = int(self.line.rsplit(":", 1)[1])
+        self.line, self.port = "", None  # the line names the port
+        self.listens(seconds)
 
     def __enter__(self):
         return self
 
-    def __exit__(self, *_):
+    def __exit__(self, fault, *_):
         self.stop()
+        if fault is not None:
+            print(self.reported(), end="", file=sys.stderr)
 
-    def stop(self):
-        self.process.kill()
-        self.process.wait()
+    def listens(self, seconds=SECONDS):
+        """Whether it listens, in so many seconds. It may be asked again while it doesn't."""
+        ready, _, _ = select.select([self.process.stdout], [], [], seconds)
+        self.line = self.process.stdout.readline().decode() if ready else ""
+        self.port = int(self.line.rsplit(":", 1)[1]) if self.line else None
+        return self.port is not None
+
+    def stop(self, by=signal.SIGKILL):
+        self.process.send_signal(by)
+        self.process.wait(SECONDS)
+
+    def status(self):
+        """The status of one that ends by itself."""
+        return self.process.wait(SECONDS)
+
+    def reported_bytes(self):
+        """What it wrote on standard error so far."""
+        self.errors.seek(0)
+        return self.errors.read()
+
+    def reported(self):
+        return self.reported_bytes().decode()
+
+    def first_report(self, seconds):
+        """What it wrote on standard error when there was a line of it, when it ended, or after so many seconds."""
+        end = time.monotonic() + seconds
+        while "\n" not in self.reported() and self.process.poll() is None and time.monotonic() < end:
+            time.sleep(0.02)
+        return self.reported()
+
+    def connect(self):
+        return Connection(self.port)
 
 
 class Exchange(Messages):

@@ -1,7 +1,7 @@
 """python3 tests/reference < requests > responses
 
-With a word it does what a command of the programs does: `once` (that is the default) and `dump` read requests, `check` and `base`
-the dump of a history.
+With a word it does what a command of the programs does: `once` (that is the default) and `dump` read requests, `check`, `base`
+and `raised`, which is `base --raised`, the dump of a history.
 """
 import os
 import sys
@@ -16,7 +16,13 @@ def check(data):
     return said.encode() + b"\n", status
 
 
-COMMANDS = {"once": once.run, "dump": lambda data: (history.dump_of(data), 0), "check": check, "base": history.next_base}
+COMMANDS = {
+    "once": once.run,
+    "dump": lambda data: (history.dump_of(data), 0),
+    "check": check,
+    "base": history.next_base,
+    "raised": lambda data: history.next_base(data, True),
+}
 
 out, status = COMMANDS[(sys.argv[1:] or ["once"])[0]](sys.stdin.buffer.read())
 sys.stdout.buffer.write(out)

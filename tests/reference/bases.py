@@ -1,7 +1,7 @@
 """What a history begins from: nothing that is named, or a named base, which is a database that no session has called yet.
 
-The first line of a dump is its text. It is read only where it is exactly that text of a database that can be: each condition has a
-refusal of its own here, although the program says of all of them that the line is unreadable.
+The first line of a dump is its text. It is read only where it is exactly that text of a database that can be: each condition has
+a refusal of its own here, although the program says of all of them that the line is unreadable.
 """
 import copy
 
@@ -14,6 +14,7 @@ from .trees import Revision, leaves
 
 NOT_NAMED = {"couch_history": 1}
 LARGEST = 4611686018427387904  # that the update number and the purge number of a base may be
+RAISE = 16777216  # by so much the update number goes up where one may have been shown that is lost
 MEMBERS = {"docs", "limit", "locals", "purge_seq", "purged_limit", "purges", "update_seq"}
 
 # why a first line is none, in the order in which it is looked at
@@ -93,6 +94,15 @@ def successor(database):
     return copy.deepcopy(database)
 
 
+def raised(database):
+    """What the next history begins from where its numbers are raised."""
+    found = successor(database)
+    found.update_seq += RAISE
+    if found.update_seq > LARGEST:
+        raise NoSuccessor()
+    return found
+
+
 def is_same(one, other):
     """All that a base has is equal."""
     return vars(one) == vars(other)
@@ -109,7 +119,9 @@ def first_line(base):
 
 def base_value(database):
     return {
-        "docs": [{"id": id, "revs": revs_value(database.docs[id].tree), "seq": database.docs[id].seq} for id in sorted(database.docs)],
+        "docs": [
+            {"id": id, "revs": revs_value(database.docs[id].tree), "seq": database.docs[id].seq} for id in sorted(database.docs)
+        ],
         "limit": database.revs_limit,
         "locals": [{"body": local.body.members, "id": id, "k": local.number} for id, local in sorted(database.locals.items())],
         "purge_seq": database.purge_seq,

@@ -9,16 +9,23 @@ In a text `␠` is a space, `␉` a tab, `␊` a line feed, and `␀` what is no
     cut N         without its last bytes
     check         what `replay check` says
     base          what `replay base` says: `same` for the first line of the dump, `next` for the one of the next base
+    raised        what `replay base --raised` says
     reason        why the first line is none, which no program reports
 """
 from .bases import WrongBase, read_first_line
 from .history import cut, next_base, verdict
 
 EMPTY = {
-    "docs": "[]", "limit": "1000", "locals": "[]", "purge_seq": "0", "purged_limit": "1000", "purges": "[]", "update_seq": "0",
+    "docs": "[]",
+    "limit": "1000",
+    "locals": "[]",
+    "purge_seq": "0",
+    "purged_limit": "1000",
+    "purges": "[]",
+    "update_seq": "0",
 }
 SIGNS = {"␠": b" ", "␉": b"\t", "␊": b"\n", "␀": b"\xff"}
-ASKED = ["check", "base", "reason"]
+ASKED = ["check", "base", "raised", "reason"]
 
 # the exit status of what is said, by its first word
 STATUS = {"legal": 0, "same": 0, "next": 0, "wrong": 2, "unreadable": 3, "no": 6}
@@ -96,7 +103,7 @@ def said(dump, asked):
     data = dump.data()
     if asked == "reason":
         return reason(data)
-    text, status = verdict(data) if asked == "check" else next_base(data)
+    text, status = verdict(data) if asked == "check" else next_base(data, asked == "raised")
     found = text if asked == "check" else shown(dump, text)
     assert status == STATUS.get(found.split(" ")[0]), (found, status)
     return found

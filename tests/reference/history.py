@@ -1,8 +1,9 @@
-"""A second reading of dumps: the text of a history, whether a text is the dump of a legal one, and what the next one begins from."""
+"""A second reading of dumps: the text of a history, whether a text is the dump of a legal one, and what the next one begins
+from."""
 import copy
 
 from . import revisions
-from .bases import NoSuccessor, first_line, read_first_line, successor
+from .bases import NoSuccessor, first_line, raised, read_first_line, successor
 from .database import BAD_HISTORY, CONFLICT, DELETED, GENERATION, MISSING, Database, Edit, Merge, Refused, Session
 from .forms import LAST_COUNTER, Unreadable, is_body, is_id, is_limit, is_object, is_rev, within
 from .json_profile import Body, JsonFault, read, text
@@ -158,7 +159,7 @@ def read_entry(data):
     command, reply, seat = value["command"], value["reply"], value["seat"]
     check_command(command)
     expect(is_reply(command, reply))
-    expect(isinstance(seat, list) and len(seat) == 2 and within(seat[0], 0, SESSIONS - 1) and within(seat[1], 1, 2 ** 63 - 1))
+    expect(isinstance(seat, list) and len(seat) == 2 and within(seat[0], 0, SESSIONS - 1) and within(seat[1], 1, 2**63 - 1))
     return command, reply, seat
 
 
@@ -171,7 +172,9 @@ def is_path(value):
 
 
 def is_revs_by_id(value):
-    return isinstance(value, dict) and all(is_id(id) and isinstance(revs, list) and all(map(is_rev, revs)) for id, revs in value.items())
+    return isinstance(value, dict) and all(
+        is_id(id) and isinstance(revs, list) and all(map(is_rev, revs)) for id, revs in value.items()
+    )
 
 
 def is_write(item, new_edits):
@@ -211,7 +214,7 @@ def is_reply(command, reply):
         return within(reply, 0, LAST_COUNTER) or (isinstance(reply, str) and reply in OF_LOCALS)
     if "purge" in command:
         of_kind = is_object(reply, {"purge_seq", "purged"})
-        return of_kind and within(reply["purge_seq"], 0, 2 ** 63 - 1) and is_revs_by_id(reply["purged"])
+        return of_kind and within(reply["purge_seq"], 0, 2**63 - 1) and is_revs_by_id(reply["purged"])
     return reply is True
 
 
@@ -231,13 +234,14 @@ def verdict(data):
     return judged(data)[:2]
 
 
-def next_base(data):
-    """The bytes that are written for the history after the one that these bytes are the dump of, and the exit status."""
+def next_base(data, is_raised=False):
+    """The bytes that are written for the history after the one that these bytes are the dump of, raised or not, and the exit
+    status."""
     said, status, last = judged(data)
     if last is None:
         return said.encode() + b"\n", status
     try:
-        return first_line(successor(last)), 0
+        return first_line(raised(last) if is_raised else successor(last)), 0
     except NoSuccessor:
         return b"no successor\n", 6
 

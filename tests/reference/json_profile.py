@@ -4,7 +4,7 @@ import re
 MAX_NESTING = 72  # of a request's body
 MAX_BODY_NESTING = 64  # of what a document holds
 MAX_READ_NESTING = 127  # what is deeper is no JSON to the reader
-I64 = range(-(2 ** 63), 2 ** 63)
+I64 = range(-(2**63), 2**63)
 
 
 class JsonFault(Exception):

@@ -72,8 +72,7 @@ def open_revs(database, id, asked, options):
     else:
         listed = asked
     return [
-        {"ok": document(id, tree, rev, options)} if has_body(tree, rev) else {"missing": revisions.text(rev)}
-        for rev in listed
+        {"ok": document(id, tree, rev, options)} if has_body(tree, rev) else {"missing": revisions.text(rev)} for rev in listed
     ]
 
 

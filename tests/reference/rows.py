@@ -1,7 +1,7 @@
 """The rows of `tests/rows`: what is done, and what comes of it.
 
-A row is a block of lines: its kind, and then statements, each with what must come of it behind `->`, pieces with `;` between. A name of
-a revision means its text, and `(TEXT)*N` for the text N times, `#` in it for the number from 0, in as many digits.
+A row is a block of lines: its kind, and then statements, each with what must come of it behind `->`, pieces with `;` between. A
+name of a revision means its text, and `(TEXT)*N` for the text N times, `#` in it for the number from 0, in as many digits.
 """
 import re
 from dataclasses import dataclass

@@ -127,4 +127,3 @@ def read_target(request):
     if method not in methods:
         raise method_not_allowed(methods)
     return name, method, read_id(segment) if segment else None, Parameters(query)
-

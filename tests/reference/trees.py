@@ -57,8 +57,7 @@ def stem(tree, limit):
     """The revisions that are fewer than `limit` parent steps above some leaf."""
     kept = {rev for leaf in leaves(tree) for rev in path_of(tree, leaf)[:limit]}
     return {
-        rev: Revision(tree[rev].parent if tree[rev].parent in kept else None, tree[rev].deleted, tree[rev].body)
-        for rev in kept
+        rev: Revision(tree[rev].parent if tree[rev].parent in kept else None, tree[rev].deleted, tree[rev].body) for rev in kept
     }
 
 

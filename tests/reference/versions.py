@@ -64,7 +64,9 @@ def reply_to(database, words):
         return local_reply(database, *words)
     if name == "purge":
         removed = database.purge(asked(words))
-        return " ".join(["purge %d" % database.purge_seq, *("[%s]" % " ".join([id, *names(revs)]) for id, revs in removed.items())])
+        return " ".join(
+            ["purge %d" % database.purge_seq, *("[%s]" % " ".join([id, *names(revs)]) for id, revs in removed.items())]
+        )
     if name == "set_limit":
         database.revs_limit = int(words[0])
         return "done"
@@ -205,7 +207,9 @@ def opened_text(database, id, revs, *words):
 
 
 def differences_text(database, *words):
-    return "".join("[%s]" % " ".join(difference_text(id, found)) for id, found in queries.revs_diff(database, asked(words)).items())
+    return "".join(
+        "[%s]" % " ".join(difference_text(id, found)) for id, found in queries.revs_diff(database, asked(words)).items()
+    )
 
 
 def difference_text(id, found):

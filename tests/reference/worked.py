@@ -91,7 +91,9 @@ def compactions():
     yield "one of two is left", copy.slice(1) == 1
     purge(database, "x")
     put(database, "y", A1, {"n": 1})
-    yield "a purge and an edit are caught up with", (copy.slice(1), copy.catch_up(database, 64)) == (0, 0) and finished(copy, database)
+    yield "a purge and an edit are caught up with", (copy.slice(1), copy.catch_up(database, 64)) == (0, 0) and finished(
+        copy, database
+    )
     yield "what they leave", list(database.docs) == ["y"] and database.docs["y"].seq == 3
 
     database = filled("x", "y")
@@ -100,7 +102,9 @@ def compactions():
     purge(database, "x")
     put(database, "x")
     put(database, "y", A1, {"n": 1})
-    yield "a document put again is caught up with", (copy.slice(1), copy.catch_up(database, 64)) == (0, 0) and finished(copy, database)
+    yield "a document put again is caught up with", (copy.slice(1), copy.catch_up(database, 64)) == (0, 0) and finished(
+        copy, database
+    )
     yield "what it leaves", (database.docs["x"].seq, database.docs["y"].seq) == (3, 4)
 
     for count, wanted in [(1001, Overrun), (1000, 0)]:
@@ -121,7 +125,9 @@ def cuts():
     session.set_purged_infos_limit(1)
     purge(session, "x", "y")
     yield "a limit and a purge are an entry each", session.place == 4 and database.purge_seq == 2
-    yield "a limit of 1 and two purges overrun", outcome(copy.catch_up, database, 64) == Overrun and outcome(copy.finish, database, 64) == Overrun
+    yield "a limit of 1 and two purges overrun", outcome(copy.catch_up, database, 64) == Overrun and outcome(
+        copy.finish, database, 64
+    ) == Overrun
     session.set_purged_infos_limit(1000)
     yield "and a higher limit doesn't help", outcome(copy.catch_up, database, 64) == Overrun
 
@@ -142,7 +148,9 @@ def cuts():
     purge(database, "x", "y")
     yield "one of two purges is caught up with", copy.catch_up(database, 1) == 1
     database.set_purged_infos_limit(1)
-    yield "what was caught up with may be cut", outcome(copy.finish, database, 0) == Behind and outcome(copy.catch_up, database, 1) == 0 and finished(copy, database)
+    yield "what was caught up with may be cut", outcome(copy.finish, database, 0) == Behind and outcome(
+        copy.catch_up, database, 1
+    ) == 0 and finished(copy, database)
 
 
 def asked(connection, method, target, body=None):
@@ -158,7 +166,9 @@ def replicate(source, target, ids):
     """A replication of some documents to an empty target: where it went on from, and what was missing there."""
     since, missing = 0, []
     while True:
-        _, page = asked(source, "POST", "/db/_changes?style=all_docs&filter=_doc_ids&since=%d&limit=100" % since, {"doc_ids": ids})
+        _, page = asked(
+            source, "POST", "/db/_changes?style=all_docs&filter=_doc_ids&since=%d&limit=100" % since, {"doc_ids": ids}
+        )
         if not page["results"]:
             return since, missing
         revs = {row["id"]: [change["rev"] for change in row["changes"]] for row in page["results"]}
@@ -182,7 +192,10 @@ def replication():
     wanted = {"offset": 0, "rows": [{"id": "b", "key": "b", "value": {"rev": A1}}], "total_rows": 1}
     yield "the target has it alone", asked(target, "GET", "/db/_all_docs") == (200, wanted)
     for name, end in [("source", source), ("target", target)]:
-        yield "the checkpoint of the " + name, asked(end, "GET", "/db/_local/r") == (200, {"_id": "_local/r", "_rev": "0-1", "last_seq": 3})
+        yield "the checkpoint of the " + name, asked(end, "GET", "/db/_local/r") == (
+            200,
+            {"_id": "_local/r", "_rev": "0-1", "last_seq": 3},
+        )
 
 
 LIMIT = b'{"couch_history":1}\n{"command":{"purged_limit":%s},"reply":true,"seat":[0,1]}\n'
@@ -193,7 +206,20 @@ def limit_dumps():
     one = LIMIT % b"1"
     for value in [b"1", b"4294967295"]:
         yield LIMIT % value, "legal 1", 0
-    for value in [b"0", b"4294967296", b"-1", b"1.5", b"01", b" 1", b"true", b"null", b'"1"', b"[1]", b'1,"x":1', b'1,"purged_limit":1']:
+    for value in [
+        b"0",
+        b"4294967296",
+        b"-1",
+        b"1.5",
+        b"01",
+        b" 1",
+        b"true",
+        b"null",
+        b'"1"',
+        b"[1]",
+        b'1,"x":1',
+        b'1,"purged_limit":1',
+    ]:
         yield LIMIT % value, "unreadable line 2", 3
     for old, new in [
         (b'{"purged', b'{"limit":1,"purged'),
@@ -211,7 +237,9 @@ def limit_dumps():
 
 def dumps():
     """The dump of the first request of the log's limit, and what is said of others."""
-    yield "the dump of a limit", history.dump_of(b"PUT /db/_purged_infos_limit HTTP/1.1\r\nContent-Length: 1\r\n\r\n1") == LIMIT % b"1"
+    yield "the dump of a limit", history.dump_of(
+        b"PUT /db/_purged_infos_limit HTTP/1.1\r\nContent-Length: 1\r\n\r\n1"
+    ) == LIMIT % b"1"
     for dump, text, status in limit_dumps():
         yield "%s of %r" % (text, dump), history.verdict(dump) == (text, status)
 

@@ -20,10 +20,10 @@ FIRST = (
     b'{"base":{"docs":[{"id":"a","revs":[{"body":{},"deleted":false,"rev":"%s"}],"seq":1}],"limit":1000,"locals":[],'
     b'"purge_seq":0,"purged_limit":1000,"purges":[],"update_seq":1},"couch_history":2}\n' % A1.encode()
 )
-ENTRY = b'{"command":{"bulk":[{"body":{},"deleted":false,"id":"b"}],"new_edits":true},"reply":["%s"],"seat":[0,1]}\n' % A1.encode()
-EMPTY = (
-    b'{"base":{"docs":[],"limit":1000,"locals":[],"purge_seq":0,"purged_limit":1000,"purges":[],"update_seq":0},"couch_history":2}\n'
+ENTRY = (
+    b'{"command":{"bulk":[{"body":{},"deleted":false,"id":"b"}],"new_edits":true},"reply":["%s"],"seat":[0,1]}\n' % A1.encode()
 )
+EMPTY = b'{"base":{"docs":[],"limit":1000,"locals":[],"purge_seq":0,"purged_limit":1000,"purges":[],"update_seq":0},"couch_history":2}\n'
 NOT_NAMED = b'{"couch_history":1}\n'
 
 
@@ -48,7 +48,11 @@ def second_history():
     yield "the base from the dump", next_base(closed) == (FIRST, 0)
     yield "the base after no entry", next_base(FIRST) == (FIRST, 0)
     world = results_after(["edit a - {}", "edit a - {}", "|", "look 0", "read 0 info"])
-    yield "a world from there", world[2:] == ["0 at 0 live 1 deleted 0 update 1 purge 0", "place 0", "update 1 purge 0 [a 1 %s]" % A1]
+    yield "a world from there", world[2:] == [
+        "0 at 0 live 1 deleted 0 update 1 purge 0",
+        "place 0",
+        "update 1 purge 0 [a 1 %s]" % A1,
+    ]
 
 
 def places():
@@ -77,7 +81,9 @@ def full():
     """A database with something of everything, made by commands."""
     database = filled(*"abxyz")
     put(database, "a", A1, {"n": 1})
-    database.bulk([Merge("d", [(2, digit * 32), (1, 32 * "a")], deleted, Body({})) for digit, deleted in [("b", False), ("c", True)]])
+    database.bulk(
+        [Merge("d", [(2, digit * 32), (1, 32 * "a")], deleted, Body({})) for digit, deleted in [("b", False), ("c", True)]]
+    )
     database.compact()
     put(database, "b", A1, {"n": 2})
     database.revs_limit = 1
@@ -100,7 +106,12 @@ def goes_on():
     yield "a local document", base.locals["r"].number == 4294967295
     yield "its counter is the last", refused(base.write_local, "r", 4294967295, Body({})) == "generation"
     yield "documents", sorted(base.docs) == ["a", "b", "d", "s"] and len(base.docs["s"].tree) == 1
-    for next_step in [lambda: put(base, "e"), lambda: base.compact(), lambda: purge(base, "e"), lambda: base.set_purged_infos_limit(1)]:
+    for next_step in [
+        lambda: put(base, "e"),
+        lambda: base.compact(),
+        lambda: purge(base, "e"),
+        lambda: base.set_purged_infos_limit(1),
+    ]:
         next_step()
         yield "the one that ended stays", is_same(database, like)
     yield "and the next went on", (base.update_seq, base.purge_seq, len(base.purged_infos)) == (11, 4, 1)
@@ -136,9 +147,13 @@ def large(update_seq, purge_seq):
 
 def largest():
     """Both numbers may be 4611686018427387904, and no more."""
-    yield "the most", LARGEST == 4611686018427387904 == 2 ** 62
+    yield "the most", LARGEST == 4611686018427387904 == 2**62
     yield "both at the most", is_same(successor(large(LARGEST, LARGEST)), large(LARGEST, LARGEST))
-    for name, update_seq, purge_seq in [("update", LARGEST + 1, 1), ("purge", 1, LARGEST + 1), ("each", LARGEST + 1, LARGEST + 1)]:
+    for name, update_seq, purge_seq in [
+        ("update", LARGEST + 1, 1),
+        ("purge", 1, LARGEST + 1),
+        ("each", LARGEST + 1, LARGEST + 1),
+    ]:
         database = large(update_seq, purge_seq)
         found = outcome_of(successor, database)
         yield "the %s number past the most" % name, isinstance(found, NoSuccessor)
@@ -162,7 +177,13 @@ def following():
     one, other = closed.opened().written(0, put_of("b")), closed.opened().written(5, put_of("c"))
     third = one.opened().written(0, put_of("d"))
     versions = [first, closed, closed.opened(), one, other, one.opened(), third]
-    for name, earlier in [("the first", first), ("the closed one", closed), ("the base", closed.opened()), ("the second", one), ("the third", third)]:
+    for name, earlier in [
+        ("the first", first),
+        ("the closed one", closed),
+        ("the base", closed.opened()),
+        ("the second", one),
+        ("the third", third),
+    ]:
         yield "the third follows " + name, follows(third, earlier, versions)
     yield "the third does not follow the other", not follows(third, other, versions)
     yield "the other follows the closed one", follows(other, closed, versions)
@@ -230,7 +251,9 @@ def digests():
     base = successor(filled("a"))
     put(base, "a", A1, {"n": 1})
     a2 = "2-" + hashlib.md5(b'0,%s,{"n":1}' % A1.encode()).hexdigest()
-    yield "an edit over the base", revisions.parse(a2) in base.docs["a"].tree and base.docs["a"].tree[revisions.parse(a2)].parent == revisions.parse(A1)
+    yield "an edit over the base", revisions.parse(a2) in base.docs["a"].tree and base.docs["a"].tree[
+        revisions.parse(a2)
+    ].parent == revisions.parse(A1)
 
 
 CHECKS = [second_history, places, named, goes_on, texts, largest, following, feeds, copies, replication, digests]

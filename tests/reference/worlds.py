@@ -120,8 +120,8 @@ def results(statements):
 
 
 def results_after(statements):
-    """What each command in front of the bar is answered, and then what the events behind it do in a world that begins from the successor
-    of what the commands leave."""
+    """What each command in front of the bar is answered, and then what the events behind it do in a world that begins from the
+    successor of what the commands leave."""
     history, bar = History(), statements.index("|")
     replies = [history.write(0, statement.split()) for statement in statements[:bar]]
     return replies + results_of(World(successor(history.database)), statements[bar + 1 :])

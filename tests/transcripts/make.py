@@ -13,7 +13,18 @@ sys.path.insert(0, os.path.dirname(HERE))
 
 from lib.checks import report  # noqa: E402
 from lib.programs import ROOT  # noqa: E402
-from transcripts.cases import conflicts, edges, examples, filters, first_path, head_alone, purge_log, purges, queries, wire_edges  # noqa: E402
+from transcripts.cases import (
+    conflicts,
+    edges,
+    examples,
+    filters,
+    first_path,
+    head_alone,
+    purge_log,
+    purges,
+    queries,
+    wire_edges,
+)  # noqa: E402
 from reference import history, once  # noqa: E402
 
 # the cases of each folder

@@ -1,7 +1,8 @@
 -- The first line of a later epoch is a text of the profile, of one line.
-use Rattle.std.proofs.Common.{◌≡◌, ◌≤◌, true, Option, Some, None, Ok, All, refl, arith, IfSome}
+use Rattle.std.proofs.Common.{◌≡◌, ◌≤◌, true, Option, Some, None, All, refl, arith, IfSome}
 use Rattle.std.specs.Prelude.{codes}
 use Rattle.serde_json.specs.Data.{Data, unsigned, number, boolean, string, object, Members, no_members, member}
+use Rattle.serde_json.specs.Written.{compact_text}
 use Rattle.model.specs.Body.{Body, IsBody}
 use Rattle.model.specs.Command.{Id, IsId}
 use Rattle.model.specs.Database.{Database, Record, IsLocal}
@@ -11,9 +12,9 @@ use Rattle.model.specs.Profile.{is_before}
 use Rattle.model.specs.PurgeLog.{PurgeInfo}
 use Rattle.model.specs.Revision.{Rev, IsRev}
 use Rattle.model.specs.Tree.{Revision}
-use Rattle.document_json.specs.Text.{json_of}
 use Rattle.document_json.specs.Written.{rev_data, revs_data}
 use Rattle.document_json.proofs.JsonTexts.{json_of-value}
+use Rattle.base_json.specs.Pieces.{IsPiece}
 use Rattle.base_json.specs.Base.{IsKnown, IsLogged, base_data, base_text, begin_data, kept_local_data, log_members, parent_first, purge_info_data, record_data, revision_data, tree_data}
 use Rattle.history_json.specs.Commands.{body_first}
 use Rattle.history_json.specs.Lines.{is_one_line}
@@ -111,8 +112,21 @@ sound_begin d h =
 pub base-one : (d : Database) → AreListed d → is_one_line (base_text d) ≡ true
 base-one d h = one-compact_text (begin_data d) (sound_begin d h).whole
 
--- and is the JSON of its value
-pub base-json : (d : Database) → AreListed d → json_of (base_text d) ≡ Ok (begin_data d)
-base-json d h =
-    let s = sound_begin d h in
-    json_of-value (begin_data d) (base_text d) (sound_text 70 (begin_data d) (omega arith) s) s.whole (omega (arith, s.nests))
+-- ---- pieces
+
+piece : (d : Data) (ms : Members) → d ≡ object ms → Sound 67 d → IsPiece d
+piece d ms is s = record {
+  members = ms;
+  is = is;
+  whole = s.whole;
+  reads = json_of-value d (compact_text d) (sound_text 67 d (omega arith) s) s.whole (omega (arith, s.nests));
+}
+
+pub piece_record : (document : Id × Record) → IsListed document → IsPiece (record_data document)
+piece_record document h = piece (record_data document) _ refl (sound_record document h)
+
+pub piece_kept : (document : Id × Local) → IsLocal document.0 document.1 → IsPiece (kept_local_data document)
+piece_kept document h = piece (kept_local_data document) _ refl (sound_kept document h)
+
+pub piece_purge_info : (p : PurgeInfo) → IsLogged p → IsPiece (purge_info_data p)
+piece_purge_info p h = piece (purge_info_data p) _ refl (sound_purge_info p h)

@@ -11,8 +11,9 @@ use Rattle.model.proofs.MapLaws.{Contains-entries}
 use Rattle.model.specs.PurgeLog.{AreNumbered, IsPurgeInfo, PurgeInfo}
 use Rattle.model.specs.Revision.{IsRev, revs}
 use Rattle.model.specs.Tree.{Tree, IsTree, IsInRange}
-use Rattle.base_json.specs.Base.{IsKnown, IsLogged, IsStored}
-use Rattle.base_json.proofs.BaseInProfile.{AreListed, IsListed}
+use Rattle.base_json.specs.Base.{IsKnown, IsLogged, IsStored, kept_local_data, purge_info_data, record_data}
+use Rattle.base_json.specs.Pieces.{IsPiece}
+use Rattle.base_json.proofs.BaseInProfile.{AreListed, IsListed, piece_kept, piece_purge_info, piece_record}
 
 pub all_at : {X : Type 0} (O : Order) (P : O.key × X → Type 0) (m : Map O X) → ((k : O.key) (x : X) → get m k ≡ Some x → P (k, x)) → All P (entries m)
 all_at O P m each = All-weaker (Contains (entries m)) P (λ e c. each e.0 e.1 ((Contains-entries O m e.0 e.1).0 c)) (entries m) (All-contains_itself (entries m))
@@ -38,13 +39,22 @@ stored_all d h = all_at names IsStored d.docs (λ id r at.
     let high = h.updates in
     record { stored = h.database.docs id r at; seq = omega (arith, low, high) })
 
-listed_all : (documents : List (Id × Record)) → All IsStored documents → All IsListed documents
-listed_all documents h = All-weaker IsStored IsListed (λ e s.
+listed_one : (e : Id × Record) → IsStored e → IsListed e
+listed_one e s =
     let low = s.seq in
-    record { id = s.stored.identity; known = known_all e.1.tree s.stored.tree s.stored.in_range; seq = omega (arith, low) }) documents h
+    record { id = s.stored.identity; known = known_all e.1.tree s.stored.tree s.stored.in_range; seq = omega (arith, low) }
+
+pub documents_pieces : (d : Database) → IsBase d → All (λ e. IsStored e × IsPiece (record_data e)) (entries d.docs)
+documents_pieces d h = All-weaker IsStored (λ e. IsStored e × IsPiece (record_data e)) (λ e s. (s, piece_record e (listed_one e s))) (entries d.docs) (stored_all d h)
+
+listed_all : (documents : List (Id × Record)) → All IsStored documents → All IsListed documents
+listed_all documents h = All-weaker IsStored IsListed listed_one documents h
 
 pub locals_all : (d : Database) → IsBase d → All (λ l. IsLocal l.0 l.1) (entries d.locals)
 locals_all d h = all_at names (λ l. IsLocal l.0 l.1) d.locals h.database.locals
+
+pub locals_pieces : (d : Database) → IsBase d → All (λ l. IsLocal l.0 l.1 × IsPiece (kept_local_data l)) (entries d.locals)
+locals_pieces d h = All-weaker (λ l. IsLocal l.0 l.1) (λ l. IsLocal l.0 l.1 × IsPiece (kept_local_data l)) (λ l s. (s, piece_kept l s)) (entries d.locals) (locals_all d h)
 
 logged_all : (n : ℕ) (infos : List PurgeInfo) → n ≤ largest_base → AreNumbered n infos → All IsPurgeInfo infos → All IsLogged infos
 logged_all n [] le numbered h = All-nil IsLogged
@@ -55,6 +65,9 @@ logged_all n (p ∷ ps) le numbered h =
 
 pub purges_all : (d : Database) → IsBase d → All IsLogged d.purges.infos
 purges_all d h = logged_all d.purges.purge_seq d.purges.infos h.purges h.database.log.numbered h.database.log.infos
+
+pub purges_pieces : (d : Database) → IsBase d → All (λ p. IsLogged p × IsPiece (purge_info_data p)) d.purges.infos
+purges_pieces d h = All-weaker IsLogged (λ p. IsLogged p × IsPiece (purge_info_data p)) (λ p s. (s, piece_purge_info p s)) d.purges.infos (purges_all d h)
 
 pub listed_base : (d : Database) → IsBase d → AreListed d
 listed_base d h =

@@ -36,6 +36,35 @@ pub log_text : (log : PurgeLog) (update_seq : ℕ)
 unfolding serde_json_on_literals
 log_text log update_seq = refl
 
+begun_text : (docs limit locals log end : List ℕ)
+    → codes "{\"base\":" ++ ((codes "{\"docs\":" ++ (docs ++ (codes ",\"limit\":" ++ (limit ++ (codes ",\"locals\":" ++ (locals ++ log)))))) ++ end)
+    ≡ codes "{\"base\":{\"docs\":" ++ (docs ++ (codes ",\"limit\":" ++ (limit ++ (codes ",\"locals\":" ++ (locals ++ (log ++ end))))))
+begun_text docs limit locals log end = simp append_assoc refl
+
+-- the line, one piece behind another
+pub base_pieces : (d : Database)
+    → base_text d ≡ codes "{\"base\":{\"docs\":" ++ (compact_text (array (items_of (map record_data (entries d.docs)))) ++ (codes ",\"limit\":" ++ (decimal d.revs_limit
+    ++ (codes ",\"locals\":" ++ (compact_text (array (items_of (map kept_local_data (entries d.locals)))) ++ (members_text true (log_members d.purges d.update_seq)
+    ++ codes ",\"couch_history\":2}"))))))
+base_pieces d =
+    sym (base_line_text d) ∙ ap (λ t. codes "{\"base\":" ++ (t ++ codes ",\"couch_history\":2}")) (sym (database_text d))
+    ∙ begun_text (compact_text (array (items_of (map record_data (entries d.docs))))) (decimal d.revs_limit) (compact_text (array (items_of (map kept_local_data (entries d.locals)))))
+    (members_text true (log_members d.purges d.update_seq)) (codes ",\"couch_history\":2}")
+
+logged_text : (seq limit purges updates end : List ℕ)
+    → (codes ",\"purge_seq\":" ++ (seq ++ (codes ",\"purged_limit\":" ++ (limit ++ (codes ",\"purges\":" ++ (purges ++ (codes ",\"update_seq\":" ++ (updates ++ codes "}")))))))) ++ end
+    ≡ codes ",\"purge_seq\":" ++ (seq ++ (codes ",\"purged_limit\":" ++ (limit ++ (codes ",\"purges\":" ++ (purges ++ (codes ",\"update_seq\":" ++ (updates ++ (codes "}" ++ end))))))))
+logged_text seq limit purges updates end = simp append_assoc refl
+
+-- the log, one piece behind another, and what is behind it
+pub log_pieces : (log : PurgeLog) (update_seq : ℕ) (end : List ℕ)
+    → members_text true (log_members log update_seq) ++ end
+    ≡ codes ",\"purge_seq\":" ++ (decimal log.purge_seq ++ (codes ",\"purged_limit\":" ++ (decimal log.limit ++ (codes ",\"purges\":"
+    ++ (compact_text (array (items_of (map purge_info_data log.infos))) ++ (codes ",\"update_seq\":" ++ (decimal update_seq ++ (codes "}" ++ end))))))))
+log_pieces log update_seq end =
+    ap (λ t. t ++ end) (sym (log_text log update_seq))
+    ∙ logged_text (decimal log.purge_seq) (decimal log.limit) (compact_text (array (items_of (map purge_info_data log.infos)))) (decimal update_seq) end
+
 pub record_text : (id : Id) (r : Record)
     → codes "{\"id\":" ++ (compact_text (string id) ++ (codes ",\"revs\":" ++ (compact_text (tree_data r.tree) ++ (codes ",\"seq\":" ++ (decimal r.seq ++ codes "}")))))
     ≡ compact_text (record_data (id, r))

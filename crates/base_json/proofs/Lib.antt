@@ -1,4 +1,6 @@
 pub mod BaseInProfile
 pub mod BaseLists
 pub mod BaseTexts
+pub mod ListsLeft
 pub mod Mapped
+pub mod Scans

@@ -1,5 +1,5 @@
 -- The text of a base, which the first line of a later epoch's dump names.
-use Rattle.std.specs.Prelude.{◌≤◌, ℕ, List, map, Option, Some, None, IfSome, codes}
+use Rattle.std.specs.Prelude.{◌≡◌, ◌≤◌, ℕ, List, map, Option, Some, None, IfSome, codes}
 use Rattle.serde_json.specs.Data.{Data, unsigned, number, string, boolean, array, object, Members, no_members, member}
 use Rattle.serde_json.specs.View.{items_of}
 use Rattle.serde_json.specs.Written.{compact_text}
@@ -13,7 +13,9 @@ use Rattle.model.specs.PurgeLog.{PurgeInfo, PurgeLog, IsPurgeInfo}
 use Rattle.model.specs.Revision.{Rev, IsRev}
 use Rattle.model.specs.Tree.{Tree, Revision}
 use Rattle.document_json.specs.Written.{rev_data, revs_data}
+use Rattle.purge.specs.Log.{log_of}
 use Rattle.snapshots.specs.Parts.{AreParts}
+use Rattle.base_json.specs.declared.base.Log.{Log}
 use Rattle.snapshots.specs.declared.database.parts.DatabaseParts.{DatabaseParts}
 use Rattle.history_json.specs.Commands.{body_first}
 
@@ -93,13 +95,12 @@ pub record IsLogged (p : PurgeInfo) : Type 0 where
   pub purge : IsPurgeInfo p
   pub seq : p.seq ≤ largest_base
 
--- the four numbers of a base, when all else was taken out
-abbrev pub number_members : (revs_limit purge_seq purged_limit update_seq : ℕ) → Members
-number_members revs_limit purge_seq purged_limit update_seq =
-    member (codes "limit") (number (unsigned revs_limit)) (member (codes "purge_seq") (number (unsigned purge_seq))
-    (member (codes "purged_limit") (number (unsigned purged_limit)) (member (codes "update_seq") (number (unsigned update_seq)) no_members)))
-
 -- what was found are the parts of the database
 abbrev pub AreFound : Option DatabaseParts → Database → Type 0
 AreFound None d = ⊥
 AreFound (Some parts) d = AreParts parts d
+
+-- what was found are the purges and the numbers that the database ends with
+abbrev pub IsLogOf : Option Log → Database → Type 0
+IsLogOf None d = ⊥
+IsLogOf (Some log) d = (d.purges ≡ log_of log.purge_seq log.purges.items log.purged_limit) × (d.update_seq ≡ log.update_seq)

@@ -1,22 +1,19 @@
 //! The base of a later epoch, as the first line of its dump writes it.
-ghost use Rattle.std.specs.Prelude.{◌≡◌, ◌++◌, ◌≤◌, ℕ, true, Some, IfOk, OnOk, string_bytes};
-ghost use Rattle.serde_json.specs.Data.{number, unsigned};
-ghost use Rattle.serde_json.specs.Find.{get_member};
-ghost use Rattle.json_profile.specs.Objects.{without};
+ghost use Rattle.std.specs.Prelude.{◌≡◌, ◌++◌, ℕ, List, true, IfOk, OnOk, string_bytes};
 ghost use Rattle.serde_json.specs.Written.{compact_text, members_text};
-ghost use Rattle.model.specs.Command.{IsLimit};
 ghost use Rattle.model.specs.Database as model;
 ghost use Rattle.model.specs.History.{IsBase};
-ghost use Rattle.base_json.specs.Base.{AreFound, base_data, base_text, log_members, number_members};
+ghost use Rattle.base_json.specs.Base.{AreFound, IsLogOf, base_data, base_text, log_members};
 
 use crate::documents::put_documents;
+use crate::lists::read_list;
 use crate::locals::put_locals;
 use crate::purges::put_purges;
-use crate::values::{Numbers, read_parts, value_of};
-use history_json::{number_in, small_number_in};
-use json_profile::{Json, Object};
-use purge::PurgeLog;
-use snapshots::{Database, DatabaseParts};
+use crate::text::{after, read_number, read_small_number};
+use document_id::DocId;
+use local_docs::LocalDoc;
+use purge::{PurgeLog, Purged};
+use snapshots::{Database, DatabaseParts, Record};
 use std::alloc::{AllocError, Global};
 
 /// Writes the first line of a dump whose history begins from this base, without the line feed at its end.
@@ -66,79 +63,77 @@ fn put_log(
 }
 
 /// The parts of the base that a first line names, if the text may be one. Parts may be found of another text too, and they
-/// may be of no base: the line of what they make is to be written again and compared.
+/// may be of no base: the line of what they make is to be written again and compared. The text is read one item behind another.
 pub fn read_base(alloc: Global, text: &[u8]) -> Result<Option<DatabaseParts>, AllocError>
     ensures found { (base : model.Database) → IsBase base → text.now ≡ base_text base
         → IfOk result (λ found. AreFound found base) }
 {
-    let Some(line) = value_of(alloc, text)? else {
+    let Some(text) = after(text, "{\"base\":{\"docs\":") else {
         return Ok(None);
     };
-    let Some(mut members) = line.into_object() else {
+    let Some((documents, text)) = read_list::<(DocId, Record)>(alloc, text)? else {
         return Ok(None);
     };
-    let Some(base) = members.take("base") else {
+    let Some((revs_limit, text)) = read_small_number(text, ",\"limit\":") else {
         return Ok(None);
     };
-    read_database(alloc, base)
-}
-
-/// The parts of the base that a value is, if it may be one.
-fn read_database(alloc: Global, value: Json) -> Result<Option<DatabaseParts>, AllocError>
-    ensures { (base : model.Database) → IsBase base → value ≡ base_data base
-        → IfOk result (λ found. AreFound found base) }
-{
-    let Some(mut members) = value.into_object() else {
+    let Some(text) = after(text, ",\"locals\":") else {
         return Ok(None);
     };
-    let Some(documents) = members.take("docs") else {
+    let Some((locals, text)) = read_list::<(DocId, LocalDoc)>(alloc, text)? else {
         return Ok(None);
     };
-    let Some(locals) = members.take("locals") else {
+    let Some(log) = read_log(alloc, text)? else {
         return Ok(None);
     };
-    let Some(purges) = members.take("purges") else {
-        return Ok(None);
-    };
-    let Some(numbers) = take_numbers(members) else {
-        return Ok(None);
-    };
-    read_parts(alloc, documents, locals, purges, numbers)
-}
-
-/// The numbers that the members of a base have, if they are numbers.
-fn take_numbers(mut members: Object) -> Option<Numbers>
-    ensures { (revs_limit purge_seq purged_limit update_seq : ℕ) → IsLimit revs_limit → purge_seq ≤ 9223372036854775807
-        → IsLimit purged_limit → update_seq ≤ 9223372036854775807
-        → members ≡ number_members revs_limit purge_seq purged_limit update_seq
-        → result ≡ Some (record { revs_limit = revs_limit; purge_seq = purge_seq; purged_limit = purged_limit; update_seq = update_seq }) }
-{
-    let revs_limit = take_small_number(&mut members, "limit")?;
-    let purge_seq = take_number(&mut members, "purge_seq")?;
-    let purged_limit = take_small_number(&mut members, "purged_limit")?;
-    let update_seq = take_number(&mut members, "update_seq")?;
-    Some(Numbers {
+    Ok(Some(DatabaseParts {
+        documents,
+        locals,
+        purges: log.purges,
+        update_seq: log.update_seq,
+        purge_seq: log.purge_seq,
+        purged_limit: log.purged_limit,
         revs_limit,
+    }))
+}
+
+/// The log of purges, and the last update number.
+#[derive(Drop)]
+struct Log {
+    purges: Vec<(u64, Purged)>,
+    /// The last purge number that was given.
+    purge_seq: u64,
+    /// How many purges are kept.
+    purged_limit: u32,
+    /// The last update number that was given.
+    update_seq: u64,
+}
+
+/// The log that the end of a base begins with, if it may be one.
+fn read_log(alloc: Global, text: &[u8]) -> Result<Option<Log>, AllocError>
+    ensures { (base : model.Database) (rest : List ℕ) → IsBase base
+        → text.now ≡ members_text true (log_members base.purges base.update_seq) ++ rest
+        → IfOk result (λ found. IsLogOf found base) }
+{
+    let Some((purge_seq, text)) = read_number(text, ",\"purge_seq\":") else {
+        return Ok(None);
+    };
+    let Some((purged_limit, text)) = read_small_number(text, ",\"purged_limit\":") else {
+        return Ok(None);
+    };
+    let Some(text) = after(text, ",\"purges\":") else {
+        return Ok(None);
+    };
+    let Some((purges, text)) = read_list::<(u64, Purged)>(alloc, text)? else {
+        return Ok(None);
+    };
+    let Some((update_seq, _)) = read_number(text, ",\"update_seq\":") else {
+        return Ok(None);
+    };
+    Ok(Some(Log {
+        purges,
         purge_seq,
         purged_limit,
         update_seq,
-    })
-}
-
-/// Takes out a member that is a number.
-fn take_number(members: &mut Object, name: &str) -> Option<u64>
-    ensures found { (n : ℕ) → n ≤ 9223372036854775807 → get_member name.now members.old ≡ Some (number (unsigned n)) → result ≡ Some n }
-    ensures left { members.new ≡ without name.now members.old }
-{
-    let value = members.take(name)?;
-    number_in(&value)
-}
-
-/// Takes out a member that is a number of 32 bits.
-fn take_small_number(members: &mut Object, name: &str) -> Option<u32>
-    ensures found { (n : ℕ) → n ≤ 4294967295 → get_member name.now members.old ≡ Some (number (unsigned n)) → result ≡ Some n }
-    ensures left { members.new ≡ without name.now members.old }
-{
-    let value = members.take(name)?;
-    small_number_in(&value)
+    }))
 }

@@ -7,10 +7,12 @@ use Rattle.clap.specs.declared.error.kind.ErrorKind.{ErrorKind}
 use Rattle.clap.specs.declared.error.kind.ErrorKind.TheVariants.{DisplayVersion, OutOfMemory}
 use Rattle.command_line.specs.Couchd.{couchd, NamesNoRun}
 use Rattle.command_line.specs.Serve.{IsServingOf}
+use Rattle.command_line.specs.Repair.{IsRepairingOf}
 use Rattle.command_line.specs.Replicate.{IsReplicatingOf}
 use Rattle.command_line.specs.declared.serving.Serving.{Serving}
+use Rattle.command_line.specs.declared.repair.Repairing.{Repairing}
 use Rattle.command_line.specs.declared.replicate.Replicating.{Replicating}
-use Rattle.command_line.specs.declared.Run.TheVariants.{Once, Dump, Serve, Replicate}
+use Rattle.command_line.specs.declared.Run.TheVariants.{Once, Dump, Serve, Replicate, Repair}
 
 -- an error of no kind is that memory was refused
 pub of_memory : (kinds : Kinds) (e : Error) → HasKind kinds e → kinds ≡ [] → kind_of e ≡ OutOfMemory
@@ -61,6 +63,10 @@ no_run words given is none (Replicate replicating) (other, is_too, of) =
     let same = one_name (subcommand_of couchd words) (codes "serve") (codes "replicate") given is (ap (option_map (λ s. s.0)) is_too) in
     let heads : 115 ≡ 114 = ap (λ (t : Text). slice_index t 0) same in
     absurd (omega (arith, heads))
+no_run words given is none (Repair repairing) (other, is_too, of) =
+    let same = one_name (subcommand_of couchd words) (codes "serve") (codes "repair") given is (ap (option_map (λ s. s.0)) is_too) in
+    let heads : 115 ≡ 114 = ap (λ (t : Text). slice_index t 0) same in
+    absurd (omega (arith, heads))
 
 -- arguments of `replicate` that give no addresses or no id name no run
 pub no_replication : (words : List Text) (given : List Row) → subcommand_of couchd words ≡ Some (codes "replicate", given)
@@ -80,3 +86,30 @@ no_replication words given is none (Serve serving) (other, is_too, of) =
 no_replication words given is none (Replicate replicating) (other, is_too, of) =
     let same = one_value (subcommand_of couchd words) (codes "replicate") (codes "replicate") given other is is_too in
     none replicating (subst (λ (rows : List Row). IsReplicatingOf rows replicating) (sym same) of)
+no_replication words given is none (Repair repairing) (other, is_too, of) =
+    let same = one_name (subcommand_of couchd words) (codes "replicate") (codes "repair") given is (ap (option_map (λ s. s.0)) is_too) in
+    let fourth : 108 ≡ 97 = ap (λ (t : Text). slice_index t 3) same in
+    absurd (omega (arith, fourth))
+
+-- arguments of `repair` that give no folder name no run
+pub no_repair : (words : List Text) (given : List Row) → subcommand_of couchd words ≡ Some (codes "repair", given)
+    → ((repairing : Repairing) → IsRepairingOf given repairing → ⊥) → NamesNoRun words
+no_repair words given is none Once of =
+    let same = one_name (subcommand_of couchd words) (codes "repair") (codes "once") given is of in
+    let heads : 114 ≡ 111 = ap (λ (t : Text). slice_index t 0) same in
+    absurd (omega (arith, heads))
+no_repair words given is none Dump of =
+    let same = one_name (subcommand_of couchd words) (codes "repair") (codes "dump") given is of in
+    let heads : 114 ≡ 100 = ap (λ (t : Text). slice_index t 0) same in
+    absurd (omega (arith, heads))
+no_repair words given is none (Serve serving) (other, is_too, of) =
+    let same = one_name (subcommand_of couchd words) (codes "repair") (codes "serve") given is (ap (option_map (λ s. s.0)) is_too) in
+    let heads : 114 ≡ 115 = ap (λ (t : Text). slice_index t 0) same in
+    absurd (omega (arith, heads))
+no_repair words given is none (Replicate replicating) (other, is_too, of) =
+    let same = one_name (subcommand_of couchd words) (codes "repair") (codes "replicate") given is (ap (option_map (λ s. s.0)) is_too) in
+    let fourth : 97 ≡ 108 = ap (λ (t : Text). slice_index t 3) same in
+    absurd (omega (arith, fourth))
+no_repair words given is none (Repair repairing) (other, is_too, of) =
+    let same = one_value (subcommand_of couchd words) (codes "repair") (codes "repair") given other is is_too in
+    none repairing (subst (λ (rows : List Row). IsRepairingOf rows repairing) (sym same) of)

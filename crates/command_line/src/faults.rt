@@ -80,6 +80,9 @@ pub(crate) const OUT_OF_RANGE: &str = "a number is out of its range";
 /// What is said of an option of the journal where no folder was given.
 pub(crate) const NO_FOLDER: &str = "'--sync' and '--keep' are for a journal, and go with '--data'";
 
+/// What is said where no folder is given that is repaired.
+pub(crate) const NO_DATA: &str = "there is no folder to repair";
+
 /// What is said of a time of a sync that is none.
 pub(crate) const NO_SYNC: &str = "the journal is synced 'always', each 'second' or 'never'";
 

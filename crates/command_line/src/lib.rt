@@ -16,6 +16,7 @@ mod flags;
 mod journal;
 mod lines;
 mod numbers;
+mod repair;
 pub mod replay;
 mod replicate;
 mod serving;
@@ -28,6 +29,8 @@ pub use faults::ArgumentsFault;
 use faults::{GivenFault, NOT_TEXT, fault, refuse};
 pub use journal::{JournalOptions, SyncPolicy};
 use lines::{program, with_subcommand};
+pub use repair::Repairing;
+use repair::{repair, repairing_of};
 pub use replicate::Replicating;
 use replicate::{replicate, replicating_of};
 pub use serving::Serving;
@@ -47,6 +50,8 @@ pub enum Run {
     Serve(Serving),
     /// Brings the changes of one database to another.
     Replicate(Replicating),
+    /// Makes a server start from a folder whose newest file is damaged.
+    Repair(Repairing),
 }
 
 /// The command line as `clap` takes it.
@@ -60,6 +65,7 @@ fn couchd<'a>(alloc: Global) -> Result<Command<'a>, AllocError>
     let couchd = with_subcommand(couchd, dump(alloc))?;
     let couchd = with_subcommand(couchd, serve(alloc)?)?;
     let couchd = with_subcommand(couchd, replicate(alloc)?)?;
+    let couchd = with_subcommand(couchd, repair(alloc)?)?;
     Ok(couchd)
 }
 
@@ -126,6 +132,11 @@ pub fn read_arguments<S: AsStr>(alloc: Global, arguments: &[S]) -> Result<Run, A
         },
         "replicate" => match replicating_of(alloc, options) {
             Ok(replicating) => Ok(Run::Replicate(replicating)),
+            Err(GivenFault::Refused(reason)) => Err(refuse(alloc, couchd(alloc), reason)),
+            Err(GivenFault::Memory) => Err(ArgumentsFault::Memory),
+        },
+        "repair" => match repairing_of(alloc, options) {
+            Ok(repairing) => Ok(Run::Repair(repairing)),
             Err(GivenFault::Refused(reason)) => Err(refuse(alloc, couchd(alloc), reason)),
             Err(GivenFault::Memory) => Err(ArgumentsFault::Memory),
         },

@@ -5,10 +5,12 @@ ghost use Rattle.clap.specs.Words.{app_of, fault_of, new_app};
 ghost use Rattle.clap.specs.declared.error.kind.ErrorKind.TheVariants.{DisplayVersion};
 ghost use Rattle.clap.specs.declared.builder.command.Command.TheViews.{out-Command as fields_of};
 ghost use Rattle.command_line.specs.Faults.{asks_version};
-ghost use Rattle.command_line.specs.Replay.{replay, IsRunOf};
+ghost use Rattle.command_line.specs.Replay.{replay, base, IsRunOf};
 
 use crate::faults::{ArgumentsFault, NOT_TEXT, fault, refuse};
+use crate::flags::{flag, flag_of};
 use crate::lines::{program, with_subcommand};
+use crate::numbers::with_option;
 use clap::Command;
 use std::alloc::{AllocError, Global};
 use std::convert::AsStr;
@@ -19,7 +21,10 @@ pub enum Run {
     /// Tells whether standard input is the dump of a legal history.
     Check,
     /// Writes the first line of the next history's dump, if standard input is the dump of a legal one.
-    Base,
+    Base {
+        /// Whether its update number is raised, as after an end that may have lost numbers that were shown.
+        raised: bool,
+    },
 }
 
 /// The command line as `clap` takes it.
@@ -34,7 +39,7 @@ fn command<'a>(alloc: Global) -> Result<Command<'a>, AllocError>
         "An audit of the histories of a document store",
     );
     let replay = with_subcommand(replay, check(alloc))?;
-    let replay = with_subcommand(replay, base(alloc))?;
+    let replay = with_subcommand(replay, base(alloc)?)?;
     Ok(replay)
 }
 
@@ -47,13 +52,17 @@ fn check<'a>(alloc: Global) -> Command<'a>
     )
 }
 
-fn base<'a>(alloc: Global) -> Command<'a>
-    ensures app { app_of result ≡ new_app (codes "base") }
-    ensures local { (fields_of result).has_globals ≡ false }
+fn base<'a>(alloc: Global) -> Result<Command<'a>, AllocError>
+    ensures app { IfOk result (λ c. app_of c ≡ base) }
+    ensures local { IfOk result (λ c. (fields_of c).has_globals ≡ false) }
 {
-    Command::new(alloc, "base").about(
+    let raised = flag(alloc, "raised").help(
+        "Raises its update number by 16777216, as a start does after an end that may have lost numbers that were shown",
+    );
+    let base = Command::new(alloc, "base").about(
         "Writes the first line of the next history's dump, if standard input is the dump of a legal one",
-    )
+    );
+    with_option(base, raised)
 }
 
 /// Why arguments that are not all UTF-8 name no run: the text that `clap` has for them.
@@ -72,7 +81,7 @@ pub fn refuse_bytes(alloc: Global) -> ArgumentsFault
 /// [`ArgumentsFault::Version`] where they ask for the version, and [`ArgumentsFault::Memory`] where
 /// memory was refused.
 pub fn read_arguments<S: AsStr>(alloc: Global, arguments: &[S]) -> Result<Run, ArgumentsFault>
-    // The run has the name of the subcommand in the arguments.
+    // The run has the name of the subcommand in the arguments, and its option is there where they give it.
     ensures run { IfOk result (IsRunOf (map S.text arguments.now)) }
 
     // Arguments are refused exactly where `clap` finds a fault in them, but for memory.
@@ -90,9 +99,12 @@ pub fn read_arguments<S: AsStr>(alloc: Global, arguments: &[S]) -> Result<Run, A
         Ok(matches) => matches,
         Err(error) => return Err(fault(alloc, &error)),
     };
-    match matches.subcommand_name().unwrap() {
+    let (name, options) = matches.subcommand().unwrap();
+    match name {
         "check" => Ok(Run::Check),
-        "base" => Ok(Run::Base),
+        "base" => Ok(Run::Base {
+            raised: flag_of(options, "raised"),
+        }),
         _ => unreachable!(),
     }
 }

@@ -3,7 +3,7 @@ ghost use Rattle.std.specs.Prelude.{◌≡◌, ◌≤◌};
 
 use crate::serving::{Notices, address, say_port, terms};
 use command_line::{JournalOptions, Serving, SyncPolicy as Policy};
-use journal::{Begun, DiskFile, Folder, Journal, Started};
+use journal::{Begun, DiskFile, Dropped, Folder, Journal, StartFault, Started};
 use journal_front::{Epoch, Epochs, Notices as JournalNotices, Service, SyncPolicy, run_kept};
 use snapshots::Version;
 use std::io;
@@ -17,11 +17,15 @@ use std::time::{Clock, Duration};
 const WAKE_MILLISECONDS: u64 = 100;
 
 impl JournalNotices<DiskFile> for Notices<'_> {
-    fn failed(&self, file: &DiskFile) {
+    ghost use Rattle.std.specs.Prelude.{⊤};
+
+    ghost reported = { ⊤ };
+
+    fn failed(&self, journal: &Journal<DiskFile>) {
         let _printed = eprintln!(self.rt;
             "couchd: the journal failed, and writes are refused from now on"
         );
-        if let Some(error) = file.error() {
+        if let Some(error) = journal.file().error() {
             let _printed = eprintln!(self.rt; "couchd: {error}");
         }
     }
@@ -40,12 +44,20 @@ struct Files<'r> {
     folder: Folder,
     epoch: u64,
     keep: Option<u32>,
+    shows_kept: bool,
     port: u16,
 }
 
 impl Epochs<DiskFile> for Files<'_> {
+    ghost use Rattle.std.specs.Prelude.{⊤};
+
+    ghost reported = { ⊤ };
+
     fn succeed(&mut self, _full: &Journal<DiskFile>, last: &Version) -> Option<Epoch<DiskFile>> {
-        match self.folder.succeed(self.rt, self.epoch, last) {
+        match self
+            .folder
+            .succeed(self.rt, self.epoch, last, self.shows_kept)
+        {
             Ok(begun) => Some(self.begun(begun)),
             Err(fault) => {
                 let _printed = eprintln!(self.rt;
@@ -97,7 +109,11 @@ pub(crate) fn serve<A: AllocGlobal + Threads + Wait + Clock + Sync>(
     requires places { 1 ≤ serving.now.max_places }
 {
     let port = listener.local_addr()?.port();
-    let Some((folder, begun)) = begin(rt, port, options) else {
+    let Some(folder) = opened(rt, port, options) else {
+        return Ok(ExitCode::FAILURE);
+    };
+    let Some(begun) = begin(rt, &folder, options) else {
+        close(rt, folder);
         return Ok(ExitCode::FAILURE);
     };
     let mut files = Files {
@@ -105,9 +121,28 @@ pub(crate) fn serve<A: AllocGlobal + Threads + Wait + Clock + Sync>(
         folder,
         epoch: begun.epoch,
         keep: options.keep,
+        shows_kept: shows_kept(options),
         port,
     };
     let first = files.begun(begun);
+    let served = serve_from(rt, threads, listener, serving, options, first, &mut files);
+    close(rt, files.folder);
+    served
+}
+
+/// Serves from the epoch that begins, after the port was printed.
+fn serve_from<A: AllocGlobal + Threads + Wait + Clock + Sync>(
+    rt: &HostRuntime,
+    threads: &A,
+    listener: &TcpListener,
+    serving: &Serving,
+    options: &JournalOptions,
+    first: Epoch<DiskFile>,
+    files: &mut Files<'_>,
+) -> io::Result<ExitCode>
+    requires workers { (1 ≤ serving.now.workers) × (serving.now.workers ≤ 63) }
+    requires places { 1 ≤ serving.now.max_places }
+{
     if !say_port(rt, listener)? {
         return Ok(ExitCode::FAILURE);
     }
@@ -119,14 +154,14 @@ pub(crate) fn serve<A: AllocGlobal + Threads + Wait + Clock + Sync>(
         policy: policy_of(options.sync),
         notices: &Notices { rt },
     };
-    match run_kept(&service, first, &mut files, threads) {
+    match run_kept(&service, first, files, threads) {
         Some(journal) if !journal.is_broken() => Ok(ExitCode::SUCCESS),
         _ => Ok(ExitCode::FAILURE),
     }
 }
 
-/// Locks the folder, and begins the next epoch in it.
-fn begin(rt: &HostRuntime, port: u16, options: &JournalOptions) -> Option<(Folder, Begun)> {
+/// The folder, locked.
+fn opened(rt: &HostRuntime, port: u16, options: &JournalOptions) -> Option<Folder> {
     let path = options.folder.as_str();
     let folder = match Folder::open(rt, path, port) {
         Ok(folder) => folder,
@@ -140,27 +175,76 @@ fn begin(rt: &HostRuntime, port: u16, options: &JournalOptions) -> Option<(Folde
             "couchd: {path}: a server on port {left} ended without giving it up"
         );
     }
-    match folder.start(rt) {
+    Some(folder)
+}
+
+/// Gives the folder up.
+fn close(rt: &HostRuntime, folder: Folder) {
+    if let Err(fault) = folder.close(rt) {
+        let _printed = eprintln!(rt; "couchd: the folder is not given up: {fault}");
+    }
+}
+
+/// Begins the next epoch in the folder, and says what of the newest file is lost, if something is.
+fn begin(rt: &HostRuntime, folder: &Folder, options: &JournalOptions) -> Option<Begun> {
+    let path = options.folder.as_str();
+    match folder.start(rt, shows_kept(options)) {
         Ok(started) => {
-            say_cut(rt, path, &started);
+            say_lost(rt, path, &started);
             let Started { begun, .. } = started;
-            Some((folder, begun))
+            Some(begun)
         }
         Err(fault) => {
             let _printed = eprintln!(rt; "couchd: {path}: {fault}");
+            if let StartFault::Judged { .. } = fault {
+                let _printed = eprintln!(rt; "couchd: run couchd repair --data {path}");
+            }
             None
         }
     }
 }
 
-/// Says where the last line was cut, if it was.
-fn say_cut(rt: &HostRuntime, path: &str, started: &Started) {
-    if let Some(cut) = &started.cut {
+/// Whether sessions show only what is kept.
+fn shows_kept(options: &JournalOptions) -> bool {
+    matches!(options.sync, Policy::Always)
+}
+
+/// Says what of the file that was read is dropped or missing, and where update numbers go on above it.
+fn say_lost(rt: &HostRuntime, path: &str, started: &Started) {
+    let read = started.read.unwrap_or(0);
+    if let Some(dropped) = started.dropped {
+        say_dropped(rt, path, read, dropped);
+    }
+    if let Some(ahead) = started.ahead {
+        let _printed = eprintln!(rt; "couchd: {path}: the file of epoch {ahead} is missing");
+    }
+    if started.missing > 0 {
         let _printed = eprintln!(rt;
-            "couchd: {path}: the last line was cut: the entry at place {}, of which {} bytes are there, is dropped",
-            cut.place, cut.bytes
+            "couchd: {path}: {read:010}.dump lacks {} bytes that were synced",
+            started.missing
         );
     }
+    if started.raised {
+        let number = started.begun.version.database().documents().update_seq();
+        let _printed = eprintln!(rt;
+            "couchd: {path}: update numbers go on above {number}, since some that were shown may be lost"
+        );
+    }
+}
+
+/// Says what of the file that was read is dropped.
+fn say_dropped(rt: &HostRuntime, path: &str, read: u64, dropped: Dropped) {
+    let Dropped { place, bytes, torn } = dropped;
+    if torn {
+        let _printed = eprintln!(rt;
+            "couchd: {path}: {read:010}.dump is torn: {bytes} bytes behind the entry at place {place} were never synced, and are dropped"
+        );
+        return;
+    }
+    let next = place.saturating_add(1);
+    let _printed = eprintln!(rt;
+        "couchd: {path}: the last line was cut: the entry at place {next}, of which {bytes} bytes are there, is dropped"
+    );
 }
 
 /// Removes all but the newest files, where so many are to be kept.

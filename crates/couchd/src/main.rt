@@ -4,6 +4,7 @@
 mod held;
 mod journaled;
 mod patient;
+mod repair;
 mod replication;
 mod serving;
 
@@ -41,6 +42,7 @@ fn main(rt: HostRuntime) -> io::Result<ExitCode> {
             Ok(ended(&rt, &writer, status))
         }
         Ok(Run::Serve(serving)) => serving::serve(&rt, &rt, &serving),
+        Ok(Run::Repair(repairing)) => Ok(repair::repair(&rt, repairing.folder.as_str())),
         Ok(Run::Replicate(replicating)) => Ok(replication::replicate(&rt, &replicating)),
         Err(fault) => Ok(fault.tell(&rt, UNREADABLE_ARGUMENTS)),
     }

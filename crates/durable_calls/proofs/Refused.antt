@@ -1,9 +1,9 @@
 -- Writes that are refused since the journal failed before.
-use Rattle.std.proofs.Common.{◌≡◌, ◌⊎◌, ℕ, Bool, false, Ok, Err, inl, inr, refl, ap, sym, ◌∙◌, arith}
+use Rattle.std.proofs.Common.{◌≡◌, ℕ, false, Ok, Err, inl, inr, refl, ap, ◌∙◌, arith}
 use Rattle.std.specs.Prelude.{Result, ⊤}
 use Rattle.model.specs.Command.{Command}
 use Rattle.http_response.specs.declared.no_service.Unavailable.TheVariants as unavailable
-use Rattle.http_handlers.specs.Calls.{Learns, LeavesNone, LeavesUnsynced, Looks}
+use Rattle.http_handlers.specs.Calls.{Learns, LeavesNone, Looks}
 use Rattle.http_handlers.specs.Deeds.{Refreshed, Wrote}
 use Rattle.http_handlers.specs.Known.{Known}
 use Rattle.http_handlers.specs.declared.calls.CallFault.{CallFault}

@@ -1,5 +1,5 @@
 -- A wait, turn by turn.
-use Rattle.std.proofs.Common.{◌≡◌, ℕ, zero, suc, ◌+◌, ◌<◌, List, [], ◌∷◌, ◌++◌, length, Bool, true, false, Ok, Err, max, inl, inr, refl, ap, sym, ◌∙◌, subst, arith, length-append}
+use Rattle.std.proofs.Common.{◌≡◌, ℕ, zero, suc, ◌+◌, ◌<◌, List, [], ◌∷◌, ◌++◌, length, Bool, true, false, Ok, Err, max, inl, inr, refl, ap, sym, ◌∙◌, arith, length-append}
 use Rattle.std.specs.Prelude.{Result, nat_lt}
 use Rattle.std.specs.List.{FoldsTo}
 use Rattle.std.proofs.lemmas.Fn.{FoldsTo-push}
@@ -28,11 +28,11 @@ refused_before old here same (fault.Unavailable unavailable.Overrun) refused = r
 refused_before old here same (fault.Unavailable unavailable.Entry) kept = sym same ∙ kept
 refused_before old here same (fault.Unavailable unavailable.Journal) refused = refused
 
-module _ {S : Type 0} (goes : S → Deed → S → Type 0) (is_kept : ℕ → Type 0) (known : S → Known) (seq : ℕ) where
+module _ {S : Type 0} (goes : S → Deed → S → Type 0) (known : S → Known) (seq : ℕ) where
   -- so many turns in which nothing came, and what is known then
   pub record Passed (n : ℕ) (old here : S) : Type 0 where
     pub passed : List Deed
-    pub runs : FoldsTo (WaitsInVain goes is_kept seq) old passed here
+    pub runs : FoldsTo (WaitsInVain goes seq) old passed here
     pub count : length passed ≡ n
     pub looks : Looks (known old) (known here)
     pub kept : 0 < n → (known old).lost ≡ false
@@ -51,7 +51,7 @@ module _ {S : Type 0} (goes : S → Deed → S → Type 0) (is_kept : ℕ → Ty
   pub one_more : (n : ℕ) (old here new : S) → Passed n old here → goes here (Waited seq 1 (Ok false)) new → Learns (known here) (Waited seq 1 (Ok false)) (known new) → Passed (n + 1) old new
   one_more n old here new p made learns = record {
     passed = p.passed ++ Waited seq 1 (Ok false) ∷ [];
-    runs = FoldsTo-push (WaitsInVain goes is_kept seq) old p.passed here (Waited seq 1 (Ok false)) new p.runs (refl, made);
+    runs = FoldsTo-push (WaitsInVain goes seq) old p.passed here (Waited seq 1 (Ok false)) new p.runs (refl, made);
     count = omega (arith, p.count, length-append p.passed (Waited seq 1 (Ok false) ∷ []));
     looks = looks_then (known old) (known here) (known new) p.looks learns.0;
     kept = λ _. sym (same_lost (known old) (known here) p.looks) ∙ learns.1;
@@ -62,7 +62,7 @@ module _ {S : Type 0} (goes : S → Deed → S → Type 0) (is_kept : ℕ → Ty
   lost_stays : (n : ℕ) (old here new : S) → Passed n old here → (known old).lost ≡ true → ((known here).lost ≡ true → known new ≡ known here) → known new ≡ known old
   lost_stays zero old here new p lost stays = by_none p.passed p.runs p.count
     where
-      by_none : (passed : List Deed) → FoldsTo (WaitsInVain goes is_kept seq) old passed here → length passed ≡ 0 → known new ≡ known old
+      by_none : (passed : List Deed) → FoldsTo (WaitsInVain goes seq) old passed here → length passed ≡ 0 → known new ≡ known old
       by_none [] runs none = stays (same_lost (known old) (known here) p.looks ∙ lost) ∙ ap known (sym runs)
       by_none (d ∷ ds) runs some = absurd (omega (arith, some))
   lost_stays (suc n) old here new p lost stays = let not : (known old).lost ≡ false = p.kept (omega arith) in absurd (cc (lost, not))
@@ -80,12 +80,12 @@ module _ {S : Type 0} (goes : S → Deed → S → Type 0) (is_kept : ℕ → Ty
 
   -- the last turn has another answer
   pub last_turn : (n turns : ℕ) (old here new : S) (answer : Result Bool CallFault) → n < max turns 1 → Passed n old here → goes here (Waited seq 1 answer) new → (answer ≡ Ok false → ⊥)
-      → WaitsKept goes is_kept seq turns old answer new
+      → WaitsKept goes seq turns old answer new
   last_turn n turns old here new answer less p made other =
       record { passed = p.passed; here = here; runs = p.runs; ends = inr (inr (omega (arith, less, p.count), made, other)) }
 
   -- there were enough turns
-  pub in_vain : (turns : ℕ) (old here : S) → Passed (max turns 1) old here → WaitsKept goes is_kept seq turns old (Ok false) here × Learns (known old) (Waited seq turns (Ok false)) (known here)
+  pub in_vain : (turns : ℕ) (old here : S) → Passed (max turns 1) old here → WaitsKept goes seq turns old (Ok false) here × Learns (known old) (Waited seq turns (Ok false)) (known here)
   in_vain turns old here p =
       let some : 0 < max turns 1 = omega arith in (
         record { passed = p.passed; here = here; runs = p.runs; ends = inl (p.count, refl, refl) },
@@ -94,7 +94,7 @@ module _ {S : Type 0} (goes : S → Deed → S → Type 0) (is_kept : ℕ → Ty
 
   -- the epoch ends
   pub at_end : (n turns : ℕ) (old here : S) → 0 < n → Passed n old here
-      → WaitsKept goes is_kept seq turns old (Err (fault.Unavailable unavailable.Full)) here × Learns (known old) (Waited seq turns (Err (fault.Unavailable unavailable.Full))) (known here)
+      → WaitsKept goes seq turns old (Err (fault.Unavailable unavailable.Full)) here × Learns (known old) (Waited seq turns (Err (fault.Unavailable unavailable.Full))) (known here)
   at_end n turns old here some p =
       let kept = p.kept some in (
         record { passed = p.passed; here = here; runs = p.runs; ends = inr (inl (omega (arith, some, p.count), refl, refl)) },

@@ -1,12 +1,15 @@
-//! A session whose writes are answered when a journal keeps their entries.
-ghost use Rattle.std.specs.Prelude.{◌≡◌, ⊤, Ok, Err, Result, MatchResult};
+//! A session that answers only what a journal has.
+ghost use Rattle.std.specs.Prelude.{◌≡◌, ⊤, Ok, Err, Result, IfOk};
 ghost use Rattle.model.specs.Command as model;
 ghost use Rattle.http_handlers.specs.Calls.{Learns};
 ghost use Rattle.http_handlers.specs.Deeds as deed;
 ghost use Rattle.http_handlers.specs.declared.calls.CallFault as declared;
-ghost use Rattle.durable_calls.specs.Kept.{GoesKept, IsKeptAs, refused_by};
+ghost use Rattle.durable_calls.specs.Kept.{GoesKept, IsKeptAs, Shows, ShowsUnless, WaitsKept, refused_by};
+ghost use Rattle.durable_calls.specs.declared.kept_place.NotShown.TheVariants as not_shown;
 
-use crate::kept_place::{Keeping, KeptPlace};
+use crate::keeping::Keeping;
+use crate::kept_place::{KeptPlace, NotShown};
+use crate::passes::Passes;
 use commands::Command;
 use http_handlers::{CallFault, Calls, Viewer};
 use http_response::Unavailable;
@@ -14,25 +17,30 @@ use snapshots::Version;
 use std::marker::Model;
 use std::sync::Wait;
 
-/// A session whose entries a journal keeps. Contracts see the session, and whether it answers a write only when its
-/// entry is kept.
-pub struct Durable<'p, S, N: Keeping> {
+/// A session whose entries a journal keeps, and whose calls are answered when what they show is appended, and where that is
+/// awaited kept too. Contracts see the session, and whether it awaits what is kept.
+pub struct Durable<'p, S, N: Keeping, P, R> {
     session: S,
     place: &'p KeptPlace<N>,
+    passes: &'p P,
+    /// By this it waits, in calls too that are given no context.
+    rt: &'p R,
     awaits: bool,
 }
 
-impl<'p, S: Drop, N: Keeping> Drop for Durable<'p, S, N> {
+impl<'p, S: Drop, N: Keeping, P, R> Drop for Durable<'p, S, N, P, R> {
     fn drop(self) {
         let Durable {
             session: _,
             place: _,
+            passes: _,
+            rt: _,
             awaits: _,
         } = self;
     }
 }
 
-impl<'p, S, N: Keeping> Model for Durable<'p, S, N> {
+impl<'p, S, N: Keeping, P, R> Model for Durable<'p, S, N, P, R> {
     ghost use Rattle.std.specs.Prelude.{Bool};
 
     ghost Value = { S × Bool };
@@ -40,14 +48,23 @@ impl<'p, S, N: Keeping> Model for Durable<'p, S, N> {
     ghost view = { λ d. (d.session, d.awaits) };
 }
 
-impl<'p, S, N: Keeping> Durable<'p, S, N> {
-    /// A session whose journal says by this place what is kept, and whether a write is answered only when its entry is.
-    pub fn new(session: S, place: &'p KeptPlace<N>, awaits: bool) -> Durable<'p, S, N>
+impl<'p, S, N: Keeping, P, R> Durable<'p, S, N, P, R> {
+    /// A session whose journal says by this place what it has, by whose passes entries come there, and whether what is answered
+    /// has to be kept.
+    pub fn new(
+        session: S,
+        place: &'p KeptPlace<N>,
+        passes: &'p P,
+        rt: &'p R,
+        awaits: bool,
+    ) -> Durable<'p, S, N, P, R>
         ensures { result ≡ (session, awaits) }
     {
         Durable {
             session,
             place,
+            passes,
+            rt,
             awaits,
         }
     }
@@ -59,24 +76,54 @@ impl<'p, S, N: Keeping> Durable<'p, S, N> {
         let Durable {
             session,
             place: _,
+            passes: _,
+            rt: _,
             awaits: _,
         } = self;
         session
     }
-
-    /// What is answered to a write whose entry has this place.
-    fn answer<X: Wait>(&self, context: &X, place: u64) -> Result<u64, CallFault>
-        ensures kept { IsKeptAs N.is_kept self.now.1 (Ok place) result }
-    {
-        if self.awaits && self.place.wait_for(context, place).is_err() {
-            return Err(CallFault::Unavailable(Unavailable::Journal));
-        }
-        Ok(place)
-    }
 }
 
-impl<'p, S: Viewer, N: Keeping> Durable<'p, S, N> {
-    /// Why nothing is written once the journal failed: a session that is lost says so.
+impl<'p, S: Viewer, N: Keeping, P: Passes<R>, R: Wait> Durable<'p, S, N, P, R> {
+    /// Waits until all that the session has seen may be shown.
+    ///
+    /// # Errors
+    ///
+    /// As [`KeptPlace::wait_for`].
+    fn wait_to_show(&self) -> Result<(), NotShown>
+        ensures shown { IfOk result (λ _. Shows S.known N.is_appended N.is_kept N.is_limit self.now.1 self.now.0) }
+        ensures failed { result ≡ Err not_shown.Failed → N.has_failed }
+    {
+        let number = self.session.version().database().documents().update_seq();
+        let place = self.session.place();
+        self.place
+            .wait_for(self.rt, self.passes, place, number, self.awaits)
+    }
+
+    /// Waits until all that the session has seen may be shown, or the journal has failed.
+    fn show(&self)
+        ensures { ShowsUnless S.known N.is_appended N.is_kept N.is_limit N.has_failed self.now.1 self.now.0 }
+    {
+        for _ in self.rt.forever() {
+            match self.wait_to_show() {
+                Ok(()) | Err(NotShown::Failed) => return,
+                Err(NotShown::Refused) => {}
+            }
+        }
+        unreachable!()
+    }
+
+    /// What is answered to a write whose entry has this place.
+    fn answer(&self, place: u64) -> Result<u64, CallFault>
+        ensures kept { IsKeptAs S.known N.is_appended N.is_kept N.is_limit self.now.1 self.now.0 (Ok place) result }
+    {
+        match self.wait_to_show() {
+            Ok(()) => Ok(place),
+            Err(_) => Err(CallFault::Unavailable(Unavailable::Journal)),
+        }
+    }
+
+    /// Why nothing is written once the journal has failed: a session that is lost says so.
     fn refuse(&mut self) -> CallFault
         ensures refused { (looked : Result ⊤ declared.CallFault) × S.goes self.old.0 (deed.Refreshed looked) self.new.0
             × Learns (S.known self.old.0) (deed.Refreshed looked) (S.known self.new.0)
@@ -92,10 +139,10 @@ impl<'p, S: Viewer, N: Keeping> Durable<'p, S, N> {
     }
 }
 
-impl<'p, S: Viewer, N: Keeping> Viewer for Durable<'p, S, N> {
+impl<'p, S: Viewer, N: Keeping, P: Passes<R>, R: Wait> Viewer for Durable<'p, S, N, P, R> {
     ghost known = { λ d. S.known d.0 };
 
-    ghost goes = { λ old deed new. GoesKept S.goes N.is_kept old deed new };
+    ghost goes = { λ old deed new. GoesKept S.goes S.known N.is_appended N.is_kept N.is_limit N.has_failed old deed new };
 
     fn place(&self) -> u64 {
         self.session.place()
@@ -105,18 +152,22 @@ impl<'p, S: Viewer, N: Keeping> Viewer for Durable<'p, S, N> {
         self.session.version()
     }
 
+    /// It waits until what it sees may be shown.
     fn refresh(&mut self) -> Result<(), CallFault> {
-        self.session.refresh()
+        self.session.refresh()?;
+        self.show();
+        Ok(())
     }
 }
 
-impl<'p, X: Wait, S: Calls<X>, N: Keeping> Calls<X> for Durable<'p, S, N> {
+impl<'p, X: Wait, S: Calls<X>, N: Keeping, P: Passes<R>, R: Wait> Calls<X>
+    for Durable<'p, S, N, P, R> {
     fn write(&mut self, context: &X, command: Command) -> Result<u64, CallFault> {
         if self.place.has_failed() {
             return Err(self.refuse());
         }
         match self.session.write(context, command) {
-            Ok(place) => self.answer(context, place),
+            Ok(place) => self.answer(place),
             Err(fault) => {
                 if fault == CallFault::Unavailable(Unavailable::Full) {
                     self.place.ask();
@@ -126,18 +177,34 @@ impl<'p, X: Wait, S: Calls<X>, N: Keeping> Calls<X> for Durable<'p, S, N> {
         }
     }
 
-    /// It waits turn by turn, and ends as refused once the epoch ends.
+    /// It waits turn by turn, ends as refused once the epoch ends, and waits then until what it sees may be shown.
     fn wait_past(&mut self, context: &X, seq: u64, turns: u64) -> Result<bool, CallFault> {
-        let _recalled = self.session.place();
-        for _turn in 0..turns.max(1) {
-            match self.session.wait_past(context, seq, 1) {
-                Ok(false) => {}
-                outcome => return outcome,
-            }
-            if self.place.is_over() {
-                return Err(CallFault::Unavailable(Unavailable::Full));
-            }
-        }
-        Ok(false)
+        let past = wait_by_turns(context, &mut self.session, self.place, seq, turns)?;
+        self.show();
+        Ok(past)
     }
+}
+
+/// Waits turn by turn, and ends as refused once the epoch ends.
+fn wait_by_turns<X: Wait, S: Calls<X>, N: Keeping>(
+    context: &X,
+    session: &mut S,
+    place: &KeptPlace<N>,
+    seq: u64,
+    turns: u64,
+) -> Result<bool, CallFault>
+    ensures waits { WaitsKept S.goes seq turns session.old result session.new }
+    ensures learns { Learns (S.known session.old) (deed.Waited seq turns result) (S.known session.new) }
+{
+    let _recalled = session.place();
+    for _turn in 0..turns.max(1) {
+        match session.wait_past(context, seq, 1) {
+            Ok(false) => {}
+            outcome => return outcome,
+        }
+        if place.is_over() {
+            return Err(CallFault::Unavailable(Unavailable::Full));
+        }
+    }
+    Ok(false)
 }

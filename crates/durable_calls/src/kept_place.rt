@@ -1,53 +1,51 @@
-//! Up to which place of a history a journal keeps its entries.
-ghost use Rattle.std.specs.Prelude.{◌≡◌, ◌<◌, ℕ, IfOk};
-ghost use Rattle.durable_calls.specs.Kept.{IsKeptPast};
+//! Up to which place of a history a journal has its entries, and what may be shown of it.
+ghost use Rattle.std.specs.Prelude.{◌≡◌, ◌<◌, ◌≤◌, ℕ, true, IfOk, Err};
+ghost use Rattle.durable_calls.specs.Kept.{IsShown};
+ghost use Rattle.durable_calls.specs.declared.kept_place.NotShown.TheVariants as not_shown;
 
-use std::marker::{Brand, PhantomData};
+use crate::keeping::{AppendedTo, FailureOf, Keeping, KeptTo, LimitOf};
+use crate::passes::{Pass, Passes};
+use std::hint::spin_loop;
 use std::sync::Wait;
 use std::sync::atomic::Ordering::SeqCst;
-use std::sync::atomic::{AtomicBool, AtomicIn, AtomicU64, Rule};
+use std::sync::atomic::{AtomicBool, AtomicIn, AtomicU64};
 use std::time::Duration;
 
 /// The low bits of a count, by which those that sleep know it.
 const LOW: u64 = 0xffff_ffff;
 
-/// Names a journal. No value of it is made.
-pub trait Keeping {
-    /// What is known once the entries up to a place, which is above 0, are kept.
-    ghost is_kept: { ℕ → Type 0 };
-}
+/// So often it is looked whether a pass of somebody else has ended, before the session sleeps until it has.
+const LOOKS: u32 = 200;
 
-impl Keeping for Brand {
-    ghost use Rattle.std.specs.Prelude.{⊤};
+/// So long a session sleeps after a pass that was refused.
+const PAUSE_MILLISECONDS: u64 = 10;
 
-    ghost is_kept = { λ _. ⊤ };
-}
+/// After so many passes that were refused, one after another, a wait ends.
+const MOST_REFUSED: u32 = 100;
 
-/// The rule of a word that is a place up to which entries are kept, or 0.
-pub struct UpTo<N> {
-    name: PhantomData<N>,
-}
-
-impl<N: Keeping> Rule for UpTo<N> {
-    ghost use Rattle.std.specs.Prelude.{◌<◌};
-
-    ghost invariant = { λ place. 0 < place → N.is_kept place };
-}
-
-/// A write or a sync of the journal failed.
+/// Why what a session has seen may not be shown.
 #[derive(Clone, Copy, Debug, PartialEq, Eq)]
-pub struct JournalFailed;
+pub enum NotShown {
+    /// A write or a sync of the journal failed, or there is nobody who keeps it.
+    Failed,
+    /// For about a second the lines of new entries could not be made.
+    Refused,
+}
 
-/// What the keeper of a journal and the sessions say to one another. They share it by reference.
+/// What those who keep a journal and the sessions say to one another. They share it by reference.
 pub struct KeptPlace<N: Keeping> {
-    kept: AtomicIn<UpTo<N>>,
-    /// How often the keeper said something, for the sessions that sleep.
-    told: AtomicU64,
-    /// How often a session asked for a pass, for the keeper that sleeps.
+    appended: AtomicIn<AppendedTo<N>>,
+    kept: AtomicIn<KeptTo<N>>,
+    limit: AtomicIn<LimitOf<N>>,
+    failed: AtomicIn<FailureOf<N>>,
+    /// How many passes have ended.
+    ends: AtomicU64,
+    /// How many sessions sleep until a pass ends, or are about to.
+    sleepers: AtomicU64,
+    /// How often a session asked for the keeper.
     asked: AtomicU64,
     /// Whether there is a keeper.
     begun: AtomicBool,
-    failed: AtomicBool,
     /// Whether the epoch ends, since its history is full and the next one is ready.
     over: AtomicBool,
     /// Whether no more entries come.
@@ -57,11 +55,14 @@ pub struct KeptPlace<N: Keeping> {
 impl<N: Keeping> Drop for KeptPlace<N> {
     fn drop(self) {
         let KeptPlace {
+            appended: _,
             kept: _,
-            told: _,
+            limit: _,
+            failed: _,
+            ends: _,
+            sleepers: _,
             asked: _,
             begun: _,
-            failed: _,
             over: _,
             ended: _,
         } = self;
@@ -69,14 +70,19 @@ impl<N: Keeping> Drop for KeptPlace<N> {
 }
 
 impl<N: Keeping> KeptPlace<N> {
-    /// No entry is kept yet.
-    pub fn new() -> KeptPlace<N> {
+    /// No entry is appended yet, and numbers up to this limit may be shown.
+    pub fn new(limit: u64) -> KeptPlace<N>
+        requires limit { N.is_limit limit }
+    {
         KeptPlace {
+            appended: AtomicIn::new(0),
             kept: AtomicIn::new(0),
-            told: AtomicU64::new(0),
+            limit: AtomicIn::new(limit),
+            failed: AtomicIn::new(0),
+            ends: AtomicU64::new(0),
+            sleepers: AtomicU64::new(0),
             asked: AtomicU64::new(0),
             begun: AtomicBool::new(false),
-            failed: AtomicBool::new(false),
             over: AtomicBool::new(false),
             ended: AtomicBool::new(false),
         }
@@ -85,71 +91,162 @@ impl<N: Keeping> KeptPlace<N> {
     /// Says that there is a keeper. By itself.
     pub fn begin(&self) {
         self.begun.store(true, SeqCst);
-        self.tell();
+        self.end_pass();
     }
 
-    /// Waits at most so long for the keeper, and answers whether there is one. Where there is none, the journal has failed.
+    /// Waits at most so long for the keeper, and answers whether there is one.
     pub fn wait_for_keeper<X: Wait>(&self, rt: &X, patience: Duration) -> bool {
-        let told = self.told.load(SeqCst);
+        let ended = self.ends.load(SeqCst);
         if !self.begun.load(SeqCst) {
-            self.told.park_timeout(rt, (told & LOW) as u32, patience);
+            self.sleepers.fetch_add(1, SeqCst);
+            self.ends.park_timeout(rt, (ended & LOW) as u32, patience);
+            self.sleepers.fetch_sub(1, SeqCst);
         }
-        let is_there = self.begun.load(SeqCst);
-        if !is_there {
-            self.fail();
-        }
-        is_there
+        self.begun.load(SeqCst)
     }
 
-    /// Says that the entries up to this place are kept, to all that wait. By the keeper.
+    /// Says that the entries up to this place are appended. In a pass.
+    pub fn append_up_to(&self, place: u64)
+        requires appended { 0 < place → N.is_appended place }
+    {
+        self.appended.store(place, SeqCst);
+    }
+
+    /// Says that the entries up to this place are kept. In a pass.
     pub fn keep_up_to(&self, place: u64)
         requires kept { 0 < place → N.is_kept place }
     {
         self.kept.store(place, SeqCst);
-        self.tell();
     }
 
-    /// Says that the journal failed, to all that wait and to each later write. By the keeper.
-    pub fn fail(&self) {
-        self.failed.store(true, SeqCst);
-        self.tell();
+    /// Says that update numbers up to this limit may be shown. In a pass.
+    pub fn show_up_to(&self, limit: u64)
+        requires limit { N.is_limit limit }
+    {
+        self.limit.store(limit, SeqCst);
     }
 
-    /// How often the keeper was asked for a pass.
+    /// Says that the journal has failed, to all that wait and to each later write.
+    pub fn fail(&self)
+        requires failed { N.has_failed }
+    {
+        self.failed.store(1, SeqCst);
+        self.end_pass();
+    }
+
+    /// Says that a pass has ended, after the next one can begin. The system is called only where a session sleeps.
+    pub fn end_pass(&self) {
+        self.ends.fetch_add(1, SeqCst);
+        if self.sleepers.load(SeqCst) > 0 {
+            self.ends.wake_all();
+        }
+    }
+
+    /// Whether the journal has failed.
+    pub fn has_failed(&self) -> bool
+        ensures failed { result ≡ true → N.has_failed }
+    {
+        self.failed.load(SeqCst) > 0
+    }
+
+    /// Waits until what has so many entries and this update number may be shown. Passes are made here, unless somebody else
+    /// makes one.
+    ///
+    /// # Errors
+    ///
+    /// [`NotShown::Failed`] where the journal has failed, and [`NotShown::Refused`] where passes were refused for about a
+    /// second.
+    pub fn wait_for<X: Wait, P: Passes<X>>(
+        &self,
+        rt: &X,
+        passes: &P,
+        place: u64,
+        number: u64,
+        awaits: bool,
+    ) -> Result<(), NotShown>
+        ensures shown { IfOk result (λ _. IsShown N.is_appended N.is_kept N.is_limit awaits place number) }
+        ensures failed { result ≡ Err not_shown.Failed → N.has_failed }
+    {
+        let mut refused = 0u32;
+        for _ in rt.forever() {
+            let ended = self.ends.load(SeqCst);
+            if self.covers(place, number, awaits) {
+                return Ok(());
+            }
+            if self.has_failed() {
+                return Err(NotShown::Failed);
+            }
+            let syncs = awaits || self.limit.load(SeqCst) < number;
+            match passes.try_pass(rt, syncs) {
+                Pass::Made => {}
+                Pass::Busy => self.wait_for_end(rt, ended),
+                Pass::Refused => {
+                    refused = refused.saturating_add(1);
+                    if refused > MOST_REFUSED {
+                        return Err(NotShown::Refused);
+                    }
+                    self.pause(rt);
+                }
+            }
+        }
+        unreachable!()
+    }
+
+    /// Whether what has so many entries and this update number may be shown.
+    fn covers(&self, place: u64, number: u64, awaits: bool) -> bool
+        ensures { result ≡ true → IsShown N.is_appended N.is_kept N.is_limit awaits place number }
+    {
+        let appended = self.appended.load(SeqCst);
+        let limit = self.limit.load(SeqCst);
+        if appended < place || limit < number {
+            return false;
+        }
+        if !awaits {
+            return true;
+        }
+        let kept = self.kept.load(SeqCst);
+        kept >= place
+    }
+
+    /// Looks for a while whether a pass has ended since so many had, and then sleeps until one has.
+    fn wait_for_end<X: Wait>(&self, rt: &X, ended: u64) {
+        for _ in 0..LOOKS {
+            if self.ends.load(SeqCst) != ended {
+                return;
+            }
+            spin_loop();
+        }
+        self.sleepers.fetch_add(1, SeqCst);
+        self.ends.park(rt, (ended & LOW) as u32);
+        self.sleepers.fetch_sub(1, SeqCst);
+    }
+
+    /// Sleeps for a while, at most until another pass ends.
+    fn pause<X: Wait>(&self, rt: &X) {
+        let ended = self.ends.load(SeqCst);
+        self.sleepers.fetch_add(1, SeqCst);
+        self.ends.park_timeout(
+            rt,
+            (ended & LOW) as u32,
+            Duration::from_millis(PAUSE_MILLISECONDS),
+        );
+        self.sleepers.fetch_sub(1, SeqCst);
+    }
+
+    /// How often the keeper was asked for.
     pub fn asked(&self) -> u64 {
         self.asked.load(SeqCst)
     }
 
-    /// Sleeps until the keeper is asked for a pass, unless it was since this was the count, or until the pause ends.
+    /// Asks for the keeper.
+    pub fn ask(&self) {
+        self.asked.fetch_add(1, SeqCst);
+        self.asked.wake_one();
+    }
+
+    /// Sleeps until the keeper is asked for, unless it was since this was the count, or until the pause ends.
     pub fn sleep_until_asked<X: Wait>(&self, rt: &X, asked: u64, pause: Duration) {
         self.asked.park_timeout(rt, (asked & LOW) as u32, pause);
-    }
-
-    /// Whether the journal failed.
-    pub fn has_failed(&self) -> bool {
-        self.failed.load(SeqCst)
-    }
-
-    /// Waits until the entries up to this place are kept.
-    ///
-    /// # Errors
-    ///
-    /// [`JournalFailed`] where the journal failed before.
-    pub fn wait_for<X: Wait>(&self, rt: &X, place: u64) -> Result<(), JournalFailed>
-        ensures kept { IfOk result (λ _. IsKeptPast N.is_kept place) }
-    {
-        for _ in rt.forever() {
-            let told = self.told.load(SeqCst);
-            if self.kept.load(SeqCst) >= place {
-                return Ok(());
-            }
-            if self.has_failed() {
-                return Err(JournalFailed);
-            }
-            self.ask();
-            self.told.park(rt, (told & LOW) as u32);
-        }
-        unreachable!()
     }
 
     /// Says that the epoch ends, since its history is full and the next one is ready. By the keeper.
@@ -176,16 +273,5 @@ impl<N: Keeping> KeptPlace<N> {
     /// Whether no more entries come.
     pub fn has_ended(&self) -> bool {
         self.ended.load(SeqCst)
-    }
-
-    /// Asks the keeper for a pass.
-    pub fn ask(&self) {
-        self.asked.fetch_add(1, SeqCst);
-        self.asked.wake_one();
-    }
-
-    fn tell(&self) {
-        self.told.fetch_add(1, SeqCst);
-        self.told.wake_all();
     }
 }

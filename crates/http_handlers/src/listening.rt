@@ -37,7 +37,8 @@ pub struct Terms {
 /// One that can't be accepted counts, and the next is waited for a millisecond later.
 ///
 /// Where a flag is given, it ends them early: once it is set, each worker ends the connection that it has behind the
-/// request that is then awaited, for which it waits a tenth of a second, and accepts no other. One that waits for a
+/// request that is then awaited, for which it waits a tenth of a second, and accepts no other. A request that has begun is
+/// waited for a second longer at most, and so is a client that takes a response. One that waits for a
 /// connection is woken by one.
 ///
 /// A worker takes what it keeps before it accepts its first connection, and waits where memory for it is
@@ -138,7 +139,7 @@ fn serve_socket<R: Clock, X, S: Calls<X>, V: Watch>(
     let clock = noticing.clock;
     let _nodelay = socket.set_nodelay(true);
     let mut reader = TimedReader::new(socket, clock, pace, over);
-    let writer = TimedWriter::new(socket, clock, pace.patience);
+    let writer = TimedWriter::new(socket, clock, pace.patience, over);
     let ended = serve_noticed(
         &mut buffers.window,
         &mut reader,
@@ -149,7 +150,7 @@ fn serve_socket<R: Clock, X, S: Calls<X>, V: Watch>(
     );
     if ended.cause == Cause::Closed || is_set(over) {
         // A request that was refused is still in the window.
-        hang_up(socket, clock, buffers.window.bytes().is_empty());
+        hang_up(socket, clock, buffers.window.bytes().is_empty(), over);
     }
     ended
 }

@@ -1,6 +1,10 @@
+pub mod Begins
 pub mod Feeds
 pub mod Grown
+pub mod Lasting
+pub mod Marked
 pub mod Named
 pub mod Replays
 pub mod Restores
+pub mod Stops
 pub mod Texts

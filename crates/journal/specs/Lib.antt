@@ -2,8 +2,12 @@ pub mod Appending
 pub mod Files
 pub mod Held
 pub mod Kept
+pub mod Marks
 pub mod Names
 pub mod Reading
+pub mod Refusing
+pub mod Repairing
 pub mod Replaying
 pub mod Restoring
 pub mod Starting
+pub mod Survives

@@ -1,34 +1,94 @@
 //! A file of the system as what a journal is appended to.
-ghost use Rattle.std.specs.Prelude.{◌≡◌, None, option_copied};
+ghost use Rattle.std.specs.Prelude.{◌≡◌, None, IfOk, true, option_copied};
+ghost use Rattle.std.specs.Fs.{asks_append};
 ghost use Rattle.streams.specs.Counts.{CountRose};
 
 use crate::appended::Appended;
-use std::fs::File;
-use std::io::{self, Write};
+use crate::mark_file::MarkFile;
+use std::fs::{File, OpenOptions};
+use std::io::{self, ErrorKind, Write};
+use std::os::unix::fs::MetadataExt;
+use std::rt::Files;
 use streams::Failed;
 
-/// A file of the system that was opened for appending.
+/// A file of the system that was opened for appending, with how many bytes it has and how many of them are synced.
 ///
-/// What a disk keeps of it is known to no contract: that a write reaches the file, and that a sync makes it durable, is
-/// trusted of the system.
+/// What a disk keeps of it is known to no contract: that a write reaches the end of the file, and that a sync makes durable all
+/// that is in it, is trusted of the system.
 #[derive(Drop)]
 pub struct DiskFile {
     file: File,
+    written: u64,
+    synced: u64,
+    mark: Option<MarkFile>,
     failures: u64,
     error: Option<io::Error>,
 }
 
 impl DiskFile {
-    /// Over this file, of whose writes and syncs none has failed yet.
-    pub fn new(file: File) -> DiskFile
-        ensures failures { result.failures ≡ 0 }
-        ensures error { result.error ≡ None }
+    /// A new file, which is empty, opened for appending.
+    ///
+    /// # Errors
+    ///
+    /// A file has this name, or the operation failed.
+    pub(crate) fn create<R: Files<File = File>>(rt: &R, path: &str) -> io::Result<DiskFile>
+        ensures written { IfOk result (λ f. f.written ≡ 0) }
+        ensures synced { IfOk result (λ f. f.synced ≡ 0) }
+        ensures failures { IfOk result (λ f. f.failures ≡ 0) }
     {
-        DiskFile {
+        let mut how = OpenOptions::new();
+        how.append(true).create_new(true);
+        DiskFile::opened(rt, &how, path, 0)
+    }
+
+    /// A file that has so many bytes, all of them synced, opened for appending.
+    ///
+    /// # Errors
+    ///
+    /// The operation failed.
+    pub(crate) fn go_on<R: Files<File = File>>(rt: &R, path: &str, len: u64) -> io::Result<DiskFile>
+        ensures written { IfOk result (λ f. f.written ≡ len) }
+        ensures synced { IfOk result (λ f. f.synced ≡ len) }
+        ensures failures { IfOk result (λ f. f.failures ≡ 0) }
+    {
+        let mut how = OpenOptions::new();
+        how.append(true);
+        DiskFile::opened(rt, &how, path, len)
+    }
+
+    /// A file opened so, for appending, that has so many bytes, all of them synced.
+    fn opened<R: Files<File = File>>(
+        rt: &R,
+        how: &OpenOptions,
+        path: &str,
+        len: u64,
+    ) -> io::Result<DiskFile>
+        requires appends { asks_append how.now ≡ true }
+        ensures written { IfOk result (λ f. f.written ≡ len) }
+        ensures synced { IfOk result (λ f. f.synced ≡ len) }
+        ensures failures { IfOk result (λ f. f.failures ≡ 0) }
+    {
+        let file = how.open(rt, path)?;
+        Ok(DiskFile {
             file,
+            written: len,
+            synced: len,
+            mark: None,
             failures: 0,
             error: None,
+        })
+    }
+
+    /// The same file, whose mark is said from now on.
+    pub(crate) fn marked(self, mark: Option<MarkFile>) -> DiskFile
+        ensures written { result.written ≡ self.written }
+        ensures synced { result.synced ≡ self.synced }
+        ensures failures { result.failures ≡ self.failures }
+    {
+        if let Some(mark) = &mark {
+            mark.say(self.synced);
         }
+        DiskFile { mark, ..self }
     }
 
     /// Why the last write or sync that failed did.
@@ -39,20 +99,34 @@ impl DiskFile {
     }
 
     /// The same, of a file that is given up.
-    pub fn into_error(self) -> Option<io::Error>
+    pub(crate) fn into_error(self) -> Option<io::Error>
         ensures { result ≡ self.error }
     {
         self.error
     }
 }
 
-/// Counts a failure, and keeps its reason.
+/// Counts a failure, and keeps its reason. The mark says nothing any more.
 fn fail(file: &mut DiskFile, error: io::Error) -> Failed
-    ensures { CountRose file.old.failures file.new.failures }
+    ensures failures { CountRose file.old.failures file.new.failures }
+    ensures written { file.new.written ≡ file.old.written }
+    ensures synced { file.new.synced ≡ file.old.synced }
 {
     file.failures = file.failures.saturating_add(1);
     file.error = Some(error);
+    if let Some(mark) = &file.mark {
+        mark.unsay();
+    }
     Failed
+}
+
+/// Syncs a file. Of one that no folder has any more, nothing is durable.
+fn sync_named(file: &File) -> io::Result<()> {
+    file.sync_data()?;
+    match file.metadata() {
+        Ok(about) if about.nlink() == 0 => Err(io::Error::from(ErrorKind::NotFound)),
+        _ => Ok(()),
+    }
 }
 
 impl Appended for DiskFile {
@@ -62,24 +136,46 @@ impl Appended for DiskFile {
 
     ghost covered = { λ f. None };
 
+    ghost size = { λ f. f.written };
+
+    ghost synced_size = { λ f. f.synced };
+
     ghost failed = { λ f. f.failures };
 
     ghost told = { λ _. ⊤ };
+
+    ghost said = { λ _. ⊤ };
 
     fn append(&mut self, bytes: &[u8]) -> Result<(), Failed> {
         if bytes.is_empty() {
             return Ok(());
         }
+        let Some(written) = self.written.checked_add(bytes.len() as u64) else {
+            return Err(fail(self, io::Error::from(ErrorKind::FileTooLarge)));
+        };
         match self.file.write_all(bytes) {
-            Ok(()) => Ok(()),
+            Ok(()) => {
+                self.written = written;
+                Ok(())
+            }
             Err(error) => Err(fail(self, error)),
         }
     }
 
     fn sync(&mut self) -> Result<(), Failed> {
-        match self.file.sync_data() {
-            Ok(()) => Ok(()),
+        match sync_named(&self.file) {
+            Ok(()) => {
+                self.synced = self.written;
+                if let Some(mark) = &self.mark {
+                    mark.say(self.synced);
+                }
+                Ok(())
+            }
             Err(error) => Err(fail(self, error)),
         }
     }
+
+    ghost counted = { λ f. tt };
+
+    ghost counted_synced = { λ f. tt };
 }

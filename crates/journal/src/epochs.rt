@@ -1,64 +1,112 @@
 //! The files of epochs: which one a server goes on from, and how the next one begins.
-ghost use Rattle.std.specs.Prelude.{◌≡◌, ◌≤◌, ◌<◌, ℕ, suc, List, Some, None, Err, IfOk, MatchBool, MatchOption, drop, filter, max, nat_le, reverse};
+ghost use Rattle.std.specs.Prelude.{◌≡◌, ◌≤◌, ◌<◌, ℕ, false, suc, List, Some, None, Err, IfErr, IfOk, MatchBool, MatchOption, drop, filter, max, nat_le, reverse};
 ghost use Rattle.model.specs.History.{now, successor};
-ghost use Rattle.replay_cli.specs.Places.{last_place};
-ghost use Rattle.replay_cli.specs.Successors.{IsLastEpoch};
 ghost use Rattle.journal.specs.Held.{begun};
-ghost use Rattle.journal.specs.Reading.{IsEndedBy};
+ghost use Rattle.journal.specs.Marks.{raise_by, synced_by};
+ghost use Rattle.journal.specs.Refusing.{IsEndedBy, IsExhausted};
 ghost use Rattle.journal.specs.Replaying.{AreTooLarge};
 ghost use Rattle.journal.specs.Restoring.{IsRestored};
 ghost use Rattle.journal.specs.Names.{last_epoch};
-ghost use Rattle.journal.specs.Starting.{IsCutOf, IsStarted};
+ghost use Rattle.journal.specs.Starting.{AreNumbersTooLarge, IsBegunAfter, IsDamaged, IsDroppedOf, IsNewest, IsOfFiles, IsStarted};
 ghost use Rattle.journal.specs.declared.restored.Unrestored.TheVariants as unrestored;
 ghost use Rattle.journal.specs.declared.start_fault.StartFault.TheVariants as start;
 
 use crate::disk_file::DiskFile;
 use crate::folder::Folder;
 use crate::journal::Journal;
+use crate::lock::remove_left;
+use crate::mark::{Mark, ahead_of, mark_for, raise_by, synced_by};
+use crate::mark_file::{MarkFile, found_mark};
 use crate::names::{LAST_EPOCH, epoch_name};
 use crate::reading::restore;
-use crate::restored::{Restored, Unrestored};
-use crate::start_fault::StartFault;
-use crate::started::{Begun, Cut, Started};
+use crate::restored::{End, Raise, Restored, Unrestored};
+use crate::start_fault::{StartFault, of_file};
+use crate::started::{Begun, Dropped, Started};
 use replay_cli::Verdict;
 use snapshots::Version;
 use std::alloc::{AllocError, Global};
-use std::fs::{self, File, OpenOptions};
+use std::fs::{self, File};
 use std::io::{self, BufReader, ErrorKind};
 use std::rt::Files;
 
+/// The name of the file that has the mark.
+const MARK: &str = "mark";
+
+/// What was read of the file of an epoch, and how many bytes that has.
+#[derive(Drop)]
+pub(crate) struct FileRead {
+    pub(crate) left: Restored,
+    pub(crate) len: u64,
+}
+
 impl Folder {
     /// Reads the newest file, and begins the next epoch over the last database of its history; or goes on in it, where it has
-    /// its first line and no more; or begins the first epoch, where there is no file.
+    /// its first line and no more; or begins the first epoch, where there is no file. Numbers are raised unless the mark says
+    /// that nothing that was shown is lost. `shows_kept` says whether the server will show only what is kept.
     ///
-    /// No file that is there changes, whatever comes.
+    /// No file of an epoch that is there changes, whatever comes. The one that was read is synced.
     ///
     /// # Errors
     ///
-    /// The newest file has a line that is no next entry, or ends with too large numbers; memory was refused, or a file
-    /// operation failed.
+    /// The newest file has a line that is no next entry and that was synced, or ends with too large numbers; memory was refused,
+    /// or a file operation failed.
     pub fn start<R: Files<File = File> + AllocGlobal + Clone + Drop>(
         &self,
         rt: &R,
+        shows_kept: bool,
     ) -> Result<Started, StartFault>
         ensures started { IfOk result IsStarted }
-        ensures judged { (at : ℕ) (verdict : Verdict) → result ≡ Err (start.Judged at verdict) → (text : List ℕ) × IsEndedBy verdict text }
-        ensures too_large { result ≡ Err start.NumbersTooLarge → (text : List ℕ) × IsLastEpoch text }
+        ensures judged { (epoch : ℕ) (verdict : Verdict) → result ≡ Err (start.Judged epoch verdict) → IsDamaged verdict }
+        ensures too_large { result ≡ Err start.NumbersTooLarge → AreNumbersTooLarge }
     {
         let epochs = self.epochs(rt)?;
-        let Some(newest) = epochs.last() else {
-            let begun = self.begin(rt, 1, Version::empty(self.alloc))?;
+        let found = self.mark(rt)?;
+        let Some(newest) = newest(&epochs) else {
+            let begun = self.begin(rt, 1, Version::empty(self.alloc), shows_kept)?;
             return Ok(Started {
                 begun,
+                read: None,
+                mark: None,
+                ahead: ahead_of(found, 0),
                 places: 0,
-                cut: None,
+                dropped: None,
+                missing: 0,
+                raised: false,
             });
         };
-        let restored = self.read(rt, *newest)?;
-        let places = restored.places;
-        let cut = cut_of(&restored);
-        let begun = self.go_on(rt, *newest, restored)?;
-        Ok(Started { begun, places, cut })
+        let file = self.read(rt, newest, mark_for(found, newest))?;
+        self.go_on_after(rt, newest, found, file, shows_kept)
+    }
+
+    /// Begins what comes after the file of this epoch, which was read, and over which this mark was found.
+    fn go_on_after<R: Files<File = File> + AllocGlobal>(
+        &self,
+        rt: &R,
+        read: u64,
+        found: Option<Mark>,
+        file: FileRead,
+        shows_kept: bool,
+    ) -> Result<Started, StartFault>
+        ensures after { IfOk result (IsBegunAfter read found file.len file.left) }
+        ensures judged { (epoch : ℕ) (verdict : Verdict) → result ≡ Err (start.Judged epoch verdict) → ⊥ }
+        ensures too_large { result ≡ Err start.NumbersTooLarge → ⊥ }
+    {
+        let FileRead { left, len } = file;
+        let mark = mark_for(found, read);
+        let places = left.places;
+        let raised = left.raised;
+        let dropped = dropped_of(len, &left);
+        let begun = self.go_on(rt, read, left, len, shows_kept)?;
+        Ok(Started {
+            begun,
+            read: Some(read),
+            mark,
+            ahead: ahead_of(found, read),
+            places,
+            dropped,
+            missing: synced_by(mark).saturating_sub(len),
+            raised,
+        })
     }
 
     /// Begins the epoch after this one, over the last database of a version, in which no session has called.
@@ -72,6 +120,7 @@ impl Folder {
         rt: &R,
         epoch: u64,
         last: &Version,
+        shows_kept: bool,
     ) -> Result<Begun, StartFault>
         ensures begun { IfOk result (λ b. b.version ≡ begun (Some (successor (now last.now)))) }
         ensures epoch { IfOk result (λ b. b.epoch ≡ suc epoch) }
@@ -86,7 +135,7 @@ impl Folder {
             return Err(StartFault::LastEpoch);
         };
         let version = last.successor()?;
-        self.begin(rt, next, version)
+        self.begin(rt, next, version, shows_kept)
     }
 
     /// Removes the files of all epochs up to this one but the newest `count`, at least one of them, from the oldest on, and
@@ -107,65 +156,96 @@ impl Folder {
             let name = epoch_name(self.alloc, *epoch)?;
             fs::remove_file(rt, self.path_of(name.as_str())?.as_str())?;
         }
-        self.sync(rt)?;
+        self.sync()?;
         Ok(old.len() as u64)
     }
 
-    /// What is left of an epoch.
+    /// What is left of an epoch, whose file is synced.
     fn read<R: Files<File = File> + AllocGlobal>(
         &self,
         rt: &R,
         epoch: u64,
-    ) -> Result<Restored, StartFault>
-        ensures restored { IfOk result (λ r. (text : List ℕ) × IsRestored text r) }
+        mark: Option<Mark>,
+    ) -> Result<FileRead, StartFault>
+        ensures restored { IfOk result (λ r. (text : List ℕ)
+            × IsRestored text (synced_by mark) (raise_by mark self.now.boot r.len) r.left) }
         ensures judged { (at : ℕ) (verdict : Verdict) → result ≡ Err (start.Judged at verdict)
-            → (at ≡ epoch) × ((text : List ℕ) × IsEndedBy verdict text) }
-        ensures too_large { result ≡ Err start.NumbersTooLarge → (text : List ℕ) × IsLastEpoch text }
+            → (at ≡ epoch) × IsDamaged verdict }
+        ensures too_large { result ≡ Err start.NumbersTooLarge → AreNumbersTooLarge }
         ensures last { result ≡ Err start.LastEpoch → ⊥ }
     {
         let name = epoch_name(self.alloc, epoch)?;
-        let file = fs::open(rt, self.path_of(name.as_str())?.as_str())?;
-        let mut reader = BufReader::new(self.alloc, file)?;
-        match restore(self.alloc, &mut reader) {
-            Ok(restored) => Ok(restored),
-            Err(fault) => Err(of_epoch(epoch, fault)),
+        let path = self.path_of(name.as_str())?;
+        let file = of_file(self.alloc, name.as_str(), open_plain(rt, path.as_str()))?;
+        let len = of_file(self.alloc, name.as_str(), length_of(&file))?;
+        let raise = raise_by(mark, &self.boot, len);
+        match restore_file(self.alloc, &file, synced_by(mark), raise) {
+            Ok(left) => {
+                of_file(self.alloc, name.as_str(), file.sync_all())?;
+                Ok(FileRead { left, len })
+            }
+            Err(fault) => Err(of_epoch(epoch, name, fault)),
         }
     }
 
-    /// The epoch that begins after what is left of this one.
+    /// The epoch that begins after what is left of this one, whose file has so many bytes.
     fn go_on<R: Files<File = File> + AllocGlobal>(
         &self,
         rt: &R,
         epoch: u64,
-        restored: Restored,
+        left: Restored,
+        len: u64,
+        shows_kept: bool,
     ) -> Result<Begun, StartFault>
-        ensures version { IfOk result (λ b. b.version ≡ restored.version) }
-        ensures epoch { IfOk result (λ b. MatchBool restored.goes_on (b.epoch ≡ epoch) (b.epoch ≡ suc epoch)) }
+        ensures version { IfOk result (λ b. b.version ≡ left.version) }
+        ensures epoch { IfOk result (λ b. MatchBool left.goes_on (b.epoch ≡ epoch) (b.epoch ≡ suc epoch)) }
         ensures too_large { result ≡ Err start.NumbersTooLarge → ⊥ }
         ensures last { result ≡ Err start.LastEpoch → last_epoch ≤ epoch }
         ensures judged { (at : ℕ) (verdict : Verdict) → result ≡ Err (start.Judged at verdict) → ⊥ }
     {
         let Restored {
             version,
-            places: _,
-            cut: _,
             goes_on,
-        } = restored;
+            ..
+        } = left;
         if !goes_on {
             let Some(next) = after(epoch) else {
                 return Err(StartFault::LastEpoch);
             };
-            return self.begin(rt, next, version);
+            return self.begin(rt, next, version, shows_kept);
         }
-        let name = epoch_name(self.alloc, epoch)?;
-        let mut how = OpenOptions::new();
-        how.append(true);
-        let file = how.open(rt, self.path_of(name.as_str())?.as_str())?;
+        let journal = self.resume(rt, epoch, len, shows_kept)?;
         Ok(Begun {
             version,
-            journal: Journal::resume(DiskFile::new(file)),
+            journal,
             epoch,
         })
+    }
+
+    /// The journal of an epoch that goes on in its file, which has a first line of so many bytes, synced. That the file has its name,
+    /// and that no earlier mark of this epoch is left, is made durable first.
+    fn resume<R: Files<File = File> + AllocGlobal>(
+        &self,
+        rt: &R,
+        epoch: u64,
+        len: u64,
+        shows_kept: bool,
+    ) -> Result<Journal<DiskFile>, StartFault>
+        ensures journal { IfOk result (λ j. (j.place ≡ 0) × (j.synced ≡ 0) × (j.broken ≡ false)) }
+        ensures fault { IfErr result IsOfFiles }
+    {
+        let mark = self.path_of(MARK)?;
+        of_file(self.alloc, MARK, remove_left(rt, mark.as_str()))?;
+        self.sync()?;
+        let name = epoch_name(self.alloc, epoch)?;
+        let path = self.path_of(name.as_str())?;
+        let file = of_file(
+            self.alloc,
+            name.as_str(),
+            DiskFile::go_on(rt, path.as_str(), len),
+        )?;
+        let mark = self.new_mark(rt, epoch, shows_kept);
+        Ok(Journal::resume(file.marked(mark)))
     }
 
     /// Makes the file of an epoch that begins with this version: written beside, synced, and then named.
@@ -174,51 +254,121 @@ impl Folder {
         rt: &R,
         epoch: u64,
         version: Version,
+        shows_kept: bool,
     ) -> Result<Begun, StartFault>
         requires { version ≡ begun version.base }
         ensures version { IfOk result (λ b. b.version ≡ version) }
         ensures epoch { IfOk result (λ b. b.epoch ≡ epoch) }
-        ensures too_large { result ≡ Err start.NumbersTooLarge → ⊥ }
-        ensures last { result ≡ Err start.LastEpoch → ⊥ }
-        ensures judged { (at : ℕ) (verdict : Verdict) → result ≡ Err (start.Judged at verdict) → ⊥ }
+        ensures fault { IfErr result IsOfFiles }
     {
         let name = epoch_name(self.alloc, epoch)?;
         let path = self.path_of(name.as_str())?;
-        let beside = format!(in self.alloc; "{path}.new")?;
-        remove_left(rt, beside.as_str())?;
-        let mut how = OpenOptions::new();
-        how.append(true).create_new(true);
-        let file = DiskFile::new(how.open(rt, beside.as_str())?);
+        let new_name = format!(in self.alloc; "{name}.new")?;
+        let beside = self.path_of(new_name.as_str())?;
+        of_file(
+            self.alloc,
+            new_name.as_str(),
+            remove_left(rt, beside.as_str()),
+        )?;
+        let file = of_file(
+            self.alloc,
+            new_name.as_str(),
+            DiskFile::create(rt, beside.as_str()),
+        )?;
         let journal = Journal::begin(self.alloc, file, &version)?;
         if journal.is_broken() {
-            return Err(unwritten(journal));
+            let _removed = fs::remove_file(rt, beside.as_str());
+            return Err(unwritten(new_name, journal));
         }
-        fs::rename(rt, beside.as_str(), path.as_str())?;
-        self.sync(rt)?;
+        of_file(
+            self.alloc,
+            name.as_str(),
+            fs::rename(rt, beside.as_str(), path.as_str()),
+        )?;
+        self.sync()?;
+        let file = journal
+            .into_file()
+            .marked(self.new_mark(rt, epoch, shows_kept));
         Ok(Begun {
             version,
-            journal,
+            journal: Journal::resume(file),
             epoch,
         })
     }
-}
 
-/// Removes a file that a start left which ended before its name was given.
-fn remove_left<R: Files<File = File>>(rt: &R, path: &str) -> io::Result<()> {
-    match fs::remove_file(rt, path) {
-        Err(error) if error.kind() != ErrorKind::NotFound => Err(error),
-        _ => Ok(()),
+    /// The mark that is found.
+    pub(crate) fn mark<R: Files<File = File>>(&self, rt: &R) -> Result<Option<Mark>, AllocError> {
+        let path = self.path_of(MARK)?;
+        Ok(found_mark(rt, path.as_str()))
+    }
+
+    /// A new file for the mark of this epoch, in place of the one that is there. Where it can't be made, there is none.
+    fn new_mark<R: Files<File = File>>(
+        &self,
+        rt: &R,
+        epoch: u64,
+        shows_kept: bool,
+    ) -> Option<MarkFile> {
+        let Ok(path) = self.path_of(MARK) else {
+            return None;
+        };
+        let _removed = remove_left(rt, path.as_str());
+        MarkFile::create(rt, self.alloc, path.as_str(), epoch, shows_kept, self.boot)
+    }
+
+    /// Removes the mark, durably.
+    pub(crate) fn remove_mark<R: Files<File = File>>(&self, rt: &R) -> Result<(), StartFault>
+        ensures { IfErr result IsOfFiles }
+    {
+        let path = self.path_of(MARK)?;
+        of_file(self.alloc, MARK, remove_left(rt, path.as_str()))?;
+        self.sync()?;
+        Ok(())
     }
 }
 
-/// Why the first line of a journal's file could not be written.
-fn unwritten(journal: Journal<DiskFile>) -> StartFault
-    ensures too_large { result ≡ start.NumbersTooLarge → ⊥ }
-    ensures last { result ≡ start.LastEpoch → ⊥ }
-    ensures judged { (at : ℕ) (verdict : Verdict) → result ≡ start.Judged at verdict → ⊥ }
+/// The newest of these epochs.
+fn newest(epochs: &[u64]) -> Option<u64>
+    ensures { IsNewest epochs.now result }
+{
+    epochs.iter().copied().max()
+}
+
+/// Opens a file for reading, if it is a plain one: no other kind is waited for.
+pub(crate) fn open_plain<R: Files<File = File>>(rt: &R, path: &str) -> io::Result<File> {
+    if !fs::metadata(rt, path)?.is_file() {
+        return Err(io::Error::new(ErrorKind::InvalidInput, "not a plain file"));
+    }
+    fs::open(rt, path)
+}
+
+/// How many bytes a file has.
+pub(crate) fn length_of(file: &File) -> io::Result<u64> {
+    Ok(file.metadata()?.len())
+}
+
+/// What is left of a file, of which so many bytes were synced.
+pub(crate) fn restore_file(
+    alloc: Global,
+    file: &File,
+    synced: u64,
+    raise: Raise,
+) -> Result<Restored, Unrestored>
+    ensures restored { IfOk result (λ r. (text : List ℕ) × IsRestored text synced raise r) }
+    ensures judged { (verdict : Verdict) (at : ℕ) → result ≡ Err (unrestored.Judged verdict at)
+        → (text : List ℕ) × IsEndedBy synced verdict at text }
+    ensures too_large { result ≡ Err unrestored.NumbersTooLarge → (text : List ℕ) × IsExhausted synced raise text }
+{
+    let mut reader = BufReader::new(alloc, file)?;
+    restore(alloc, &mut reader, synced, raise)
+}
+
+/// Why the first line of a journal's file, which has this name, could not be written.
+fn unwritten(name: String, journal: Journal<DiskFile>) -> StartFault
+    ensures { IsOfFiles result }
 {
     match journal.into_file().into_error() {
-        Some(error) => StartFault::Failed(error),
+        Some(error) => StartFault::File { name, error },
         None => StartFault::Unwritten,
     }
 }
@@ -247,30 +397,31 @@ fn after(epoch: u64) -> Option<u64>
     Some(epoch + 1)
 }
 
-/// The last line of what was read, where it was cut.
-fn cut_of(restored: &Restored) -> Option<Cut>
-    requires { restored.now.places ≤ last_place }
-    ensures { IsCutOf restored.now result }
+/// What is dropped of a file of this length, of which this is left.
+fn dropped_of(len: u64, left: &Restored) -> Option<Dropped>
+    ensures { IsDroppedOf len left.now result }
 {
-    if restored.cut == 0 {
+    if len <= left.taken {
         return None;
     }
-    Some(Cut {
-        place: restored.places + 1,
-        bytes: restored.cut,
+    Some(Dropped {
+        place: left.places,
+        bytes: len - left.taken,
+        torn: left.end == End::Torn,
     })
 }
 
 /// Why nothing begins from the file of this epoch.
-fn of_epoch(epoch: u64, fault: Unrestored) -> StartFault
-    ensures judged { (at : ℕ) (verdict : Verdict) → result ≡ start.Judged at verdict → (at ≡ epoch) × (fault ≡ unrestored.Judged verdict) }
+pub(crate) fn of_epoch(epoch: u64, name: String, fault: Unrestored) -> StartFault
+    ensures judged { (at : ℕ) (verdict : Verdict) → result ≡ start.Judged at verdict
+        → (at ≡ epoch) × ((place : ℕ) × (fault ≡ unrestored.Judged verdict place)) }
     ensures too_large { result ≡ start.NumbersTooLarge → fault ≡ unrestored.NumbersTooLarge }
     ensures last { result ≡ start.LastEpoch → ⊥ }
 {
     match fault {
         Unrestored::Memory => StartFault::Memory,
-        Unrestored::Read(error) => StartFault::Failed(error),
-        Unrestored::Judged(verdict) => StartFault::Judged { epoch, verdict },
+        Unrestored::Read(error) => StartFault::File { name, error },
+        Unrestored::Judged { verdict, at: _ } => StartFault::Judged { epoch, verdict },
         Unrestored::NumbersTooLarge => StartFault::NumbersTooLarge,
     }
 }

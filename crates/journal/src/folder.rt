@@ -1,26 +1,40 @@
 //! The folder of a journal, which one server has at a time.
+use crate::boot::{BootId, read_boot_id};
+use crate::lock::{lock_folder, said_port, say_port, unsay_port};
 use crate::names::epoch_of;
 use std::alloc::{AllocError, Global};
-use std::fs::{self, File, OpenOptions, TryLockError};
-use std::io::{self, ErrorKind, Read, Seek, SeekFrom, Write};
+use std::fs::{self, DirBuilder, File};
+use std::io::{self, ErrorKind};
+use std::os::unix::fs::DirBuilderExt;
 use std::rt::Files;
 use thiserror::Error;
 
-/// The name of the file that a server locks.
-const LOCK: &str = "lock";
+/// The rights of a folder that is made: its owner's alone.
+const OWNERS: u32 = 0o700;
 
 /// Why a folder isn't opened.
 #[derive(Debug, Drop, Error)]
 pub enum FolderFault {
-    /// Another server has it. What it wrote into the lock is here: the port on which it listens.
+    /// Another server has it, which listens on this port.
     #[error("another server has it, on port {port}")]
     InUse {
-        /// The text of the lock.
-        port: String,
+        /// The port that the lock says.
+        port: u16,
     },
-    /// A file operation failed.
+    /// Another server has it, or a repair, and the lock says no port.
+    #[error("another server has it")]
+    InUseBySome,
+    /// An operation on the folder failed.
     #[error("{0}")]
     Failed(#[from] io::Error),
+    /// An operation on a file in it failed.
+    #[error("{name}: {error}")]
+    File {
+        /// The name of the file.
+        name: &'static str,
+        /// Why it failed.
+        error: io::Error,
+    },
     /// Memory was refused.
     #[error("out of memory")]
     Memory(#[from(alloc)] AllocError),
@@ -28,14 +42,15 @@ pub enum FolderFault {
 
 /// The folder of a journal. As long as this lives, no other server opens it.
 ///
-/// What is locked is the file `lock` in it, which holds the port. The system gives the lock back when the process ends, however
-/// that comes, so what a killed server leaves is taken over.
+/// What is locked is the folder itself, so no file that is changed or removed lets a second server in. The system gives the
+/// lock back when the process ends, however that comes. The file `lock` in it only says the port, for people.
 #[derive(Drop)]
 pub struct Folder {
     pub(crate) alloc: Global,
     pub(crate) path: String,
-    lock: File,
-    left_by: Option<String>,
+    pub(crate) boot: BootId,
+    held: File,
+    left_by: Option<u16>,
 }
 
 impl Folder {
@@ -49,26 +64,46 @@ impl Folder {
         path: &str,
         port: u16,
     ) -> Result<Folder, FolderFault> {
+        make_folders(rt, path)?;
+        let folder = Folder::lock(rt, path)?;
+        say_port(rt, path, port)?;
+        Ok(folder)
+    }
+
+    /// Locks a folder that is there, and says no port.
+    ///
+    /// # Errors
+    ///
+    /// It isn't there, another server has it, memory was refused, or a file operation failed.
+    pub fn lock<R: Files<File = File> + AllocGlobal>(
+        rt: &R,
+        path: &str,
+    ) -> Result<Folder, FolderFault> {
         let alloc = rt.alloc();
-        make_folder(rt, path)?;
+        let held = lock_folder(rt, path)?;
+        let left_by = said_port(rt, path)?;
         let path = String::from_str(alloc, path)?;
-        let name = format!(in alloc; "{path}/{LOCK}")?;
-        let (mut lock, left_by) = take_lock(rt, name.as_str())?;
-        write_port(alloc, &mut lock, port)?;
         Ok(Folder {
             alloc,
             path,
-            lock,
+            boot: read_boot_id(rt),
+            held,
             left_by,
         })
     }
 
-    /// What the lock said, where a server that has ended had left it.
-    pub fn left_by(&self) -> Option<&str> {
-        match &self.left_by {
-            Some(text) => Some(text.as_str()),
-            None => None,
-        }
+    /// Gives the folder up at an orderly end: from then on it says no port.
+    ///
+    /// # Errors
+    ///
+    /// Memory was refused, or the file that says the port could not be removed. The lock is given back in any case.
+    pub fn close<R: Files<File = File> + AllocGlobal>(self, rt: &R) -> Result<(), FolderFault> {
+        unsay_port(rt, self.path.as_str())
+    }
+
+    /// The port of a server that had the folder and ended without giving it up.
+    pub fn left_by(&self) -> Option<u16> {
+        self.left_by
     }
 
     /// The path of a file in it.
@@ -77,16 +112,21 @@ impl Folder {
         format!(in self.alloc; "{folder}/{name}")
     }
 
-    /// The numbers of the epochs that have a file, rising.
+    /// The numbers of the epochs that have a file, rising. A name that is no text is none of them.
     pub(crate) fn epochs<R: Files<File = File> + AllocGlobal + Clone + Drop>(
         &self,
         rt: &R,
     ) -> io::Result<Vec<u64>> {
         let mut epochs = Vec::new(self.alloc);
         for entry in fs::read_dir(rt, self.path.as_str())? {
-            let entry = entry?;
-            if let Some(epoch) = epoch_of(entry.file_name()) {
-                epochs.push(epoch)?;
+            match entry {
+                Ok(entry) => {
+                    if let Some(epoch) = epoch_of(entry.file_name()) {
+                        epochs.push(epoch)?;
+                    }
+                }
+                Err(error) if error.kind() == ErrorKind::InvalidFilename => {}
+                Err(error) => return Err(error),
             }
         }
         epochs.sort_unstable();
@@ -94,71 +134,44 @@ impl Folder {
     }
 
     /// Makes durable which files are in it.
-    pub(crate) fn sync<R: Files<File = File>>(&self, rt: &R) -> io::Result<()> {
-        let folder = fs::open(rt, self.path.as_str())?;
-        folder.sync_all()
+    pub(crate) fn sync(&self) -> io::Result<()> {
+        self.held.sync_all()
     }
 }
 
-/// Makes the folder if there is none, and makes durable that it is in the one above.
+/// Makes the folder, and each one above it, where there is none, and makes durable that it is in the one above.
+fn make_folders<R: Files<File = File> + AllocGlobal>(
+    rt: &R,
+    path: &str,
+) -> Result<(), FolderFault> {
+    for end in 1..path.len() {
+        if let Some((above, rest)) = path.split_at_checked(end)
+            && rest.starts_with('/')
+            && !above.ends_with('/')
+        {
+            make_folder(rt, above)?;
+        }
+    }
+    make_folder(rt, path)
+}
+
+/// Makes one folder, where there is none. That of one that was there is durable is tried too, since what made it may have been
+/// killed before it was.
 fn make_folder<R: Files<File = File> + AllocGlobal>(rt: &R, path: &str) -> Result<(), FolderFault> {
+    let above = format!(in rt.alloc(); "{path}/..")?;
     if fs::exists(rt, path)? {
+        let _synced = sync_folder(rt, above.as_str());
         return Ok(());
     }
-    fs::create_dir_all(rt, path)?;
-    let above = format!(in rt.alloc(); "{path}/..")?;
-    let above = fs::open(rt, above.as_str())?;
-    above.sync_all()?;
-    Ok(())
-}
-
-/// The lock of a new file, or else of the one that is there, with its text.
-fn take_lock<R: Files<File = File> + AllocGlobal>(
-    rt: &R,
-    name: &str,
-) -> Result<(File, Option<String>), FolderFault> {
-    let mut how = OpenOptions::new();
-    how.read(true).write(true).create_new(true);
-    match how.open(rt, name) {
-        Ok(file) => {
-            let file = locked(file, String::new(rt.alloc()))?;
-            Ok((file, None))
-        }
-        Err(error) if error.kind() == ErrorKind::AlreadyExists => take_over(rt, name),
-        Err(error) => Err(FolderFault::Failed(error)),
+    let mut how = DirBuilder::new();
+    how.mode(OWNERS);
+    match how.create(rt, path) {
+        Err(error) if error.kind() != ErrorKind::AlreadyExists => Err(FolderFault::Failed(error)),
+        _ => Ok(sync_folder(rt, above.as_str())?),
     }
 }
 
-/// The lock of a file that is there, emptied, and what its text was.
-fn take_over<R: Files<File = File> + AllocGlobal>(
-    rt: &R,
-    name: &str,
-) -> Result<(File, Option<String>), FolderFault> {
-    let alloc = rt.alloc();
-    let mut how = OpenOptions::new();
-    how.read(true).write(true);
-    let mut file = how.open(rt, name)?;
-    let mut text = String::new(alloc);
-    file.read_to_string(&mut text)?;
-    let text = String::from_str(alloc, text.trim_end())?;
-    let file = locked(file, String::from_str(alloc, text.as_str())?)?;
-    file.set_len(0)?;
-    Ok((file, Some(text)))
-}
-
-/// The file, locked, unless another server has it, whose port is this.
-fn locked(file: File, port: String) -> Result<File, FolderFault> {
-    match file.try_lock() {
-        Ok(()) => Ok(file),
-        Err(TryLockError::WouldBlock) => Err(FolderFault::InUse { port }),
-        Err(TryLockError::Error(error)) => Err(FolderFault::Failed(error)),
-    }
-}
-
-/// Writes the port into the lock.
-fn write_port(alloc: Global, lock: &mut File, port: u16) -> Result<(), FolderFault> {
-    let text = format!(in alloc; "{port}\n")?;
-    lock.seek(SeekFrom::Start(0))?;
-    lock.write_all(text.as_bytes())?;
-    Ok(())
+/// Makes durable which files are in a folder.
+fn sync_folder<R: Files<File = File>>(rt: &R, path: &str) -> io::Result<()> {
+    fs::open(rt, path)?.sync_all()
 }

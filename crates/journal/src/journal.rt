@@ -1,5 +1,5 @@
 //! The journal of one epoch.
-ghost use Rattle.std.specs.Prelude.{◌≡◌, ◌≤◌, [], length, false, Err, IfOk, IfSome, MatchResult, OnOk};
+ghost use Rattle.std.specs.Prelude.{◌≡◌, ◌≤◌, [], length, true, false, Err, IfOk, IfSome, MatchResult, OnOk};
 ghost use Rattle.streams.specs.Counts.{CountRose};
 ghost use Rattle.model.specs.History.{Chronicle, Extends};
 ghost use Rattle.journal.specs.Files.{TakesAll};
@@ -93,6 +93,8 @@ impl<F: Appended> Journal<F> {
             → OnOk result (HoldsDump self.new version.now) }
         ensures begins { (h : Chronicle) → HoldsDump self.old h → Extends version.now h
             → BeginsDump self.new version.now }
+        ensures said { OnOk result (F.said self.new.taken) }
+        ensures broken { self.old.broken ≡ true → result ≡ Err fault.Failed }
     {
         self.append_above(alloc, version)
     }
@@ -105,8 +107,10 @@ impl<F: Appended> Journal<F> {
         ensures memory { result ≡ Err fault.Memory → self.new ≡ self.old }
         ensures failed { result ≡ Err fault.Failed → FailsToAppend self.old self.new
             (lines_above self.old.place version.now.entries) }
+        ensures said { OnOk result (F.said self.new.taken) }
+        ensures broken { self.old.broken ≡ true → result ≡ Err fault.Failed }
     {
-        if self.broken {
+        if self.is_broken() {
             return Err(JournalFault::Failed);
         }
         let text = lines_above(alloc, version, self.place)?;
@@ -128,6 +132,7 @@ impl<F: Appended> Journal<F> {
         ensures told { OnOk result (F.told self.old.taken) }
         ensures failed { result ≡ Err fault.Failed → FailsToCover self.old self.new }
         ensures memory { result ≡ Err fault.Memory → ⊥ }
+        ensures broken { self.old.broken ≡ true → result ≡ Err fault.Failed }
         ensures held { (h : Chronicle) → HoldsDump self.old h → OnOk result (HoldsDump self.new h) }
         ensures begins { (h : Chronicle) → BeginsDump self.old h → BeginsDump self.new h }
     {
@@ -141,6 +146,7 @@ impl<F: Appended> Journal<F> {
         ensures told { OnOk result (F.told self.old.taken) }
         ensures failed { result ≡ Err fault.Failed → FailsToCover self.old self.new }
         ensures memory { result ≡ Err fault.Memory → ⊥ }
+        ensures broken { self.old.broken ≡ true → result ≡ Err fault.Failed }
     {
         if self.broken {
             return Err(JournalFault::Failed);

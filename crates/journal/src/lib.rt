@@ -5,28 +5,38 @@
 #![tactic(auto)]
 
 mod appended;
+mod boot;
 mod disk_file;
 mod epochs;
 mod fault;
+mod finishing;
 mod folder;
 mod journal;
 mod lines;
+mod lock;
+mod mark;
+mod mark_file;
 mod names;
 mod next_line;
 mod reading;
+mod repair;
 mod replayed;
 mod restored;
 pub mod scripted;
 mod start_fault;
 mod started;
+pub mod surviving;
 
 pub use appended::Appended;
+pub use boot::BootId;
 pub use disk_file::DiskFile;
 pub use fault::JournalFault;
 pub use folder::{Folder, FolderFault};
 pub use journal::Journal;
+pub use mark::Mark;
 pub use reading::restore;
-pub use restored::{Restored, Unrestored};
+pub use repair::{Cut, Repaired};
+pub use restored::{End, Raise, Restored, Unrestored};
 pub use start_fault::StartFault;
-pub use started::{Begun, Cut, Started};
+pub use started::{Begun, Dropped, Started};
 pub use streams::Failed;

@@ -87,15 +87,21 @@ fn fail(failures: &mut u64) -> Failed
 }
 
 impl Appended for ScriptedFile<'_> {
-    ghost use Rattle.std.specs.Prelude.{Some, ⊤};
+    ghost use Rattle.std.specs.Prelude.{Some, ⊤, length, refl};
 
     ghost taken = { λ f. Some f.taken.items };
 
     ghost covered = { λ f. Some f.covered.items };
 
+    ghost size = { λ f. length f.taken.items };
+
+    ghost synced_size = { λ f. length f.covered.items };
+
     ghost failed = { λ f. f.failures };
 
     ghost told = { λ _. ⊤ };
+
+    ghost said = { λ _. ⊤ };
 
     fn append(&mut self, bytes: &[u8]) -> Result<(), Failed> {
         if bytes.is_empty() {
@@ -121,6 +127,10 @@ impl Appended for ScriptedFile<'_> {
             Step::FailAfter(_) => Err(fail(&mut self.failures)),
         }
     }
+
+    ghost counted = { λ f. refl };
+
+    ghost counted_synced = { λ f. refl };
 }
 
 /// Appends all the bytes, or none where there is no room.

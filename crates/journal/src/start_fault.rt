@@ -1,7 +1,9 @@
 //! Why no epoch begins.
+ghost use Rattle.std.specs.Prelude.{◌≡◌, MatchResult, Ok};
+ghost use Rattle.journal.specs.Starting.{IsOfFiles};
 
 use replay_cli::Verdict;
-use std::alloc::AllocError;
+use std::alloc::{AllocError, Global};
 use std::io;
 use thiserror::Error;
 
@@ -22,9 +24,17 @@ pub enum StartFault {
     /// 9999999999 epochs have a file.
     #[error("no epoch has a number above 9999999999")]
     LastEpoch,
-    /// A file operation failed.
+    /// An operation on the folder failed.
     #[error("{0}")]
     Failed(io::Error),
+    /// An operation on a file in it failed.
+    #[error("{name}: {error}")]
+    File {
+        /// The name of the file.
+        name: String,
+        /// Why it failed.
+        error: io::Error,
+    },
     /// The new file's first line could not be written.
     #[error("the first line of a new file could not be written")]
     Unwritten,
@@ -52,5 +62,22 @@ impl From<AllocError> for StartFault {
 
     fn from(_refused: AllocError) -> StartFault {
         StartFault::Memory
+    }
+}
+
+/// What an operation on the file of this name answered.
+pub(crate) fn of_file<T: Drop>(
+    alloc: Global,
+    name: &str,
+    outcome: io::Result<T>,
+) -> Result<T, StartFault>
+    ensures { MatchResult result (λ value. outcome ≡ Ok value) IsOfFiles }
+{
+    match outcome {
+        Ok(value) => Ok(value),
+        Err(error) => Err(StartFault::File {
+            name: String::from_str(alloc, name)?,
+            error,
+        }),
     }
 }

@@ -6,6 +6,7 @@ ghost use Rattle.journal.specs.Held.{begun, HoldsDump};
 
 use crate::disk_file::DiskFile;
 use crate::journal::Journal;
+use crate::mark::Mark;
 use snapshots::Version;
 
 /// An epoch that begins, with its journal.
@@ -21,13 +22,15 @@ pub struct Begun {
     ghost held: { HoldsDump journal (begun version.base) } by { Prim.hlevel props },
 }
 
-/// A last line that was cut, and so isn't read.
+/// What is dropped of a file: all behind the last line that was taken. No sync covered it.
 #[derive(Clone, Copy)]
-pub struct Cut {
-    /// The place that its entry would have had.
+pub struct Dropped {
+    /// The place of the last entry that was taken.
     pub place: u64,
-    /// How many bytes of it there are.
+    /// How many bytes are dropped.
     pub bytes: u64,
+    /// Whether whole lines are among them, and not only a last one that was cut.
+    pub torn: bool,
 }
 
 /// What a server starts with.
@@ -35,8 +38,18 @@ pub struct Cut {
 pub struct Started {
     /// The epoch that begins.
     pub begun: Begun,
-    /// How many entries were read of the newest file.
+    /// The epoch whose file was read: the newest, where there is one.
+    pub read: Option<u64>,
+    /// What the mark said of that file.
+    pub mark: Option<Mark>,
+    /// An epoch above it of which the mark is, whose file is missing.
+    pub ahead: Option<u64>,
+    /// How many entries were read of it.
     pub places: u64,
-    /// Its last line, where that was cut.
-    pub cut: Option<Cut>,
+    /// What of it is dropped.
+    pub dropped: Option<Dropped>,
+    /// How many bytes it lacks of those that the mark says were synced.
+    pub missing: u64,
+    /// Whether update numbers go on above all that an earlier server showed, since some of them may be lost.
+    pub raised: bool,
 }

@@ -1,4 +1,4 @@
--- What may cross threads: what a keeper leaves, and a session that waits for what is kept.
+-- What may cross threads: what lies under a pen, and a session that answers what a journal has.
 use denote.RattleType.{RattleType}
 use denote.Ref.{NamedLft}
 use denote.Param.Send.{IsSend, IsSync, sendable}
@@ -7,20 +7,26 @@ use Rattle.snapshots.proofs.Crossing as versions
 use Rattle.journal.specs.contracts.journal.Journal as Journal
 use Rattle.journal.specs.declared.appended.Appended as Appended
 use Rattle.durable_calls.specs.contracts.durable.Durable as Durable
-use Rattle.durable_calls.specs.declared.kept_place.Keeping as Keeping
+use Rattle.durable_calls.specs.declared.keeping.Keeping as Keeping
 use Rattle.journal_front.specs.contracts.epochs.Epoch as Epoch
-use Rattle.journal_front.specs.contracts.keeper.Left as Left
+use Rattle.journal_front.specs.contracts.pen.Pen as Pen
+use Rattle.journal_front.specs.contracts.pen.Round as Round
 
 module _ (F : RattleType) (a : Appended.Ghosts F.Denot) where
-  journal-send : IsSend F → IsSend (Journal.the_row F a)
+  pub journal-send : IsSend F → IsSend (Journal.the_row F a)
   journal-send f = search (std.crosses, sendable) depth 60
 
-  epoch-send : IsSend F → IsSend (Epoch.the_row F a)
+  pub epoch-send : IsSend F → IsSend (Epoch.the_row F a)
   epoch-send f = search (journal-send, versions.crosses) depth 60
 
-  pub left-send : (K : RattleType) → IsSend K → IsSend F → IsSend (Left.the_row K F a)
-  left-send K k f = search (journal-send, epoch-send, std.crosses, sendable) depth 60
+module _ (p : NamedLft) (S N P R : RattleType) (n : Keeping.Ghosts N.Denot) where
+  pub durable-send : IsSend S → IsSync N → IsSync P → IsSync R → IsSend (Durable.the_row p S N P R n)
+  durable-send s k q r = search (std.crosses, sendable) depth 60
 
-module _ (p : NamedLft) (S N : RattleType) (n : Keeping.Ghosts N.Denot) where
-  pub durable-send : IsSend S → IsSync N → IsSend (Durable.the_row p S N n)
-  durable-send s k = search (std.crosses, sendable) depth 60
+-- What lies under a pen is handed on, so the pen may be shared. What its bounds know follows the types.
+module _ (K F N L E : RattleType) where
+  pub round-send : (v : _) (w : _) (x : _) (y : _) (z : _) → IsSend K → IsSend F → IsSend N → IsSend L → IsSend E → IsSend (Round.the_row K F N L E v w x y z)
+  round-send v w x y z sk sf sn sl se = search (journal-send, epoch-send, std.crosses, sendable) depth 60
+
+  pub pen-sync : (s : NamedLft) (v : _) (w : _) (x : _) (y : _) (z : _) → IsSend K → IsSend F → IsSend N → IsSync N → IsSend L → IsSync L → IsSend E → IsSync (Pen.the_row s K F N L E v w x y z)
+  pen-sync s v w x y z sk sf sn yn sl yl se = search (round-send, std.crosses, sendable) depth 60

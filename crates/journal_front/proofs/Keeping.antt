@@ -1,22 +1,29 @@
 -- What a journal keeps of a history that goes on.
-use Rattle.std.proofs.Common.{◌≡◌, ℕ, ◌≤◌, [], ◌++◌, length, Ok, Err, Some, None, refl, ap, sym, ◌∙◌, subst, arith, append_assoc, length-append}
-use Rattle.std.specs.Prelude.{List, OnOk, Option, Result, ⊤}
+use Rattle.std.proofs.Common.{◌≡◌, ◌⊎◌, ◌+◌, ℕ, ◌≤◌, [], ◌++◌, length, true, false, Ok, Err, Some, None, inl, inr, refl, ap, sym, ◌∙◌, subst, arith, append_assoc, length-append}
+use Rattle.std.specs.Prelude.{List, IfSome, OnOk, Option, Result, is_some, option_map, ⊤}
 use Rattle.std.proofs.lemmas.List.{append-nil, nil_from_length}
 use Rattle.model.specs.Command.{Entry}
 use Rattle.model.specs.Database.{Database}
-use Rattle.model.specs.History.{Chronicle, Extends, IsLegal, base_of}
+use Rattle.model.specs.History.{Chronicle, IsLegal, base_of, now, successor}
 use Rattle.http_handlers.specs.Calls.{Learns, Looks}
 use Rattle.http_handlers.specs.Deeds.{Refreshed}
 use Rattle.http_handlers.specs.Known.{Known, history_of}
 use Rattle.http_handlers.specs.declared.calls.CallFault.{CallFault}
 use Rattle.journal.specs.Kept.{Kept}
+use Rattle.replay_cli.specs.Successors.{raise}
 use Rattle.journal.specs.Held.{AreDump, BeginsDump, HoldsDump}
-use Rattle.journal_front.specs.Keeping.{HoldsAll, IsBehind, IsKeptIn}
+use Rattle.journal.proofs.Grown.{begins_more}
+use Rattle.journal_front.specs.Keeping.{HoldsAll, IsBehind, IsKeptIn, IsLimitIn, IsRound, IsToldIn, Names}
 
 -- what holds after a call that succeeded gives what follows from it
 pub on_ok : {A E P Q : Type 0} (r : Result A E) → (P → Q) → OnOk r P → OnOk r Q
 on_ok (Ok done) gives holds = gives holds
 on_ok (Err why) gives holds = holds
+
+-- and so does what was found
+pub on_some : {A : Type 0} {P Q : A → Type 0} (o : Option A) → ((a : A) → P a → Q a) → IfSome o P → IfSome o Q
+on_some None gives holds = holds
+on_some (Some a) gives holds = gives a holds
 
 pub looked : (old new : Known) (answer : Result ⊤ CallFault) → Learns old (Refreshed answer) new → Looks old new
 looked old new (Ok done) learns = learns.0
@@ -60,7 +67,11 @@ dump_begins k h holds = begins k.taken holds.taken_is
     begins None is = is
     begins (Some text) is = ([], append-nil text ∙ is)
 
--- and so is one that is the dump of what was seen before
+-- and so is one that is the dump of a beginning of it
+pub behind_begins : (k : Kept) (known : Known) → IsBehind k known → BeginsDump k (history_of known)
+behind_begins k known behind = begins_more k k behind.history (history_of known) behind.holds behind.extends refl
+
+-- a journal that is the dump of what was seen is that of a beginning
 pub holds_behind : (k : Kept) (known : Known) → HoldsDump k (history_of known) → IsBehind k known
 holds_behind k known holds = record {
   history = history_of known;
@@ -68,15 +79,54 @@ holds_behind k known holds = record {
   extends = record { base = refl; more = []; entries = sym (append-nil known.seen) };
 }
 
--- what a sync has told, of the dump of all that was seen
-pub kept_in : (told : Option (List ℕ) → Type 0) (base : Option Database) (k : Kept) (known : Known) (place : ℕ) → HoldsAll k known → known.base ≡ base → told k.taken → place ≡ k.place
-    → IsKeptIn told base place
-kept_in told base k known place all same told_so is = record {
-  kept = k;
-  history = history_of known;
-  holds = all.holds;
-  told_so = told_so;
-  legal = subst (λ (b : Option Database). IsLegal (base_of b) known.seen) same all.legal;
-  base_is = same;
-  place_is = is ∙ all.holds.place_is;
-}
+-- what an append or a sync has told, of the dump of all that was seen
+pub told_in : (told : Option (List ℕ) → Type 0) (k : Kept) (known : Known) → HoldsAll k known → told k.taken → IsToldIn told known.base (history_of known)
+told_in told k known all told_so = record { kept = k; holds = all.holds; told_so = told_so; legal = all.legal; base_is = refl }
+
+pub kept_in : (told : Option (List ℕ) → Type 0) (k : Kept) (known : Known) (place : ℕ) → HoldsAll k known → told k.taken → place ≡ k.place → IsKeptIn told known.base place
+kept_in told k known place all told_so is = (history_of known, told_in told k known all told_so, is ∙ all.holds.place_is)
+
+pub limit_in : (told : Option (List ℕ) → Type 0) (k : Kept) (known : Known) (limit : ℕ) → HoldsAll k known → told k.taken → limit ≤ (now (history_of known)).update_seq + raise → IsLimitIn told known.base limit
+limit_in told k known limit all told_so within = inr (history_of known, told_in told k known all told_so, within)
+
+-- names over the same base
+module _ (said told : Option (List ℕ) → Type 0) (reported : Type 0) (is_appended is_kept is_limit : ℕ → Type 0) (has_failed : Type 0) where
+  pub names_over : (old new : Option Database) → Names said told reported is_appended is_kept is_limit has_failed old → new ≡ old → Names said told reported is_appended is_kept is_limit has_failed new
+  names_over old new names same = subst (λ (b : Option Database). Names said told reported is_appended is_kept is_limit has_failed b) (sym same) names
+
+-- names by one of two reports
+pub names_first : (said told : Option (List ℕ) → Type 0) (one other : Type 0) (is_appended is_kept is_limit : ℕ → Type 0) (has_failed : Type 0) (base : Option Database)
+    → Names said told (one ⊎ other) is_appended is_kept is_limit has_failed base → Names said told one is_appended is_kept is_limit has_failed base
+names_first said told one other is_appended is_kept is_limit has_failed base names =
+    record { appended = names.appended; kept = names.kept; limit = names.limit; failed = λ reported. names.failed (inl reported) }
+
+-- what lies under a pen while the journal is whole, once it is broken, and once the next epoch has begun
+module _ (has_failed : Type 0) (known : Known) (k : Kept) where
+  pub round_behind : (next : Option (Option Database)) → next ≡ None → IsBehind k known → BeginsDump k (history_of known) → IsRound has_failed known k next
+  round_behind next none behind begins = record {
+    behind = λ _. behind;
+    begins = begins;
+    failed = λ broken. absurd (cc (broken, behind.holds.sound));
+    next_is = subst (λ (n : Option (Option Database)). IfSome n (λ base. base ≡ Some (successor (now (history_of known))))) (sym none) tt;
+  }
+
+  pub round_broken : (next : Option (Option Database)) → next ≡ None → k.broken ≡ true → has_failed → BeginsDump k (history_of known) → IsRound has_failed known k next
+  round_broken next none broken failed begins = record {
+    behind = λ sound. absurd (cc (broken, sound));
+    begins = begins;
+    failed = λ _. failed;
+    next_is = subst (λ (n : Option (Option Database)). IfSome n (λ base. base ≡ Some (successor (now (history_of known))))) (sym none) tt;
+  }
+
+  pub round_next : (next : Option (Option Database)) → IfSome next (λ base. base ≡ Some (successor (now (history_of known)))) → HoldsAll k known → BeginsDump k (history_of known) → IsRound has_failed known k next
+  round_next next next_is all begins = record {
+    behind = λ _. holds_behind k known all.holds;
+    begins = begins;
+    failed = λ broken. absurd (cc (broken, all.holds.sound));
+    next_is = next_is;
+  }
+
+-- no next epoch has begun
+pub none_of : {A B : Type 0} (f : A → B) (o : Option A) → is_some o ≡ false → option_map f o ≡ None
+none_of f None none = refl
+none_of f (Some a) none = absurd (cc none)

@@ -1,3 +1,4 @@
 pub mod Crossing
+pub mod Ending
 pub mod Keeping
 pub mod Served

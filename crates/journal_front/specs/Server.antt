@@ -1,19 +1,20 @@
 -- A run of a server whose history a journal keeps.
-use Rattle.std.specs.Prelude.{◌≡◌, ℕ, ◌+◌, ◌<◌, Bool, true, false, List, [], ◌∷◌, ◌++◌, length, map, slice_index_or, Option, Some, IfSome}
+use Rattle.std.specs.Prelude.{◌≡◌, ◌||◌, ℕ, ◌+◌, ◌<◌, Bool, true, false, List, [], ◌∷◌, ◌++◌, length, map, slice_index_or, MatchBool, Option, Some, IfSome}
 use Rattle.std.specs.List.{FoldsTo}
 use Rattle.model.specs.Database.{Database}
-use Rattle.model.specs.History.{successor}
+use Rattle.model.specs.History.{Chronicle, successor}
 use Rattle.model.specs.World.{Config}
 use Rattle.history_lock.specs.Ending.{Ending, Ends}
 use Rattle.history_lock.specs.Successors.{last_database}
-use Rattle.sessions.specs.Known.{Known as KnownOfThreads, fresh, seen}
+use Rattle.sessions.specs.Known.{Known as KnownOfThreads, fresh}
 use Rattle.http_handlers.specs.Deeds.{Deed}
 use Rattle.http_handlers.specs.Known.{Known}
 use Rattle.http_handlers.specs.Listening.{ServesSome}
 use Rattle.http_handlers.specs.Sessions.{Goes, known_of as known_of_session}
 use Rattle.durable_calls.specs.Kept.{GoesKept}
-use Rattle.journal.specs.Held.{BeginsDump}
+use Rattle.journal.specs.Held.{BeginsDump, HoldsDump}
 use Rattle.journal.specs.Kept.{Kept}
+use Rattle.journal_front.specs.Keeping.{IsKeptIn, IsLimitIn}
 use Rattle.journal_front.specs.declared.policy.SyncPolicy.{SyncPolicy}
 use Rattle.journal_front.specs.declared.policy.SyncPolicy.TheVariants as policy
 
@@ -23,35 +24,89 @@ awaits policy.Always = true
 awaits policy.EverySecond = false
 awaits policy.Never = false
 
--- of a database over this base that was opened with these numbers, whose places are kept so
-module _ (base : Option Database) (config : Config) (is_kept : ℕ → Type 0) where
+-- the policy asks for syncs
+abbrev pub syncs : SyncPolicy → Bool
+syncs policy.Always = true
+syncs policy.EverySecond = true
+syncs policy.Never = false
+
+-- so many nanoseconds after a sync the time of the next one has come, where there is one each second: a pause of the keeper may follow
+abbrev pub sync_nanoseconds : ℕ
+sync_nanoseconds = 900000000
+
+-- A sync is due where no more entries come, or the time has come since the last one.
+abbrev pub is_due : SyncPolicy → Bool → Bool → Bool
+is_due policy.Always last came = true
+is_due policy.EverySecond last came = last || came
+is_due policy.Never last came = false
+
+-- By what a session does and knows, where this is known of the places up to which a journal has entries, of the limits of its
+-- numbers, and once the journal has failed.
+module _ {S : Type 0} (goes : S → Deed → S → Type 0) (known : S → Known) (is_appended is_kept is_limit : ℕ → Type 0) (has_failed : Type 0) where
+  -- sessions served connections, each of which answered what the journal has, and awaited or not that it is kept
+  pub record ServesDurably (waits : Bool) (turns connections : ℕ) (before after : List S) : Type 0 where
+    pub finals : List (S × Bool)
+    pub after_is : after ≡ map (λ (k : S × Bool). k.0) finals
+    pub count : length finals ≡ length before
+    pub each : (i : ℕ) (d : S × Bool) → i < length before
+        → ServesSome (λ old deed new. GoesKept goes known is_appended is_kept is_limit has_failed old deed new) (λ (k : S × Bool). known k.0) turns connections
+        (slice_index_or before i d.0, waits) (slice_index_or finals i d)
+
+-- Of a database over this base that was opened with these numbers, where this is known of the places up to which its journal has
+-- entries, of the limits of its numbers, and once the journal has failed.
+module _ (base : Option Database) (config : Config) (is_appended is_kept is_limit : ℕ → Type 0) (has_failed : Type 0) where
   -- by this call with this answer a session goes from one state to another
   abbrev pub GoesBy : KnownOfThreads × Bool → Deed → KnownOfThreads × Bool → Type 0
-  GoesBy old deed new = GoesKept (λ o d n. Goes base config config.sessions config.queue o d n) is_kept old deed new
+  GoesBy old deed new =
+      GoesKept (λ o d n. Goes base config config.sessions config.queue o d n) (λ k. known_of_session base config config.sessions config.queue k)
+      is_appended is_kept is_limit has_failed old deed new
 
   -- what a connection sees of what a session knows
   abbrev pub known_of : KnownOfThreads × Bool → Known
   known_of k = known_of_session base config config.sessions config.queue k.0
 
-  -- All sessions but the keeper's, each of which answers a write as it waits for what is kept, served connections, and the
-  -- database was closed: its last history is legal, goes on from what each session and the keeper's has seen, and has exactly
-  -- the entries with a receipt of each that is not lost.
+  -- All sessions but the keeper's, each of which answers what the journal has, served connections, and the database was
+  -- closed: its last history is legal, goes on from what each session and the keeper's has seen, and has exactly the entries
+  -- with a receipt of each that is not lost.
   pub record ServesKept (waits : Bool) (turns connections : ℕ) (keeper : KnownOfThreads) (end : Ending) : Type 0 where
     pub finals : List (KnownOfThreads × Bool)
     pub count : length finals + 1 ≡ config.sessions
     pub each : (i : ℕ) (d : KnownOfThreads × Bool) → i < length finals → ServesSome GoesBy known_of turns connections (fresh i, waits) (slice_index_or finals i d)
     pub ends : Ends base (map (λ (k : KnownOfThreads × Bool). k.0) finals ++ keeper ∷ []) end
 
--- of epochs whose databases are opened with these numbers, and whose places are kept so over each base
-module _ (config : Config) (is_kept : Option Database → ℕ → Type 0) (waits : Bool) (turns connections : ℕ) where
-  -- An epoch over a base was served to its end, and its journal holds a beginning of the dump of what its keeper has seen. If
-  -- another one begins, then over the last database, in which no session has called.
-  pub record EndsEpoch (base : Option Database) (journal : Kept) (next : Option (Option Database)) : Type 0 where
-    pub keeper : KnownOfThreads
-    pub end : Ending
-    pub served : ServesKept base config (is_kept base) waits turns connections keeper end
-    pub begins : BeginsDump journal (record { base = base; entries = seen keeper })
-    pub next_is : IfSome next (λ over. over ≡ Some (successor (last_database base end)))
+-- The journal at the end of an epoch: it is the dump of the whole last history, and where syncs are asked for all of it is
+-- covered. Or it is broken, which was reported, and a beginning of that dump.
+abbrev pub EndsWhole : Bool → Type 0 → Chronicle → Kept → Type 0
+EndsWhole synced has_failed history journal =
+    MatchBool journal.broken (has_failed × BeginsDump journal history)
+    (HoldsDump journal history × (synced ≡ true → journal.synced ≡ journal.place))
+
+-- A database over this base was closed whose sessions had come so far: its last history is legal, goes on from what each has
+-- seen, and has exactly the entries with a receipt of each that is not lost. Its journal has the whole of it; and if another epoch
+-- begins, then over the last database.
+pub record ClosesKept (base : Option Database) (has_failed : Type 0) (policy : SyncPolicy) (sessions : List KnownOfThreads) (journal : Kept) (next : Option (Option Database)) : Type 0 where
+  pub end : Ending
+  pub ends : Ends base sessions end
+  pub whole : EndsWhole (syncs policy) has_failed (record { base = base; entries = end.history }) journal
+  pub next_is : IfSome next (λ over. over ≡ Some (successor (last_database base end)))
+
+-- An epoch over a base was served to its end, and its journal has the whole last history. If another one begins, then over
+-- the last database, in which no session has called.
+pub record EndsEpochOver (config : Config) (is_appended is_kept is_limit : ℕ → Type 0) (has_failed : Type 0) (policy : SyncPolicy) (turns connections : ℕ) (base : Option Database) (journal : Kept)
+    (next : Option (Option Database)) : Type 0 where
+  pub keeper : KnownOfThreads
+  pub end : Ending
+  pub served : ServesKept base config is_appended is_kept is_limit has_failed (awaits policy) turns connections keeper end
+  pub whole : EndsWhole (syncs policy) has_failed (record { base = base; entries = end.history }) journal
+  pub next_is : IfSome next (λ over. over ≡ Some (successor (last_database base end)))
+
+-- Of epochs whose databases are opened with these numbers: what an append of a file has said, what a sync of it has told, and what
+-- is known once a failure was reported.
+module _ (config : Config) (said told : Option (List ℕ) → Type 0) (has_failed : Type 0) (policy : SyncPolicy) (turns connections : ℕ) where
+  -- the same, where places are appended by what appends have said, and kept by what syncs have told
+  abbrev pub EndsEpoch : Option Database → Kept → Option (Option Database) → Type 0
+  EndsEpoch base journal next =
+      EndsEpochOver config (IsKeptIn said base) (IsKeptIn told base) (IsLimitIn told base) has_failed policy turns connections base journal next
 
   -- an epoch that ended so, after which the next one began
   abbrev pub GoesOnAfter : Option Database → Kept → Option Database → Type 0

@@ -1,5 +1,5 @@
 //! Epochs, one after another.
-ghost use Rattle.std.specs.Prelude.{◌≡◌, Some, IfSome};
+ghost use Rattle.std.specs.Prelude.{◌≡◌, Some, None, IfSome};
 ghost use Rattle.std.specs.Coded.{Coded-set};
 ghost use Rattle.std.proofs.Props.{props};
 ghost use Rattle.model.specs.History.{now, successor};
@@ -9,7 +9,6 @@ use journal::{Appended, Journal};
 use snapshots::Version;
 
 /// An epoch that begins, with its journal.
-#[derive(Drop)]
 pub struct Epoch<F: Appended> {
     /// What the database begins with: its base, and no entries.
     pub version: Version,
@@ -19,13 +18,39 @@ pub struct Epoch<F: Appended> {
     ghost held: { HoldsDump journal (begun version.base) } by { Prim.hlevel props },
 }
 
+impl<F: Appended> Drop for Epoch<F> {
+    fn drop(self) {
+        let Epoch {
+            version: _,
+            journal: _,
+        } = self;
+    }
+}
+
+impl<F: Appended> Epoch<F> {
+    /// The version and the journal.
+    pub(crate) fn into_parts(self) -> (Version, Journal<F>)
+        ensures version { result.0 ≡ begun self.version.base }
+        ensures journal { HoldsDump result.1 (begun self.version.base) }
+    {
+        let Epoch { version, journal } = self;
+        (version, journal)
+    }
+}
+
 /// Where the epochs of a database come from.
 pub trait Epochs<F: Appended> {
-    /// Begins the epoch after one whose history is full, at this version, of which this journal has all entries: over its last
-    /// database, in which no session has called. Nothing where that can't be, which is said: then nothing more is written.
+    /// It was reported that no next epoch begins.
+    ghost reported: { Type 0 };
+
+    /// Begins the epoch after one whose history is full, at this version, of which this journal has all entries, synced: over its
+    /// last database, in which no session has called. Nothing where that can't be, which is reported: then nothing more is
+    /// written.
     fn succeed(&mut self, full: &Journal<F>, last: &Version) -> Option<Epoch<F>>
         requires held { HoldsDump full.now last.now }
-        ensures base { IfSome result (λ next. next.version.base ≡ Some (successor (now last.now))) };
+        requires synced { full.now.synced ≡ full.now.place }
+        ensures base { IfSome result (λ next. next.version.base ≡ Some (successor (now last.now))) }
+        ensures reported { result ≡ None → reported };
 
     /// The epoch ends. Wakes the workers that wait for a connection, so many of them.
     fn wake(&self, workers: u16);

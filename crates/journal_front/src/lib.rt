@@ -1,11 +1,17 @@
 //! A server whose history a journal keeps.
 //!
-//! One session of the database is the keeper's. On a thread of its own it looks at what is published, appends the lines of new
-//! entries to the journal, many at a time, and syncs as the policy says. The other sessions serve connections.
+//! The journal of an epoch and a session that sees what is to be appended to it lie under a pen. Who has written takes the pen, and
+//! appends all that is new in one write before the answer; where that is awaited one sync makes it durable. The keeper, on a
+//! thread of its own, does what time brings: the sync of each second, the next epoch once the history is full, and the last pass.
 #![tactic(auto)]
 
+mod appending;
+mod closing;
+mod completing;
 mod epochs;
 mod keeper;
+mod notices;
+mod pen;
 mod policy;
 mod server;
 mod service;
@@ -13,7 +19,7 @@ mod serving;
 mod waiting;
 
 pub use epochs::{Epoch, Epochs};
-pub use keeper::Notices;
+pub use notices::Notices;
 pub use policy::SyncPolicy;
 pub use server::run_kept;
 pub use service::Service;

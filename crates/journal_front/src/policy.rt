@@ -1,15 +1,11 @@
 //! When a journal is synced.
 ghost use Rattle.std.specs.Prelude.{◌≡◌};
-ghost use Rattle.journal_front.specs.Server.{awaits};
+ghost use Rattle.journal_front.specs.Server.{awaits, is_due, syncs};
 
-/// After so many passes of the keeper what was appended is synced, where it is once a second: 8 pauses of 100 milliseconds,
-/// and what the passes take.
-const PASSES_A_SECOND: u64 = 8;
-
-/// When what was appended to a journal is synced.
+/// When what was appended to a journal is synced. It is appended before it is answered, whichever it is.
 #[derive(Clone, Copy, Debug, PartialEq, Eq)]
 pub enum SyncPolicy {
-    /// Before a write is answered.
+    /// Before it is answered.
     Always,
     /// At most a second apart, while there is something new.
     EverySecond,
@@ -18,23 +14,27 @@ pub enum SyncPolicy {
 }
 
 impl SyncPolicy {
-    /// Whether a write is answered only when its entry is kept.
+    /// Whether a call is answered only when what it shows is kept.
     pub fn awaits(self) -> bool
         ensures { result ≡ awaits self }
     {
         self == SyncPolicy::Always
     }
 
-    /// Whether anything is ever synced.
-    pub(crate) fn syncs(self) -> bool {
+    /// Whether syncs are asked for.
+    pub(crate) fn syncs(self) -> bool
+        ensures { result ≡ syncs self }
+    {
         self != SyncPolicy::Never
     }
 
-    /// Whether a sync is due in this pass of the keeper, counted from 0, or in its last one.
-    pub(crate) fn is_due(self, pass: u64, last: bool) -> bool {
+    /// Whether a sync is due in a pass of the keeper: where it is the last one, or where the time has come.
+    pub(crate) fn is_due(self, last: bool, came: bool) -> bool
+        ensures { result ≡ is_due self last came }
+    {
         match self {
             SyncPolicy::Always => true,
-            SyncPolicy::EverySecond => last || pass % PASSES_A_SECOND == PASSES_A_SECOND - 1,
+            SyncPolicy::EverySecond => last || came,
             SyncPolicy::Never => false,
         }
     }

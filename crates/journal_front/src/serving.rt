@@ -1,17 +1,20 @@
 //! Workers that serve connections, and beside them the keeper of the journal.
-ghost use Rattle.std.specs.Prelude.{◌≡◌, ◌<◌, ℕ, Some, length, slice_index_or, IfSome};
-ghost use Rattle.http_handlers.specs.Known.{history_of};
+ghost use Rattle.std.specs.Prelude.{◌≡◌, ◌<◌, ◌≤◌, ◌+◌, ℕ, [], length, option_map, slice_index_or, vec_capacity, IfSome};
+ghost use Rattle.http_front.specs.Server.{server_turns};
 ghost use Rattle.http_handlers.specs.Listening.{ServesSome};
-ghost use Rattle.journal.specs.Held.{BeginsDump};
-ghost use Rattle.model.specs.History.{now, successor};
-ghost use Rattle.journal_front.specs.Keeping.{IsBehind, IsKeptIn};
+ghost use Rattle.journal_front.specs.Keeping.{IsRound};
+ghost use Rattle.journal_front.specs.Server.{ServesDurably, awaits};
 
 use crate::epochs::Epochs;
-use crate::keeper::{Left, Notices, keep};
+use crate::keeper::{Upkeep, keep};
+use crate::notices::Notices;
+use crate::pen::{Left, Pen, Round};
 use crate::service::Service;
+use crate::waiting::{all_durable, all_inner};
 use durable_calls::{Keeping, KeptPlace};
-use http_handlers::{Calls, Setting, Viewer, Watch, Workers, listen};
-use journal::{Appended, Journal};
+use http_front::SERVER_TURNS;
+use http_handlers::{Calls, Setting, Watch, Workers, listen};
+use journal::Appended;
 use std::sync::Wait;
 use std::thread;
 use std::thread::Threads;
@@ -20,49 +23,122 @@ use std::time::{Clock, Duration};
 /// So many seconds the keeper is waited for at its start.
 const KEEPER_SECONDS: u64 = 10;
 
-/// Serves connections by sessions, while another one sees what the journal keeps.
-pub(crate) fn serve_beside<
+/// Serves connections by sessions that answer what a journal has, until no more entries come. It answers the sessions, with room
+/// for one more, and what then lies under the pen. It answers nothing where memory was refused.
+pub(crate) fn serve_kept<
     A: AllocGlobal + Threads + Wait + Clock + Sync,
     S: Calls<A> + Send + Drop,
-    K: Viewer + Send + Drop,
+    N: Keeping + Send + Sync,
     F: Appended + Send,
-    N: Keeping + Sync,
-    L: Notices<F> + Watch + Sync,
+    L: Notices<F> + Watch + Sync + Send,
+    E: Epochs<F> + Send,
+>(
+    service: &Service<'_, L>,
+    workers: &Workers<'_, L>,
+    sessions: Vec<S>,
+    round: Round<S, F, N, L, E>,
+    place: &KeptPlace<N>,
+    epochs: &mut E,
+    rt: &A,
+) -> Option<(Vec<S>, Left<S, F>)>
+    ensures served { IfSome result (λ served. ServesDurably S.goes S.known N.is_appended N.is_kept N.is_limit N.has_failed
+        (awaits service.now.policy) server_turns service.now.terms.connections sessions.items served.0.items) }
+    ensures room { IfSome result (λ served. length served.0.items + 1 ≤ vec_capacity served.0) }
+    ensures round { IfSome result (λ served. IsRound N.has_failed (S.known served.1.session) served.1.journal
+        (option_map (λ next. next.version.base) served.1.next)) }
+{
+    let alloc = rt.alloc();
+    let Ok(room) = Vec::with_capacity(alloc, sessions.len() + 1) else {
+        return None;
+    };
+    let Ok(setting) = Setting::new(alloc, rt, SERVER_TURNS) else {
+        return None;
+    };
+    serve_by_pen::<A, S, N, F, L, E>(
+        service, workers, &setting, sessions, round, place, room, epochs, rt,
+    )
+}
+
+/// Serves connections by sessions that answer what the journal under a pen has, until no more entries come. It answers the
+/// sessions in `room`, and what then lies under the pen. It answers nothing where memory was refused.
+fn serve_by_pen<
+    A: AllocGlobal + Threads + Wait + Clock + Sync,
+    S: Calls<A> + Send + Drop,
+    N: Keeping + Send + Sync,
+    F: Appended + Send,
+    L: Notices<F> + Watch + Sync + Send,
     E: Epochs<F> + Send,
 >(
     service: &Service<'_, L>,
     workers: &Workers<'_, L>,
     setting: &Setting<'_, A>,
     sessions: Vec<S>,
-    keeper: K,
-    journal: Journal<F>,
+    round: Round<S, F, N, L, E>,
+    place: &KeptPlace<N>,
+    room: Vec<S>,
+    epochs: &mut E,
+    rt: &A,
+) -> Option<(Vec<S>, Left<S, F>)>
+    requires room { (room.items ≡ []) × (length sessions.items + 1 ≤ vec_capacity room) }
+    ensures served { IfSome result (λ served. ServesDurably S.goes S.known N.is_appended N.is_kept N.is_limit N.has_failed
+        (awaits service.now.policy) setting.now service.now.terms.connections sessions.items served.0.items) }
+    ensures room { IfSome result (λ served. length served.0.items + 1 ≤ vec_capacity served.0) }
+    ensures round { IfSome result (λ served. IsRound N.has_failed (S.known served.1.session) served.1.journal
+        (option_map (λ next. next.version.base) served.1.next)) }
+{
+    let alloc = rt.alloc();
+    round.recall();
+    let pen = Pen::new(alloc, round, place, service.notices);
+    let Ok(durable) = all_durable(alloc, sessions, place, &pen, rt, service.policy.awaits()) else {
+        return None;
+    };
+    let served = serve_beside::<A, _, _, F, N, L, E>(
+        service, workers, setting, durable, &pen, place, epochs, rt,
+    );
+    let sessions = all_inner(served, room);
+    Some((sessions, pen.into_round().into_left()))
+}
+
+/// Serves connections by sessions, while the keeper does what time brings.
+fn serve_beside<
+    A: Threads + Wait + Clock + Sync,
+    S: Calls<A> + Send + Drop,
+    P: Upkeep<A, F, N, L, E> + Sync,
+    F: Appended + Send,
+    N: Keeping + Sync + Send,
+    L: Notices<F> + Watch + Sync + Send,
+    E: Epochs<F> + Send,
+>(
+    service: &Service<'_, L>,
+    workers: &Workers<'_, L>,
+    setting: &Setting<'_, A>,
+    sessions: Vec<S>,
+    pen: &P,
     place: &KeptPlace<N>,
     epochs: &mut E,
     rt: &A,
-) -> (Left<K, F>, Vec<S>)
-    requires named { (at : ℕ) → IsKeptIn F.told (K.known keeper).base at → N.is_kept at }
-    requires behind { IsBehind journal (K.known keeper) }
-    ensures begins { BeginsDump result.0.journal (history_of (K.known result.0.session)) }
-    ensures next { IfSome result.0.next (λ next.
-        next.version.base ≡ Some (successor (now (history_of (K.known result.0.session))))) }
-    ensures same_number { length result.1.items ≡ length sessions.items }
+) -> Vec<S>
+    requires reported { L.reported → N.has_failed }
+    ensures same_number { length result.items ≡ length sessions.items }
     ensures each { (i : ℕ) (d : S) → i < length sessions.items
         → ServesSome S.goes S.known setting.now service.now.terms.connections
-        (slice_index_or sessions.items i d) (slice_index_or result.1.items i d) }
+        (slice_index_or sessions.items i d) (slice_index_or result.items i d) }
 {
-    let alloc = rt.alloc();
-    thread::join(
+    let ((), served) = thread::join(
         rt,
-        move || keep(rt, alloc, service, keeper, journal, place, epochs),
-        move || serve_all::<A, S, F, N, L>(service, workers, setting, sessions, place, rt),
-    )
+        move || keep::<A, P, F, N, L, E>(rt, service, pen, place, epochs),
+        move ||
+            requires { L.reported → N.has_failed }
+        { serve_all::<A, S, F, N, L>(service, workers, setting, sessions, place, rt) },
+    );
+    served
 }
 
 /// Serves connections by sessions, and says then that no more entries come.
 fn serve_all<
     A: Threads + Wait + Clock + Sync,
     S: Calls<A> + Send + Drop,
-    F,
+    F: Appended,
     N: Keeping,
     L: Notices<F> + Watch + Sync,
 >(
@@ -73,6 +149,7 @@ fn serve_all<
     place: &KeptPlace<N>,
     rt: &A,
 ) -> Vec<S>
+    requires reported { L.reported → N.has_failed }
     ensures same_number { length result.items ≡ length sessions.items }
     ensures each { (i : ℕ) (d : S) → i < length sessions.items
         → ServesSome S.goes S.known setting.now service.now.terms.connections
@@ -80,6 +157,7 @@ fn serve_all<
 {
     if !place.wait_for_keeper(rt, Duration::from_secs(KEEPER_SECONDS)) {
         service.notices.no_keeper();
+        place.fail();
     }
     let mut sessions = sessions;
     listen(

@@ -22,10 +22,10 @@ fn main(rt: HostRuntime) -> io::Result<ExitCode> {
             let status = run_check(&mut reader, &mut writer, &rt);
             Ok(ended(&rt, &writer, status))
         }
-        Ok(Run::Base) => {
+        Ok(Run::Base { raised }) => {
             let mut reader = Stream::new(rt.reader());
             let mut writer = Stream::new(io::writer(&rt));
-            let status = run_base(&mut reader, &mut writer, &rt);
+            let status = run_base(&mut reader, &mut writer, &rt, raised);
             Ok(ended(&rt, &writer, status))
         }
         Err(fault) => Ok(fault.tell(&rt, UNREADABLE_ARGUMENTS)),

@@ -1,5 +1,5 @@
--- A run of `replay base`.
-use Rattle.std.specs.Prelude.{ℕ, List, codes, ⊤}
+-- A run of `replay base`, with `--raised` or without.
+use Rattle.std.specs.Prelude.{ℕ, Bool, List, codes, ⊤}
 use Rattle.streams.specs.Ends.{Ends}
 use Rattle.streams.specs.Streams.{Streams}
 use Rattle.replay_cli.specs.Run.{Told, Judged, NoMemory, ReadFailed, IsFound, IsOfInput, told_text, told_status}
@@ -28,12 +28,12 @@ IsInstead (Judged v) = IsRefused v
 IsInstead NoMemory = ⊤
 IsInstead ReadFailed = ⊤
 
-abbrev pub IsGiven : Streams → Streams → Given → Type 0
-IsGiven before after (Line line) = IsOfInput before after (λ text. IsSuccessorLine text line)
-IsGiven before after NoneFollows = IsOfInput before after IsLastEpoch
-IsGiven before after (Instead told) = IsFound before after told × IsInstead told
+abbrev pub IsGiven : Bool → Streams → Streams → Given → Type 0
+IsGiven is_raised before after (Line line) = IsOfInput before after (λ text. IsSuccessorLine is_raised text line)
+IsGiven is_raised before after NoneFollows = IsOfInput before after (IsLastEpoch is_raised)
+IsGiven is_raised before after (Instead told) = IsFound before after told × IsInstead told
 
-pub record RunsBase (before after : Streams) (status : ℕ) : Type 0 where
+pub record RunsBase (is_raised : Bool) (before after : Streams) (status : ℕ) : Type 0 where
   pub given : Given
-  pub is_given : IsGiven before after given
+  pub is_given : IsGiven is_raised before after given
   pub ends : Ends before.taken after.taken before.failed_writes after.failed_writes (given_text given) (given_status given) status

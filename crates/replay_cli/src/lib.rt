@@ -18,5 +18,5 @@ pub use audit::check;
 pub use next_base::run_base;
 pub use read::read_entry;
 pub use run::run_check;
-pub use successor::{NoSuccessor, successor_line};
+pub use successor::{NoSuccessor, RAISE, base_after, raised_line, successor_line};
 pub use verdict::Verdict;

@@ -26,4 +26,5 @@ pub use fault::PeerFault;
 pub use laws::calls_are_sound;
 pub use peer::{Opened, Peer};
 pub use progress::Progress;
+pub use wanted::next_revs;
 pub use worker::{MAX_BATCH, Worker};

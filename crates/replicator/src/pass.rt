@@ -5,7 +5,9 @@ ghost use Rattle.replicator.specs.Due.{AsksNext, SendsNext};
 ghost use Rattle.replicator.specs.Learned.{with_mark, with_opened, with_taken};
 ghost use Rattle.replicator.specs.Passing.{IsDuePart};
 ghost use Rattle.replicator.specs.Readable.{is_readable_opened};
+ghost use Rattle.model.specs.Map.{entries};
 ghost use Rattle.replicator.specs.Stage.{first_pass};
+ghost use Rattle.replicator.specs.Wanted.{wanted_in};
 
 use crate::due::Due;
 use crate::ends::Ends;
@@ -94,6 +96,14 @@ impl Pass {
             return Due::MarkSource;
         }
         Due::MarkTarget
+    }
+
+    /// The revisions that the target lacks and that weren't asked for yet.
+    pub(crate) fn rest(&self) -> &[(DocId, RevId)]
+        requires { IsDuePart due.Open self.now }
+        ensures { result.now ≡ drop self.now.asked (wanted_in (entries self.now.differences)) }
+    {
+        &self.wanted[self.asked..]
     }
 
     /// The next revisions that the target lacks, of one document.

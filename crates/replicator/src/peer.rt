@@ -74,6 +74,14 @@ pub trait Peer {
         ensures failures { CountsFailed (failed_calls self.old) (failed_calls self.new) result }
         ensures reads { OnlyReads result };
 
+    /// Says which revisions are asked for next by [`Peer::open_revs`], in this order: those of one document
+    /// at a time, as [`next_revs`](crate::next_revs) takes them. An end may ask for them ahead, and one
+    /// that needn't ignores it. Each call goes as it would go if nothing had been said.
+    fn expect(&mut self, alloc: Global, wanted: &[(DocId, RevId)])
+        ensures goes { (call : Call) (after : Self) → goes self.new call after → goes self.old call after }
+        ensures failures { failed_calls self.new ≡ failed_calls self.old }
+    {}
+
     /// These revisions of a document, or newer ones in their place; one that is missing by its name.
     fn open_revs(&mut self, alloc: Global, id: &DocId, revs: &[RevId]) -> Result<Opened, PeerFault>
         ensures goes { goes self.old (call.OpenRevs id.now revs.now result) self.new }

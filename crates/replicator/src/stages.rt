@@ -15,11 +15,13 @@ use crate::ends::Ends;
 use crate::fault::PeerFault;
 use crate::job::Job;
 use crate::pass::Pass;
-use crate::peer::Peer;
+use crate::peer::{Opened, Peer};
 use crate::progress::Progress;
 use crate::readable::{is_readable_difference, is_readable_opened, is_readable_page};
 use crate::stage::Stage;
+use document_id::DocId;
 use queries::ChangesPage;
+use revision_id::RevId;
 use std::alloc::Global;
 
 /// Reads the source's checkpoint.
@@ -145,12 +147,29 @@ pub(crate) fn open<S: Peer>(
     ensures failures { CountsFailed (S.failed_calls source.old) (S.failed_calls source.new) result }
 {
     let asked = pass.next_asked(alloc)?;
-    let opened = source.open_revs(alloc, &asked.id, &asked.revisions)?;
+    let opened = open_next(alloc, &pass, &asked.id, &asked.revisions, source)?;
     if !is_readable_opened(&asked.id, &asked.revisions, &opened) {
         return Err(PeerFault::Unreadable);
     }
     let pass = pass.with_opened(&asked, opened)?;
     Ok((Stage::Passing(pass), Progress::Going))
+}
+
+/// Asks the source for revisions, after it has said which come next in the pass.
+fn open_next<S: Peer>(
+    alloc: Global,
+    pass: &Pass,
+    id: &DocId,
+    revs: &[RevId],
+    source: &mut S,
+) -> Result<Opened, PeerFault>
+    requires { IsDuePart due.Open pass.now }
+    ensures goes { S.goes source.old (call.OpenRevs id.now revs.now result) source.new }
+    ensures failures { CountsFailed (S.failed_calls source.old) (S.failed_calls source.new) result }
+    ensures reads { OnlyReads result }
+{
+    source.expect(alloc, pass.rest());
+    source.open_revs(alloc, id, revs)
 }
 
 /// Sends documents to the target.

@@ -41,8 +41,9 @@ fn push_missing(
     Ok(())
 }
 
-/// The first revisions of one document, as many as one call asks for.
-pub(crate) fn next_revs(
+/// The first revisions of a list that are of this document, as many as one call asks for, which is at most
+/// a hundred.
+pub fn next_revs(
     alloc: Global,
     id: &DocId,
     wanted: &[(DocId, RevId)],

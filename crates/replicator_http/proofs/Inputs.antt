@@ -53,7 +53,7 @@ module _ (laws : Laws) where
       → Exchanges request old exchange new → Decides input (outcome_of exchange) (input_of new)
   decides request input old new Unmade is made = ap input_of made ∙ is
   decides request input old new (GivenUp why) is (given, made) = ap input_of made ∙ is
-  decides request input old new Cut is made =
+  decides request input old new Cut is (none, made) =
       ap (λ (x : List ℕ). prepend_known x new.left) made.come ∙ ap (λ (l : Option (List ℕ)). prepend_known old.come l) made.left ∙ is
   decides request input old new (Unanswered come response.ReadFailed) is made =
       let w = written_input request come input old new is made.is_written in

@@ -1,3 +1,6 @@
+pub mod Queues
+pub mod Asking
+pub mod Orders
 pub mod Calls
 pub mod Measured
 pub mod Inputs

@@ -1,5 +1,5 @@
 -- The connection to another database, and what a request does on it.
-use Rattle.std.specs.Prelude.{◌≡◌, ◌⊎◌, ℕ, ◌<◌, List, [], ◌++◌, length, take, Option, Err}
+use Rattle.std.specs.Prelude.{◌≡◌, ◌⊎◌, ℕ, ◌<◌, List, [], ◌∷◌, ◌++◌, length, take, Option, Err}
 use Rattle.std.specs.Io.KnownBytes.{Appends, Consumes}
 use Rattle.streams.specs.Counts.{CountRose}
 use Rattle.http_client.specs.Incoming.{CountsReads, Reads}
@@ -13,20 +13,22 @@ use Rattle.replicator_http.specs.declared.state.State.{State}
 use Rattle.replicator_http.specs.declared.state.State.TheVariants as state
 
 -- The bytes that are left to be read and those that were written, where they are known, and how many reads and writes
--- have failed; the bytes that have come and were not taken; how the connection goes on; and how many calls have failed.
+-- have failed; the bytes that have come and were not taken; the requests that were written ahead of their turn, whose
+-- responses are still to come, the next first; how the connection goes on; and how many calls have failed.
 pub record Connection : Type 0 where
   pub left : Option (List ℕ)
   pub failed_reads : ℕ
   pub taken : Option (List ℕ)
   pub failed_writes : ℕ
   pub come : List ℕ
+  pub ahead : List (List ℕ)
   pub state : State
   pub failed_calls : ℕ
 
 -- a connection on which nothing has been asked, by what is left, the failed reads, what was taken and the failed writes
 abbrev pub fresh_connection : Option (List ℕ) → ℕ → Option (List ℕ) → ℕ → Connection
 fresh_connection left failed_reads taken failed_writes =
-    record { left = left; failed_reads = failed_reads; taken = taken; failed_writes = failed_writes; come = []; state = state.Open; failed_calls = 0 }
+    record { left = left; failed_reads = failed_reads; taken = taken; failed_writes = failed_writes; come = []; ahead = []; state = state.Open; failed_calls = 0 }
 
 -- what became of a request
 -- RFC 9110, 3.4 "Messages"
@@ -65,11 +67,17 @@ pub record IsCut (request : List ℕ) (old new : Connection) : Type 0 where
   pub come : new.come ≡ old.come
   pub given_up : new.state ≡ state.Failed
 
--- The whole request was written, and then these bytes have come: those that had come before, and what was read. Nothing
--- was where those were not a part of a response.
+-- the request was written, where none is ahead, or it is the next of those that were written ahead
+abbrev pub IsSent : List ℕ → Connection → Connection → Type 0
+IsSent request old new =
+    ((old.ahead ≡ []) × (new.ahead ≡ []) × Appends old.taken new.taken request)
+    ⊎ ((old.ahead ≡ request ∷ new.ahead) × (new.taken ≡ old.taken))
+
+-- The whole request was written, now or ahead, and then these bytes have come: those that had come before, and what was
+-- read. Nothing was where those were not a part of a response.
 pub record IsWritten (request come : List ℕ) (old new : Connection) : Type 0 where
   pub was_open : old.state ≡ state.Open
-  pub written : Appends old.taken new.taken request
+  pub written : IsSent request old new
   pub failed_writes : new.failed_writes ≡ old.failed_writes
   pub read : (piece : List ℕ) × (come ≡ old.come ++ piece) × Consumes old.left new.left piece
   pub needed : IsUnfinished old.come ⊎ ((come ≡ old.come) × (new.left ≡ old.left))
@@ -95,6 +103,6 @@ pub record IsAnswered (request : List ℕ) (response : Response) (behind : List 
 abbrev pub Exchanges : List ℕ → Connection → Exchange → Connection → Type 0
 Exchanges request old Unmade new = new ≡ old
 Exchanges request old (GivenUp why) new = IsGivenUp old.state why × (new ≡ record old { failed_calls = new.failed_calls })
-Exchanges request old Cut new = IsCut request old new
+Exchanges request old Cut new = (old.ahead ≡ []) × IsCut request old new
 Exchanges request old (Unanswered come why) new = IsUnanswered request come why old new
 Exchanges request old (Answered response behind) new = IsAnswered request response behind old new

@@ -5,6 +5,7 @@ use Rattle.http_client.specs.declared.target.TheConstants.{SEGMENT}
 use Rattle.replicator_http.specs.Requests.{bulk_request, changes_request_of, diff_request, local_get_request, local_put_request, open_revs_request}
 use Rattle.replicator.specs.Call.{Call, Changes, Diff, OpenRevs, Bulk, LocalGet, LocalPut}
 use Rattle.replicator.specs.declared.fault.PeerFault.TheVariants as fault
+use Rattle.replicator_http.specs.Ahead.{AfterEvents}
 use Rattle.replicator_http.specs.Asked.{fault_of}
 use Rattle.replicator_http.specs.Connection.{Connection, Exchange, Unmade, GivenUp, Cut, Unanswered, Answered, Exchanges}
 use Rattle.replicator_http.specs.Told.{Answers, Told, bulk_told, checkpoint_told, counter_told, differences_told, opened_told, page_told}
@@ -36,7 +37,11 @@ Tells exchange (Bulk documents answer) = IsAnswerTo exchange bulk_told answer
 Tells exchange (LocalGet id answer) = IsAnswerTo exchange checkpoint_told answer
 Tells exchange (LocalPut id named last_seq answer) = IsAnswerTo exchange counter_told answer
 
+-- the call's request is exchanged, and reports the answer
+abbrev pub Exchanged : Call → Connection → Connection → Type 0
+Exchanged call old new = (exchange : Exchange) × Exchanges (request_of call) old exchange new × Tells exchange call
+
 -- By a call the connection goes from one state to the next: its request is exchanged for a response, which reports the
--- answer.
+-- answer. Before, requests for revisions may have been written ahead, and the responses to those that aren't asked dropped.
 abbrev pub Goes : Connection → Call → Connection → Type 0
-Goes old call new = (exchange : Exchange) × Exchanges (request_of call) old exchange new × Tells exchange call
+Goes old call new = AfterEvents old (λ mid. Exchanged call mid new)

@@ -2,7 +2,9 @@ pub mod Connection
 pub mod Input
 pub mod Asked
 pub mod Told
+pub mod Ahead
 pub mod Goes
+pub mod Passed
 pub mod Requests
 pub mod Members
 pub mod Changes

@@ -5,13 +5,15 @@
 //! which request it is, byte by byte, and what its response means.
 #![tactic(auto)]
 
+mod ahead;
 mod answers;
+mod asks;
 mod laws;
 mod peer;
 mod requests;
 mod state;
 mod told;
 
-pub use laws::{answers_are_of_the_input, bulk_is_as_measured};
+pub use laws::{answers_are_in_order, answers_are_of_the_input, bulk_is_as_measured};
 pub use peer::HttpPeer;
 pub use state::State;

@@ -1,15 +1,17 @@
 //! A database that is reached over a connection.
-ghost use Rattle.std.specs.Prelude.{◌≡◌, ℕ, ◌≤◌, length, IfErr, IfOk};
+ghost use Rattle.std.specs.Prelude.{◌≡◌, ℕ, ◌≤◌, List, ◌++◌, All, drop, length, Err, OnErr, OnOk, IsTrue};
+ghost use Rattle.std.specs.List.{concat};
 ghost use Rattle.http_client.specs.Front.{IsResponseAt, response_at};
-ghost use Rattle.http_client.specs.declared.incoming.ResponseFault.TheVariants as response_fault;
 ghost use Rattle.replicator.specs.Call.{CountsFailed};
 ghost use Rattle.replicator.specs.declared.fault.PeerFault.TheVariants as peer_fault;
 ghost use Rattle.streams.specs.Counts.{CountRose};
-ghost use Rattle.replicator_http.specs.Asked.{Fails, HasCome, after, fault_of};
-ghost use Rattle.replicator_http.specs.Connection.{Connection, fresh_connection, state_after};
+ghost use Rattle.replicator_http.specs.Ahead.{AsksRevisions, IsNext, IsWithin};
+ghost use Rattle.replicator_http.specs.Asked.{HasWritten, Reads, after, fault_of};
+ghost use Rattle.replicator_http.specs.Connection.{Connection, IsCut, fresh_connection, state_after};
 ghost use Rattle.replicator_http.specs.Goes.{Goes};
 ghost use Rattle.replicator_http.specs.declared.state.State.TheVariants as state;
 
+use crate::ahead::Ahead;
 use crate::requests::{
     bulk_request, changes_request, diff_request, filtered_changes_request, local_get_request,
     local_put_request, open_revs_request,
@@ -26,11 +28,14 @@ use replicator::{Checkpoint, Opened, Peer, PeerFault};
 use revision_id::RevId;
 use std::alloc::Global;
 use std::marker::Model;
-use streams::{Sink, Source, write_all};
+use streams::{Failed, Sink, Source, write_all};
 
 /// A database that is reached over a connection: its requests go to a sink, and its responses come
 /// from a source. They answer the requests in their order, so bytes that come behind a response belong
 /// to the next one.
+///
+/// Requests for revisions that the worker said it asks for next are written ahead, at most a hundred and
+/// 16,384 bytes of them. Where something else is asked, the responses to them are read and dropped first.
 ///
 /// The connection is given up where a request was not written whole, or its response was not read. From
 /// then on nothing is written and nothing read, and each call that has the memory for its request is
@@ -40,6 +45,7 @@ pub struct HttpPeer<R: Source, W: Sink> {
     reader: R,
     writer: W,
     incoming: Incoming,
+    ahead: Ahead,
     state: State,
     failures: u64,
 }
@@ -50,6 +56,7 @@ impl<R: Source + Drop, W: Sink + Drop> Drop for HttpPeer<R, W> {
             reader: _,
             writer: _,
             incoming: _,
+            ahead: _,
             state: _,
             failures: _,
         } = self;
@@ -67,6 +74,7 @@ impl<R: Source, W: Sink> Model for HttpPeer<R, W> {
       taken = W.taken p.writer;
       failed_writes = W.failed_writes p.writer;
       come = p.incoming;
+      ahead = p.ahead;
       state = p.state;
       failed_calls = p.failures;
     } };
@@ -81,6 +89,7 @@ impl<R: Source, W: Sink> HttpPeer<R, W> {
             reader,
             writer,
             incoming: Incoming::new(alloc),
+            ahead: Ahead::new(alloc),
             state: State::Open,
             failures: 0,
         }
@@ -97,43 +106,107 @@ impl<R: Source, W: Sink> HttpPeer<R, W> {
             reader,
             writer,
             incoming: _,
+            ahead: _,
             state: _,
             failures: _,
         } = self;
         (reader, writer)
     }
 
-    /// Writes a request, and reads until a whole response has come, unless the connection is given up.
-    fn ask(&mut self, request: &str) -> Result<ResponseSpans, PeerFault>
-        ensures come { IfOk result (HasCome request.now self.old self.new) }
-        ensures fault { IfErr result (Fails request.now self.old self.new) }
-        ensures failures { CountsFailed self.old.failed_calls self.new.failed_calls result }
+    /// How the connection goes on.
+    pub(crate) fn state(&self) -> State
+        ensures { result ≡ self.now.state }
     {
-        match self.state {
-            State::Open => self.exchange(request),
-            State::Failed => Err(fail(&mut self.failures)),
-            State::Unreadable => Err(PeerFault::Unreadable),
-        }
+        self.state
     }
 
-    /// Writes a request, and reads until a whole response has come. The connection is given up where
-    /// none has.
-    fn exchange(&mut self, request: &str) -> Result<ResponseSpans, PeerFault>
-        requires { self.old.state ≡ state.Open }
-        ensures come { IfOk result (HasCome request.now self.old self.new) }
-        ensures fault { IfErr result (Fails request.now self.old self.new) }
-        ensures failures { CountsFailed self.old.failed_calls self.new.failed_calls result }
+    /// How many requests are ahead.
+    pub(crate) fn ahead_len(&self) -> usize
+        ensures { result ≡ length self.now.ahead }
     {
-        let Ok(()) = write_all(&mut self.writer, request.as_bytes()) else {
+        self.ahead.len()
+    }
+
+    /// Whether this is the next of the requests that are ahead.
+    pub(crate) fn is_next(&self, request: &str) -> bool
+        ensures { IsTrue result → IsNext request.now self.now }
+    {
+        self.ahead.is_next(request)
+    }
+
+    /// Whether so few requests are ahead that more are written.
+    fn is_low(&self) -> bool {
+        self.ahead.is_low()
+    }
+
+    /// The next request is no longer ahead.
+    pub(crate) fn pop(&mut self)
+        ensures { self.new ≡ record self.old { ahead = drop 1 self.old.ahead } }
+    {
+        self.ahead.pop();
+    }
+
+    /// Adds requests for the first of these revisions that aren't asked for yet to those that are ahead, and
+    /// answers their text, which is to be written.
+    pub(crate) fn add_ahead(&mut self, alloc: Global, wanted: &[(DocId, RevId)]) -> Vec<u8>
+        ensures adds { (more : List (List ℕ)) × (self.new ≡ record self.old { ahead = self.old.ahead ++ more })
+            × All AsksRevisions more × (result.items ≡ concat more) }
+        ensures within { IsWithin self.new.ahead }
+    {
+        let mut text = Vec::new(alloc);
+        self.ahead.add(alloc, wanted, &mut text);
+        text
+    }
+
+    /// Writes bytes. The connection is given up where they aren't written whole.
+    pub(crate) fn write(&mut self, bytes: &[u8]) -> Result<(), Failed>
+        requires { self.old.state ≡ state.Open }
+        ensures written { OnOk result (HasWritten bytes.now self.old self.new) }
+        ensures cut { OnErr result (IsCut bytes.now self.old self.new) }
+        ensures failures { self.new.failed_calls ≡ self.old.failed_calls }
+    {
+        let Ok(()) = write_all(&mut self.writer, bytes) else {
             self.state = State::Failed;
-            return Err(fail(&mut self.failures));
+            return Err(Failed);
         };
+        Ok(())
+    }
+
+    /// Reads until a whole response has come. The connection is given up where none has.
+    pub(crate) fn read(&mut self) -> Result<ResponseSpans, ResponseFault>
+        requires { self.old.state ≡ state.Open }
+        ensures reads { Reads self.old self.new result }
+        ensures failures { self.new.failed_calls ≡ self.old.failed_calls }
+    {
         match self.incoming.read_response(&mut self.reader) {
             Ok(spans) => Ok(spans),
             Err(fault) => {
                 self.state = state_after(fault);
-                Err(fault_of(&mut self.failures, fault))
+                Err(fault)
             }
+        }
+    }
+
+    /// Counts a failure.
+    pub(crate) fn fail(&mut self) -> PeerFault
+        ensures rest { self.new ≡ record self.old { failed_calls = self.new.failed_calls } }
+        ensures count { CountRose self.old.failed_calls self.new.failed_calls }
+        ensures failed { result ≡ peer_fault.Failed }
+    {
+        self.failures = self.failures.saturating_add(1);
+        PeerFault::Failed
+    }
+
+    /// Why there is no response, as a peer answers it; a failure is counted.
+    pub(crate) fn fault(&mut self, fault: ResponseFault) -> PeerFault
+        ensures rest { self.new ≡ record self.old { failed_calls = self.new.failed_calls } }
+        ensures fault { result ≡ fault_of fault }
+        ensures count { CountsFailed {A = ℕ} self.old.failed_calls self.new.failed_calls (Err result) }
+    {
+        match fault {
+            ResponseFault::Ended | ResponseFault::ReadFailed => self.fail(),
+            ResponseFault::Unreadable => PeerFault::Unreadable,
+            ResponseFault::Memory => PeerFault::Memory,
         }
     }
 
@@ -146,32 +219,11 @@ impl<R: Source, W: Sink> HttpPeer<R, W> {
     }
 
     /// Takes the response away. The bytes behind it stay.
-    fn take(&mut self, response: ResponseSpans)
+    pub(crate) fn take(&mut self, response: ResponseSpans)
         requires { IsResponseAt self.old.come response }
         ensures { self.new ≡ after self.old response }
     {
         self.incoming.take(response.taken());
-    }
-}
-
-/// Counts a failure.
-fn fail(failures: &mut u64) -> PeerFault
-    ensures count { CountRose failures.old failures.new }
-    ensures failed { result ≡ peer_fault.Failed }
-{
-    *failures = failures.saturating_add(1);
-    PeerFault::Failed
-}
-
-/// Why there is no response, as a peer answers it; a failure is counted.
-fn fault_of(failures: &mut u64, fault: ResponseFault) -> PeerFault
-    ensures fault { result ≡ fault_of fault }
-    ensures count { CountsFailed {A = ℕ} failures.old failures.new (Err result) }
-{
-    match fault {
-        ResponseFault::Ended | ResponseFault::ReadFailed => fail(failures),
-        ResponseFault::Unreadable => PeerFault::Unreadable,
-        ResponseFault::Memory => PeerFault::Memory,
     }
 }
 
@@ -220,6 +272,12 @@ impl<R: Source, W: Sink> Peer for HttpPeer<R, W> {
         let differences = differences_told(alloc, response.status, self.body(response));
         self.take(response);
         differences
+    }
+
+    fn expect(&mut self, alloc: Global, wanted: &[(DocId, RevId)]) {
+        if self.is_low() {
+            self.write_ahead(alloc, wanted);
+        }
     }
 
     fn open_revs(

@@ -139,6 +139,10 @@ impl<P: Peer, W: Watch> Peer for Counted<P, W> {
         self.peer.diff(alloc, asked)
     }
 
+    fn expect(&mut self, alloc: Global, wanted: &[(DocId, RevId)]) {
+        self.peer.expect(alloc, wanted);
+    }
+
     fn open_revs(
         &mut self,
         alloc: Global,

@@ -3,9 +3,63 @@ ghost use Rattle.std.specs.Prelude.{◌≡◌, ◌+◌, ◌-◌, ◌<◌, ◌↔
 ghost use Rattle.std.specs.Duration.{as_nanos};
 ghost use Rattle.std.specs.Time.{instant_nanos};
 
+use crate::flag::is_set;
 use std::io;
 use std::io::ErrorKind;
+use std::sync::atomic::AtomicBool;
 use std::time::{Clock, Duration, Instant};
+
+/// Where a flag may end a connection, its peer is waited for in slices of so many milliseconds.
+const SLICE_MILLISECONDS: u64 = 100;
+
+/// How a flag cuts short what is waited for.
+#[derive(Drop)]
+pub(crate) struct Ending<'c> {
+    over: Option<&'c AtomicBool>,
+    grace: Duration,
+    last: Option<Instant>,
+}
+
+impl<'c> Ending<'c> {
+    /// So long after the flag, if one is given, was first seen to be set, nothing is waited for any longer.
+    pub(crate) fn new(over: Option<&'c AtomicBool>, grace: Duration) -> Ending<'c> {
+        Ending {
+            over,
+            grace,
+            last: None,
+        }
+    }
+
+    /// Whether the connection ends.
+    pub(crate) fn has_come(&self) -> bool {
+        is_set(self.over)
+    }
+
+    /// Until when is waited for what would be waited for until then.
+    ///
+    /// # Errors
+    ///
+    /// The clock can't be read, or ends before.
+    pub(crate) fn cut<C: Clock>(&mut self, clock: &C, by: Instant) -> io::Result<Instant> {
+        if !self.has_come() {
+            return Ok(by);
+        }
+        let last = match self.last {
+            Some(last) => last,
+            None => after(clock, self.grace)?,
+        };
+        self.last = Some(last);
+        Ok(by.min(last))
+    }
+
+    /// For how much of this time is waited before the flag is looked at: for all of it, where there is none.
+    pub(crate) fn slice(&self, left: Duration) -> Duration {
+        if self.over.is_none() {
+            return left;
+        }
+        left.min(Duration::from_millis(SLICE_MILLISECONDS))
+    }
+}
 
 /// So long after now.
 ///

@@ -11,3 +11,7 @@ pub struct Pace {
     /// however slowly its bytes move. After it, the read or the write fails.
     pub patience: Duration,
 }
+
+/// For so many seconds after a flag was set by which a connection ends, the rest of its last request is waited for, and the
+/// rest of a text that is written.
+pub(crate) const GRACE_SECONDS: u64 = 1;

@@ -1,19 +1,15 @@
 //! The end of a socket that is read.
 ghost use Rattle.std.specs.Prelude.{◌≡◌, ◌-◌, ◌≤◌, ◌^◌, None, IfOk, length};
 
-use crate::deadlines::{after, is_late, left_until};
-use crate::flag::is_set;
-use crate::pace::Pace;
+use crate::deadlines::{Ending, after, is_late, left_until};
+use crate::pace::{GRACE_SECONDS, Pace};
 use crate::timed::Timed;
-use std::io::{Read, Result as IoResult};
+use std::io::{Error, ErrorKind, Read, Result as IoResult};
 use std::sync::atomic::AtomicBool;
 use std::time::{Clock, Duration, Instant};
 use streams::{Failed, Source, Stream};
 
-/// In slices of so many milliseconds the first byte of a request is waited for where a flag may end the input.
-const SLICE_MILLISECONDS: u64 = 100;
-
-/// So many of them are waited for in a row at most: some eleven days.
+/// So many slices are waited for in a row at most: some eleven days.
 const MOST_SLICES: u64 = 10_000_000;
 
 /// What is read next.
@@ -55,7 +51,7 @@ struct Waiting<'c, T, C> {
     socket: T,
     clock: &'c C,
     pace: Pace,
-    over: Option<&'c AtomicBool>,
+    ending: Ending<'c>,
     awaited: Awaited,
     requests: Requests,
     told: Option<Duration>,
@@ -68,7 +64,7 @@ impl<'c, T, C> Waiting<'c, T, C> {
             socket,
             clock,
             pace,
-            over,
+            ending: Ending::new(over, Duration::from_secs(GRACE_SECONDS)),
             awaited: Awaited::First,
             requests: Requests::Any,
             told: None,
@@ -78,7 +74,7 @@ impl<'c, T, C> Waiting<'c, T, C> {
     /// A next request is awaited, of which something has come or not.
     fn awaits(&mut self, begun: bool) {
         self.awaited = if begun { Awaited::Rest } else { Awaited::First };
-        self.requests = self.requests.next(is_set(self.over));
+        self.requests = self.requests.next(self.ending.has_come());
     }
 }
 
@@ -100,15 +96,12 @@ impl<'c, T: Read + Timed, C: Clock> Waiting<'c, T, C> {
         ensures within { IfOk result (λ n. n ≤ length buf.new) }
     {
         let mut left = self.pace.idle;
-        if self.over.is_none() {
-            return self.read_within(left, buf);
-        }
         for _ in 0..MOST_SLICES {
-            let slice = left.min(Duration::from_millis(SLICE_MILLISECONDS));
+            let slice = self.ending.slice(left);
             match self.read_within(slice, buf) {
                 Err(error) if is_late(&error) => {
                     left = left.saturating_sub(slice);
-                    if left.is_zero() || is_set(self.over) {
+                    if left.is_zero() || self.ending.has_come() {
                         return Err(error);
                     }
                 }
@@ -118,14 +111,31 @@ impl<'c, T: Read + Timed, C: Clock> Waiting<'c, T, C> {
         self.read_within(left, buf)
     }
 
-    /// Until when the rest of the request is waited for, from the first read for it on.
-    fn rest_by(&mut self) -> IoResult<Instant> {
-        if let Awaited::RestBy(by) = self.awaited {
-            return Ok(by);
+    /// Reads more of a request that has begun. Where a flag may end the input, it is looked at after each slice of the time in
+    /// which nothing comes.
+    fn read_rest(&mut self, buf: &mut [u8]) -> IoResult<usize>
+        ensures within { IfOk result (λ n. n ≤ length buf.new) }
+    {
+        for _ in 0..MOST_SLICES {
+            let left = self.rest_left()?;
+            let slice = self.ending.slice(left);
+            match self.read_within(slice, buf) {
+                Err(error) if is_late(&error) && slice < left => {}
+                outcome => return outcome,
+            }
         }
-        let by = after(self.clock, self.pace.patience)?;
+        Err(Error::from(ErrorKind::TimedOut))
+    }
+
+    /// How long the rest of the request is still waited for, from the first read for it on.
+    fn rest_left(&mut self) -> IoResult<Duration> {
+        let by = match self.awaited {
+            Awaited::RestBy(by) => by,
+            Awaited::First | Awaited::Rest => after(self.clock, self.pace.patience)?,
+        };
+        let by = self.ending.cut(self.clock, by)?;
         self.awaited = Awaited::RestBy(by);
-        Ok(by)
+        left_until(self.clock, by)
     }
 }
 
@@ -137,9 +147,7 @@ impl<'c, T: Read + Timed, C: Clock> Read for Waiting<'c, T, C> {
             return Ok(0);
         }
         if self.awaited != Awaited::First {
-            let by = self.rest_by()?;
-            let left = left_until(self.clock, by)?;
-            return self.read_within(left, buf);
+            return self.read_rest(buf);
         }
         match self.read_first(buf) {
             Ok(0) => Ok(0),
@@ -161,7 +169,8 @@ impl<'c, T: Read + Timed, C: Clock> Read for Waiting<'c, T, C> {
 /// from then on.
 ///
 /// Where a flag is given, it ends the input early: once it is set, the first byte of a request is waited for no
-/// longer than a tenth of a second, and the request behind the one that is then awaited is not read.
+/// longer than a tenth of a second, the rest of one no longer than a second, and the request behind the one that is then
+/// awaited is not read.
 #[derive(Drop)]
 pub struct TimedReader<'c, T, C> {
     waiting: Stream<Waiting<'c, T, C>>,

@@ -14,7 +14,7 @@ pub(crate) fn started(rt: &HostRuntime, folder: &str, port: &str) -> Result<Stri
         Ok(folder) => folder,
         Err(fault) => return Ok(format!(in alloc; "{fault}")?),
     };
-    match folder.start(rt) {
+    match folder.start(rt, false) {
         Ok(started) => started_told(alloc, &folder, &started),
         Err(fault) => Ok(format!(in alloc; "{fault}")?),
     }
@@ -24,14 +24,18 @@ pub(crate) fn started(rt: &HostRuntime, folder: &str, port: &str) -> Result<Stri
 fn started_told(alloc: Global, folder: &Folder, started: &Started) -> Result<String, Fail> {
     let epoch = started.begun.epoch;
     let places = started.places;
-    let (cut_place, cut_bytes) = match started.cut {
-        Some(cut) => (cut.place, cut.bytes),
-        None => (0, 0),
+    let (place, bytes, torn) = match started.dropped {
+        Some(dropped) => (dropped.place, dropped.bytes, dropped.torn),
+        None => (0, 0, false),
     };
-    let left_by = folder.left_by().unwrap_or("-");
+    let raised = started.raised;
+    let missing = started.missing;
+    let left_by = folder.left_by().unwrap_or(0);
     let line = first_line(alloc, &started.begun.version)?;
     let line = line.as_str().trim_end();
-    Ok(format!(in alloc; "{epoch} {places} {cut_place} {cut_bytes} {left_by} {line}")?)
+    Ok(format!(in alloc;
+        "{epoch} {places} {place} {bytes} {torn} {missing} {raised} {left_by} {line}"
+    )?)
 }
 
 /// Starts, writes the entries of a dump whose text is here as hex digits, syncs, and begins the next epoch.
@@ -41,7 +45,7 @@ pub(crate) fn written(rt: &HostRuntime, folder: &str, dump: &str) -> Result<Stri
     let Ok(folder) = Folder::open(rt, folder, 5984) else {
         return Err("the folder is not opened".into());
     };
-    let Ok(started) = folder.start(rt) else {
+    let Ok(started) = folder.start(rt, false) else {
         return Err("nothing starts".into());
     };
     let Started { begun, .. } = started;
@@ -62,7 +66,7 @@ pub(crate) fn written(rt: &HostRuntime, folder: &str, dump: &str) -> Result<Stri
     let Ok(place) = journal.sync() else {
         return Err("nothing is synced".into());
     };
-    let Ok(next) = folder.succeed(rt, epoch, last) else {
+    let Ok(next) = folder.succeed(rt, epoch, last, false) else {
         return Err("no epoch begins".into());
     };
     let next = next.epoch;

@@ -13,7 +13,7 @@ use std::test::Fail;
 fn told(rt: &HostRuntime, words: &[&str]) -> Result<String, Fail> {
     let alloc = rt.alloc();
     match words {
-        ["restore", text] => restores::restored(alloc, text),
+        ["restore", synced, raise, text] => restores::restored(alloc, synced, raise, text),
         ["append", dump, calls, script] => appends::appended(alloc, dump, calls, script),
         ["start", folder, port] => files::started(rt, folder, port),
         ["write", folder, dump] => files::written(rt, folder, dump),

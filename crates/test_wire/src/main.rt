@@ -37,7 +37,7 @@ fn told(alloc: Global, words: &[&str]) -> Result<String, Fail> {
         ["read", reading, input] => peers::responses_read(alloc, reading, input),
         ["reads", pace, script, calls] => waits::reads_told(alloc, pace, script, calls),
         ["writes", patience, script, calls] => waits::writes_told(alloc, patience, script, calls),
-        ["drain", script] => waits::drain_told(alloc, script),
+        ["drain", flag_at, script] => waits::drain_told(alloc, flag_at, script),
         ["cuts", input] => peers::responses_however_cut(alloc, input),
         ["calls", reading, writing, input, calls @ ..] => {
             calls::calls_told(alloc, reading, writing, input, calls)

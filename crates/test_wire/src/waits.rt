@@ -51,18 +51,20 @@ pub(crate) fn reads_told(
 }
 
 /// Writes to a socket of this script, and reports how many bytes each write takes and when, and how many writes
-/// failed.
+/// failed. Behind how long a text is waited for stands when the flag is set.
 pub(crate) fn writes_told(
     alloc: Global,
     patience: &str,
     script: &str,
     calls: &str,
 ) -> Result<String, Fail> {
+    let (patience, flag_at) = patience.split_once(' ').ok_or("a patience")?;
     let steps = steps(alloc, script)?;
     let flag = AtomicBool::new(false);
-    let ticks = Ticks::new(&flag, u64::MAX);
+    let ticks = Ticks::new(&flag, time_of(flag_at)?);
+    let over = if flag_at == "-" { None } else { Some(&flag) };
     let socket = TimedScript::new(&ticks, steps.as_slice());
-    let mut writer = TimedWriter::new(socket, &ticks, millis(patience)?);
+    let mut writer = TimedWriter::new(socket, &ticks, millis(patience)?, over);
     let mut text = String::new(alloc);
     for call in calls.split(',') {
         match call {
@@ -78,13 +80,15 @@ pub(crate) fn writes_told(
     Ok(text)
 }
 
-/// Reads what a client still sends by this script, and reports when that ends, and how many bytes were not read.
-pub(crate) fn drain_told(alloc: Global, script: &str) -> Result<String, Fail> {
+/// Reads what a client still sends by this script, and reports when that ends, and how many bytes were not read. In front
+/// stands when the flag is set.
+pub(crate) fn drain_told(alloc: Global, flag_at: &str, script: &str) -> Result<String, Fail> {
     let steps = steps(alloc, script)?;
     let flag = AtomicBool::new(false);
-    let ticks = Ticks::new(&flag, u64::MAX);
+    let ticks = Ticks::new(&flag, time_of(flag_at)?);
+    let over = if flag_at == "-" { None } else { Some(&flag) };
     let mut socket = TimedScript::new(&ticks, steps.as_slice());
-    drain(&mut socket, &ticks);
+    drain(&mut socket, &ticks, over);
     Ok(format!(in alloc; "{} {}", ticks.now(), socket.unmoved())?)
 }
 

@@ -18,7 +18,8 @@ def shown(ids):
 
 
 class Following:
-    """The plan, how far its writes are, and how many clients came to its end. `connect` gives a new connection, and `check` counts."""
+    """The plan, how far its writes are, and how many clients came to its end. `connect` gives a new connection, and `check`
+    counts."""
 
     def __init__(self, plan, connect, check):
         self.plan, self.connect, self.check = plan, connect, check
@@ -78,15 +79,20 @@ class Following:
             connection.send("POST", target("continuous", since, limit), {"doc_ids": listed})
             status, headers = connection.head()
             self.check((status, headers.get("Connection")) == (200, "close"), "%d, %r for a feed", status, headers)
-            self.check(answered <= connection.place <= self.begun, "a feed begins at %d, after %d writes were answered", connection.place, answered)
+            self.check(
+                answered <= connection.place <= self.begun,
+                "a feed begins at %d, after %d writes were answered",
+                connection.place,
+                answered,
+            )
             since = self.take_rows(connection, wanted, since, limit)
             connection.close()
             self.count("feeds")
         self.count("ended")
 
     def take_rows(self, connection, wanted, since, limit):
-        """Takes the rows of a feed, each the first of the wanted ones at a place that comes no earlier than that of the row before,
-        and its last line. It answers the number of the last row."""
+        """Takes the rows of a feed, each the first of the wanted ones at a place that comes no earlier than that of the row
+        before, and its last line. It answers the number of the last row."""
         least, rows = connection.place, 0
         while since < self.plan.last:
             line = connection.line()
@@ -106,6 +112,8 @@ class Following:
     def last_line(self, connection, line, wanted, since, least):
         """A feed that gave as many rows as it was asked for says where it is and how many rows are left, and ends."""
         left = {len(self.plan.above(wanted, since, place)) for place in range(least, self.begun + 1)}
-        is_last = line is not None and set(line) == {"last_seq", "pending"} and line["last_seq"] == since and line["pending"] in left
+        is_last = (
+            line is not None and set(line) == {"last_seq", "pending"} and line["last_seq"] == since and line["pending"] in left
+        )
         self.check(is_last, "a feed ends behind row %d with %r, where %r may be left", since, line, sorted(left))
         self.check(connection.line() is None, "a feed goes on behind its last line")

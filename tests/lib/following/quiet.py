@@ -36,14 +36,18 @@ class Quiet:
             connection.send("GET", "/db/_changes?feed=%s&since=%s" % (feed, since))
         if feed == "continuous":
             status, _ = connection.head()
-            self.check((status, connection.place) == (200, self.writer.place), "a feed begins at %d with %d", connection.place, status)
+            self.check(
+                (status, connection.place) == (200, self.writer.place), "a feed begins at %d with %d", connection.place, status
+            )
         self.waiting.append(connection)
         return connection
 
     def nothing_comes(self, seconds, text):
         ready, _, _ = select.select([connection.socket for connection in self.waiting], [], [], seconds)
         early = any(connection.rest for connection in self.waiting)
-        self.check(not ready and not early, "%d of %d who wait for others get something when %s", len(ready), len(self.waiting), text)
+        self.check(
+            not ready and not early, "%d of %d who wait for others get something when %s", len(ready), len(self.waiting), text
+        )
 
     def run(self):
         """A poll and a feed wait for a document, one of each for none that is there, and a poll for any."""
@@ -69,7 +73,9 @@ class Quiet:
         self.waiting.remove(poll)
         status, page = poll.answer()
         wanted = {"last_seq": row["seq"], "pending": 0, "results": [row]}
-        self.check((status, page, poll.place) == (200, wanted, row["seq"]), "a poll is answered %d, %r at %d", status, page, poll.place)
+        self.check(
+            (status, page, poll.place) == (200, wanted, row["seq"]), "a poll is answered %d, %r at %d", status, page, poll.place
+        )
 
     def change_comes(self, poll, feed):
         """What is written of the document comes at once, to a poll once."""

@@ -1,4 +1,5 @@
-"""Bases at random: what requests at random leave, with numbers and counters that may be large, and bases with something changed."""
+"""Bases at random: what requests at random leave, with numbers and counters that may be large, and bases with something
+changed."""
 import copy
 
 from lib.requests import request
@@ -102,7 +103,11 @@ def other(random, value):
         return random.choice([value - 1, value + 1, value + 1, *NUMBERS])
     rev = revisions.parse(value) if isinstance(value, str) else None
     if rev is not None:
-        return revisions.text(random.choice([(rev[0] + 1, rev[1]), (rev[0] - 1, rev[1]), (rev[0], rev[1][::-1]), (rev[0], random.choice("abc") * 32)]))
+        return revisions.text(
+            random.choice(
+                [(rev[0] + 1, rev[1]), (rev[0] - 1, rev[1]), (rev[0], rev[1][::-1]), (rev[0], random.choice("abc") * 32)]
+            )
+        )
     if isinstance(value, str):
         return random.choice([value + "a", value[:-1], *TEXTS])
     return copy.deepcopy(random.choice(OTHERS))

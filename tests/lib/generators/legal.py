@@ -20,10 +20,20 @@ class Maker:
         self.random = random
         self.database = database
         self.kinds = [
-            (self.put, 6), (self.get, 6), (self.root, 1),
-            (self.delete, 3), (self.bulk, 4), (self.merge, 6), (self.diff, 3), (self.limit, 3),
-            (self.purge, 3), (self.compact, 1),
-            (self.info, 1), (self.changes, 6), (self.all_docs, 1), (self.local, 4),
+            (self.put, 6),
+            (self.get, 6),
+            (self.root, 1),
+            (self.delete, 3),
+            (self.bulk, 4),
+            (self.merge, 6),
+            (self.diff, 3),
+            (self.limit, 3),
+            (self.purge, 3),
+            (self.compact, 1),
+            (self.info, 1),
+            (self.changes, 6),
+            (self.all_docs, 1),
+            (self.local, 4),
         ]
 
     def one(self):

@@ -3,7 +3,13 @@ that are as deep as the limit of revisions."""
 from reference import revisions, trees
 
 LIMITS = [1, 2, 3, 5, 8, 100, 1000]
-SHAPES = {"long": (12, 1), "wide": (3, 40), "bushy": (6, 3), "tall": (160, 1), "broad": (2, 300)}  # the most generations, and the hashes of each
+SHAPES = {
+    "long": (12, 1),
+    "wide": (3, 40),
+    "bushy": (6, 3),
+    "tall": (160, 1),
+    "broad": (2, 300),
+}  # the most generations, and the hashes of each
 OFTEN = {"tall": 1, "broad": 1}  # of 20; the others 6 each
 
 
@@ -83,7 +89,9 @@ class Deep(Document):
     def __init__(self, source, database, id):
         super().__init__(source, database, id)
         self.depth = source.choice(DEPTHS)
-        self.shared = source.choice([0, 1, self.depth // 2, self.depth - 1])  # the generations of which branches have one revision
+        self.shared = source.choice(
+            [0, 1, self.depth // 2, self.depth - 1]
+        )  # the generations of which branches have one revision
         self.made = 0
 
     def requests(self):
@@ -91,7 +99,9 @@ class Deep(Document):
         for _ in range(self.source.randint(1, 8)):
             yield self.branch()
         for _ in range(self.source.randint(4, 24)):
-            yield self.source.choices([self.edit, self.step, self.branch, self.again, self.purge, self.limit], [12, 6, 2, 1, 1, 1])[0]()
+            yield self.source.choices(
+                [self.edit, self.step, self.branch, self.again, self.purge, self.limit], [12, 6, 2, 1, 1, 1]
+            )[0]()
         yield "GET", "/db/%s?open_revs=all&revs=true" % self.id, None
         yield "GET", "/db/%s?revs_info=true&conflicts=true&deleted_conflicts=true&revs=true" % self.id, None
 

@@ -4,6 +4,7 @@
     pieces    lets each write move one byte
     cut       fails the first response over a socket behind its tenth byte
     once      fails the first write to standard output
+    disk      logs what is done to the files of a folder, delays and fails some of it, or ends the process there
 """
 import contextlib
 import os

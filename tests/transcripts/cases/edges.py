@@ -10,7 +10,11 @@ CASES = {
     "differences-with-ancestors-in-order": TWO_PATHS + [diff({"d": [rev(4, "e")]})],
     "differences-of-an-unknown-document": TWO_PATHS + [diff({"no": [rev(3, "e"), rev(1, "a")]})],
     "latest-of-two-leaves": TWO_PATHS + [get("/db/d?latest=true&rev=" + rev(1, "a"))],
-    "open-listed-of-an-unknown-document": [opened("no", listed(rev(1, "a"))), opened("no", listed(rev(1, "a")), "&latest=true"), opened("no", "all")],
+    "open-listed-of-an-unknown-document": [
+        opened("no", listed(rev(1, "a"))),
+        opened("no", listed(rev(1, "a")), "&latest=true"),
+        opened("no", "all"),
+    ],
     "live-and-deleted-losers": [
         merge(at("d", rev(2, "f"), _deleted=True), at("d", rev(1, "0")), at("d", rev(1, "b"))),
         get("/db/d?conflicts=true&deleted_conflicts=true"),

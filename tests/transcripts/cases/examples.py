@@ -37,7 +37,6 @@ CONFLICT = [
 ]
 
 
-
 def written(requests):
     for request in requests:
         head, _, body = request.partition(b"\r\n\r\n")

@@ -60,20 +60,80 @@ ROUTES = {
     "method-of-root": [request(method, "/") for method in ["PUT", "HEAD", "get", "OPTIONS", "Get", "!#$%&'*+-.^_`|~"]],
     "parameters-ignored": [put("/db/a?new_edits=true&batch=ok&x", "{}"), get("/db/a?attachments=true&include_docs=true&&=&")],
     "parameter-new-edits": [put("/db/a?new_edits=false", "{}"), put("/db/a?new%5Fedits=f%61lse", "")],
-    "parameter-first-counts": [put("/db/a?new_edits=true&new_edits=false", "{}"), put("/db/a?new_edits=false&new_edits=true", "{}")],
+    "parameter-first-counts": [
+        put("/db/a?new_edits=true&new_edits=false", "{}"),
+        put("/db/a?new_edits=false&new_edits=true", "{}"),
+    ],
     "get-with-body": [put("/db/a", "{}"), get("/db/a", body="not read")],
 }
 
 BODIES = {
-    "no-json": put_bodies(["", " ", "{", "}", "{}x", "{}{}", "{'a':1}", '{"a"}', '{"a":}', '{"a":1,}', '{"a" 1}', "{,}", "[1,]", "[,]", "nul", "True"]),
-    "no-json-numbers": put_bodies(['{"n":01}', '{"n":+1}', '{"n":.5}', '{"n":1.}', '{"n":1e}', '{"n":-}', '{"n":0x1}', '{"n":NaN}', '{"n":1e400}', '{"n":-1e999}']),
-    "no-json-texts": put_bodies([
-        '{"t":"', '{"t":"\\"}', '{"t":"\\x"}', '{"t":"\n"}', '{"t":"\t"}', '{"t":"\\u12"}', '{"t":"\\u12g4"}',
-        r'{"t":"\ud800"}', r'{"t":"\udc00"}', r'{"t":"\ud800\u0041"}', r'{"t":"\ud800x"}', r'{"\ude00\ud83d":1}',
-    ]),
-    "no-json-not-utf8": put_bodies([b'{"t":"\xff"}', b'{"t":"\xc3"}', b'{"t":"\xed\xa0\x80"}', b'{"t":"\xc0\x80"}', b"\xef\xbb\xbf{}"]),
+    "no-json": put_bodies(
+        [
+            "",
+            " ",
+            "{",
+            "}",
+            "{}x",
+            "{}{}",
+            "{'a':1}",
+            '{"a"}',
+            '{"a":}',
+            '{"a":1,}',
+            '{"a" 1}',
+            "{,}",
+            "[1,]",
+            "[,]",
+            "nul",
+            "True",
+        ]
+    ),
+    "no-json-numbers": put_bodies(
+        [
+            '{"n":01}',
+            '{"n":+1}',
+            '{"n":.5}',
+            '{"n":1.}',
+            '{"n":1e}',
+            '{"n":-}',
+            '{"n":0x1}',
+            '{"n":NaN}',
+            '{"n":1e400}',
+            '{"n":-1e999}',
+        ]
+    ),
+    "no-json-texts": put_bodies(
+        [
+            '{"t":"',
+            '{"t":"\\"}',
+            '{"t":"\\x"}',
+            '{"t":"\n"}',
+            '{"t":"\t"}',
+            '{"t":"\\u12"}',
+            '{"t":"\\u12g4"}',
+            r'{"t":"\ud800"}',
+            r'{"t":"\udc00"}',
+            r'{"t":"\ud800\u0041"}',
+            r'{"t":"\ud800x"}',
+            r'{"\ude00\ud83d":1}',
+        ]
+    ),
+    "no-json-not-utf8": put_bodies(
+        [b'{"t":"\xff"}', b'{"t":"\xc3"}', b'{"t":"\xed\xa0\x80"}', b'{"t":"\xc0\x80"}', b"\xef\xbb\xbf{}"]
+    ),
     "no-json-in-repeated-member": put_bodies(['{"n":1e400,"n":1}']),
-    "number": put_bodies(['{"n":1.0}', '{"n":1e3}', '{"n":-0}', '{"n":0.5}', '{"n":-9223372036854775809}', '{"n":18446744073709551616}', '{"n":[{"m":1E-400}]}', "1.5"]),
+    "number": put_bodies(
+        [
+            '{"n":1.0}',
+            '{"n":1e3}',
+            '{"n":-0}',
+            '{"n":0.5}',
+            '{"n":-9223372036854775809}',
+            '{"n":18446744073709551616}',
+            '{"n":[{"m":1E-400}]}',
+            "1.5",
+        ]
+    ),
     "number-before-depth": put_bodies(['{"n":%s,"m":1.5}' % nested(80)]),
     "depth": put_bodies([nested_body(65), nested_body(72), nested_body(73), nested(73), nested(127)]),
     "depth-past-the-reader": put_bodies([nested(128), nested_body(128)]),
@@ -108,9 +168,17 @@ HEADS = {
     "no-head-after-answers": [get("/"), put("/db/a", "{}"), b"{}\r\n\r\n", get("/")],
     "line-feeds-alone": [b"PUT /db/a HTTP/1.1\nContent-Length: 2\n\n{}\nGET /db/a HTTP/1.1\n\n"],
     "empty-lines-before": [b"\r\n\n\r\n", put("/db/a", "{}"), b"\r\n", get("/db/a"), b"\r\n"],
-    "header-names-in-any-case": [b"PUT /db/a HTTP/1.1\r\ncOnTeNt-LeNgTh:2\r\n\r\n{}", b"GET / HTTP/1.1\r\nCONNECTION:CLOSE\r\n\r\n"],
-    "headers-ignored": [request("PUT", "/db/a", "{}", ["Host: x", "Expect: 100-continue", "If-Match: x", "X-Y:", "Accept:\t \t", "Cookie: é"])],
-    "length-with-zeros-and-spaces": [b"PUT /db/a HTTP/1.1\r\nContent-Length: \t 0000000000000000000000002 \t\r\n\r\n{}", get("/db/a")],
+    "header-names-in-any-case": [
+        b"PUT /db/a HTTP/1.1\r\ncOnTeNt-LeNgTh:2\r\n\r\n{}",
+        b"GET / HTTP/1.1\r\nCONNECTION:CLOSE\r\n\r\n",
+    ],
+    "headers-ignored": [
+        request("PUT", "/db/a", "{}", ["Host: x", "Expect: 100-continue", "If-Match: x", "X-Y:", "Accept:\t \t", "Cookie: é"])
+    ],
+    "length-with-zeros-and-spaces": [
+        b"PUT /db/a HTTP/1.1\r\nContent-Length: \t 0000000000000000000000002 \t\r\n\r\n{}",
+        get("/db/a"),
+    ],
     "sixty-four-headers": [get("/", headers=["X-%d: y" % n for n in range(64)]), get("/db/a")],
     "head-of-16384-bytes": [get("/", headers=["X: " + "y" * (16384 - 23)]), get("/db/a")],
     "connection-close": [get("/", headers=["Connection: close"]), get("/")],
@@ -121,7 +189,13 @@ HEADS = {
 }
 
 CURL = {
-    "curl-put-and-get": [curl("PUT", "/db/a", {"n": 1}, JSON), curl("GET", "/db/a"), curl("GET", "/db/b"), curl("GET", "/"), curl("HEAD", "/")],
+    "curl-put-and-get": [
+        curl("PUT", "/db/a", {"n": 1}, JSON),
+        curl("GET", "/db/a"),
+        curl("GET", "/db/b"),
+        curl("GET", "/"),
+        curl("HEAD", "/"),
+    ],
     "curl-put-of-a-form": [curl("PUT", "/db/a", "n=1"), curl("GET", "/db/a")],
 }
 

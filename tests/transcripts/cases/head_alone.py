@@ -1,7 +1,21 @@
 """Requests of HEAD, which are answered by a head alone."""
 from .building import get, put, request
 
-ROUTES = ["/", "/db", "/db/", "/db/_all_docs", "/db/_bulk_docs", "/db/_changes", "/db/_compact", "/db/_local/a", "/db/_purge", "/db/_purged_infos_limit", "/db/_revs_diff", "/db/_revs_limit", "/db/a"]
+ROUTES = [
+    "/",
+    "/db",
+    "/db/",
+    "/db/_all_docs",
+    "/db/_bulk_docs",
+    "/db/_changes",
+    "/db/_compact",
+    "/db/_local/a",
+    "/db/_purge",
+    "/db/_purged_infos_limit",
+    "/db/_revs_diff",
+    "/db/_revs_limit",
+    "/db/a",
+]
 NO_ROUTES = ["/x", "/db//", "/db/a/b", "/db/_local/", "*"]
 
 
@@ -12,8 +26,20 @@ def heads(targets, **more):
 CASES = {
     "of-each-route": heads(ROUTES),
     "of-no-route": heads(NO_ROUTES),
-    "of-what-is-there": [put("/db/a", "{}"), *heads(["/db/a", "/db/b", "/db/_changes?feed=continuous", "/db/a?rev=x"]), get("/db/a")],
-    "between-others": [get("/"), *heads(["/"]), get("/x"), *heads(["/x"]), put("/db/a", "{}"), *heads(["/db/a", "/x"]), get("/db/a")],
+    "of-what-is-there": [
+        put("/db/a", "{}"),
+        *heads(["/db/a", "/db/b", "/db/_changes?feed=continuous", "/db/a?rev=x"]),
+        get("/db/a"),
+    ],
+    "between-others": [
+        get("/"),
+        *heads(["/"]),
+        get("/x"),
+        *heads(["/x"]),
+        put("/db/a", "{}"),
+        *heads(["/db/a", "/x"]),
+        get("/db/a"),
+    ],
     "with-a-body": [request("HEAD", "/db/a", "{}"), request("HEAD", "/x", '{"n":1}'), get("/db/a")],
     "that-closes": [put("/db/a", "{}"), *heads(["/db/a"], headers=["Connection: close"]), get("/")],
     "that-closes-with-no-route": [*heads(["/x"], headers=["Connection: close"]), get("/")],

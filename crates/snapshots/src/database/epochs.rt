@@ -1,5 +1,5 @@
 //! The database that the next epoch begins from.
-ghost use Rattle.std.specs.Prelude.{◌≡◌, IfOk};
+ghost use Rattle.std.specs.Prelude.{◌≡◌, ◌≤◌, ◌<◌, IfOk};
 ghost use Rattle.model.specs.History.{successor};
 
 use crate::database::Database;
@@ -19,5 +19,17 @@ impl Database {
             revs_limit: self.revs_limit,
             calls: Calls::new(self.alloc),
         })
+    }
+
+    /// The same database, in which no session has called, and whose next update takes a number above this one. It takes no
+    /// memory.
+    pub fn uncalled_above(&self, update_seq: u64) -> Result<Database, AllocError>
+        requires more { self.now.update_seq ≤ update_seq }
+        requires room { update_seq < u64.MAX }
+        ensures { IfOk result (λ d. d ≡ record (successor self.now) { update_seq = update_seq }) }
+    {
+        let mut database = self.uncalled()?;
+        database.documents = self.documents.share()?.up_to(update_seq);
+        Ok(database)
     }
 }

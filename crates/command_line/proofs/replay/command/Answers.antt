@@ -5,7 +5,7 @@ use Rattle.command_line.proofs.replay.command.Goals as goal
 pub returns-clause-app : goal.returns-clause-app
 returns-clause-app c =
     let check = with_one _ _ _ _ _ c.program-replay.ensures.app c.check.ensures.app c.in_ok-replay.ensures.app in
-    with_one _ _ _ _ _ check c.base.ensures.app c.in_ok-replay-2.ensures.app
+    with_one _ _ _ _ _ check c.in_ok-base.ensures.app c.in_ok-replay-2.ensures.app
 
 pub returns-clause-local : goal.returns-clause-local
 returns-clause-local c = c.in_ok-replay-2.ensures.local ∙ c.in_ok-replay.ensures.local ∙ c.program-replay.ensures.local

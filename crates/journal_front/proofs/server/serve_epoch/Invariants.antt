@@ -1,4 +1,5 @@
-use Rattle.journal_front.specs.Keeping.{IsKeptIn}
+use Rattle.std.specs.Prelude.{◌⊎◌}
+use Rattle.journal_front.specs.Keeping.{IsKeptIn, IsLimitIn}
 use Rattle.journal_front.proofs.server.serve_epoch.Given as goal
 
 -- the database that was just opened, over the base of the epoch
@@ -11,6 +12,11 @@ ghosts-serve_opened-J-Queued g a = record { table = a.opened.table; capacity = a
 abbrev pub ghosts-serve_opened-J-Opening : goal.ghosts-serve_opened-J-Opening
 ghosts-serve_opened-J-Opening g a = record { config = a.opened.config }
 
--- what the journal's syncs have told of it
+-- what the journal's appends have said and its syncs have told of it, and what was reported
 abbrev pub ghosts-serve_opened-N-Keeping : goal.ghosts-serve_opened-N-Keeping
-ghosts-serve_opened-N-Keeping g a = record { is_kept = IsKeptIn g.F.Appended.told a.opened.base }
+ghosts-serve_opened-N-Keeping g a = record {
+  is_appended = IsKeptIn g.F.Appended.said a.opened.base;
+  is_kept = IsKeptIn g.F.Appended.told a.opened.base;
+  is_limit = IsLimitIn g.F.Appended.told a.opened.base;
+  has_failed = g.L.Notices.reported ⊎ g.E.Epochs.reported;
+}

@@ -1,47 +1,64 @@
 use denote.Param.{param}
 use denote.Param.Send.{sendable}
-use Rattle.std.proofs.Common.{[], ◌∷◌, ◌-◌, ◌∙◌, Bool, arith, ap, map, length, length-append}
-use Rattle.std.proofs.lemmas.List.{length-map, length-take}
-use Rattle.std.proofs.lemmas.List.FromFn.{length-map-range_with_len}
+use Rattle.std.proofs.Common.{◌-◌, ◌∙◌, arith, ap, length, refl, inl, inr, take}
 use Rattle.http_front.specs.Server.{server_turns}
-use Rattle.sessions.specs.Known.{fresh}
+use Rattle.http_handlers.specs.Sessions.{Goes, known_of}
+use Rattle.sessions.specs.Known.{Known}
 use Rattle.sessions.proofs.Crossing.{session-send}
-use Rattle.history_lock.specs.Successors.{last_database}
+use Rattle.journal.specs.Held.{begun}
 use Rattle.journal_front.specs.Server.{awaits}
-use Rattle.journal_front.proofs.Crossing.{durable-send}
-use Rattle.journal_front.proofs.Served.{Waiting, last_seen, next_over, serves_kept, waiting}
+use Rattle.journal_front.proofs.Keeping.{names_first, on_some}
+use Rattle.journal_front.proofs.Served.{all_served, served_from, serves_kept}
 use Rattle.journal_front.proofs.server.serve_opened.Goals as goal
 
-pub serve_beside-left-requires-send-S : goal.serve_beside-left-requires-send-S
-serve_beside-left-requires-send-S g c κs within = search (durable-send, session-send (param 0 g.row.J) g.J.Queued g.J.Opening g.J.Naming, sendable) depth 40
+pub new-round-requires : goal.new-round-requires
+new-round-requires g c = record {
+  named = names_first g.F.Appended.said g.F.Appended.told g.L.Notices.reported g.E.Epochs.reported g.N.Keeping.is_appended g.N.Keeping.is_kept g.N.Keeping.is_limit g.N.Keeping.has_failed g.J.Naming.base c.requires.names;
+  unready = λ told. c.requires.names.failed (inr told);
+  behind = record { history = begun g.J.Naming.base; holds = c.requires.held; extends = record { base = refl; more = _; entries = refl } };
+}
 
-pub serve_beside-left-requires-send-K : goal.serve_beside-left-requires-send-K
-serve_beside-left-requires-send-K g c κs within = search (session-send (param 0 g.row.J) g.J.Queued g.J.Opening g.J.Naming, sendable) depth 20
+pub new-place-requires : goal.new-place-requires
+new-place-requires g c = record { limit = c.requires.names.limit c.args.limit (inl (omega (arith, c.requires.limit))) }
 
-pub close-closed-requires : goal.close-closed-requires
-close-closed-requires g c =
-    let opened = ap length c.in-Ok.ensures.sessions ∙ length-map-range_with_len fresh 0 c.args.opened.config.sessions ∙ c.requires.named.sessions_is in
-    let rest = ap length c.in-Some.ensures.rest ∙ length-take (c.in-Ok.sessions.len - 1) c.in-Ok.sessions.items in
-    let durable = ap length c.in-Ok-all_durable.ensures ∙ length-map c.pop.new.self.items (waiting c.awaits.result) in
-    let served = c.serve_beside-left.result.1.items in
-    let all = ap length c.all_sessions.ensures ∙ length-append (map (λ (k : Waiting). k.0) served) (c.serve_beside-left.result.0.session ∷ []) in
-    record { all = omega (arith, opened, rest, durable, all, c.requires.some, c.requires.named.sessions_is, c.in-Ok.sessions.ok.0, c.serve_beside-left.ensures.same_number, length-map served (λ (k : Waiting). k.0)) }
+pub serve_kept-requires-send-S : goal.serve_kept-requires-send-S
+serve_kept-requires-send-S g c κs within = search (session-send (param 0 g.row.J) g.J.Queued g.J.Opening g.J.Naming, sendable) depth 20
+
+pub close_kept-requires : goal.close_kept-requires
+close_kept-requires g c =
+    let opened = c.in-Ok.sessions.items in
+    let base = g.J.Naming.base in
+    let rest_is = c.in-Some.ensures.rest ∙ ap (λ n. take (n - 1) opened) c.in-Ok.sessions.ok.0 in
+    let served = served_from (λ old deed new. Goes base g.J.Opening.config g.J.Queued.sessions g.J.Queued.capacity old deed new) (λ (k : Known). known_of base g.J.Opening.config g.J.Queued.sessions g.J.Queued.capacity k)
+    g.N.Keeping.is_appended g.N.Keeping.is_kept g.N.Keeping.is_limit g.N.Keeping.has_failed (awaits c.args.service.now.policy) server_turns server_turns c.args.service.now.terms.connections
+    (take (length opened - 1) opened) c.pop.new.self.items c.in-Some-serve_kept.sessions.items refl rest_is c.in-Some-serve_kept.ensures.served in
+    let all = all_served base g.N.Keeping.is_appended g.N.Keeping.is_kept g.N.Keeping.is_limit g.N.Keeping.has_failed c.args.opened.config (awaits c.args.service.now.policy) server_turns
+    c.args.service.now.terms.connections opened c.in-Some-serve_kept.sessions.items c.requires.some c.in-Ok.ensures.sessions g.J.Opening.config g.J.Queued.sessions g.J.Queued.capacity served in
+    record {
+      reported = λ told. c.requires.names.failed (inl told);
+      room = c.in-Some-serve_kept.ensures.room;
+      all = omega (arith, all, c.requires.named.sessions_is);
+      round = c.in-Some-serve_kept.ensures.round;
+    }
 
 pub returns : goal.returns
-unfolding server_turns
 returns g c =
     let named = c.requires.named in
-    let waits = c.in-Ok-all_durable.ensures ∙ ap (λ (w : Bool). map (waiting w) c.pop.new.self.items) c.awaits.ensures in
-    record {
-      keeper = c.serve_beside-left.result.0.session;
-      end = c.close-closed.result;
-      served = serves_kept g.J.Naming.base g.N.Keeping.is_kept c.args.opened.config (awaits c.args.service.now.policy) server_turns c.args.service.now.terms.connections c.in-Ok.sessions.len
-          c.in-Ok.sessions.items c.pop.new.self.items c.in-Ok-all_durable.durable.items c.serve_beside-left.result.1.items c.requires.some c.in-Ok.ensures.sessions c.in-Ok.sessions.ok.0 c.in-Some.ensures.rest waits
-          g.J.Opening.config g.J.Queued.sessions g.J.Queued.capacity _ c.serve_beside-left.result.0.session c.all_sessions.result.items c.close-closed.result named.config_is named.sessions_is named.capacity_is
-          c.in-Ok-new.ensures.turns c.serve_beside-left.ensures.same_number c.serve_beside-left.ensures.each c.all_sessions.ensures c.close-closed.ensures.end;
-      begins = c.serve_beside-left.ensures.begins;
-      next_is = next_over (λ e. e.version.base) c.serve_beside-left.result.0.next c.from_all.result (last_database g.J.Naming.base c.close-closed.result) _ c.place.result c.place-seen.result
-          (λ same. last_seen g.J.Naming.base c.all_sessions.result.items (map (λ (k : Waiting). k.0) c.serve_beside-left.result.1.items) c.serve_beside-left.result.0.session c.close-closed.result
-          c.place-seen.result c.place.result c.all_sessions.ensures c.close-closed.ensures.end c.place-seen.ensures.place (c.place.ensures.place ∙ ap (λ v. length v.entries) c.version.ensures) same)
-          c.serve_beside-left.ensures.next c.from_all.ensures;
-    }
+    let keeper = c.in-Some-serve_kept.left.session in
+    let opened = c.in-Ok.sessions.items in
+    let base = g.J.Naming.base in
+    let rest_is = c.in-Some.ensures.rest ∙ ap (λ n. take (n - 1) opened) c.in-Ok.sessions.ok.0 in
+    let served = served_from (λ old deed new. Goes base g.J.Opening.config g.J.Queued.sessions g.J.Queued.capacity old deed new) (λ (k : Known). known_of base g.J.Opening.config g.J.Queued.sessions g.J.Queued.capacity k)
+    g.N.Keeping.is_appended g.N.Keeping.is_kept g.N.Keeping.is_limit g.N.Keeping.has_failed (awaits c.args.service.now.policy) server_turns server_turns c.args.service.now.terms.connections
+    (take (length opened - 1) opened) c.pop.new.self.items c.in-Some-serve_kept.sessions.items refl rest_is c.in-Some-serve_kept.ensures.served in
+    on_some c.close_kept.result
+    (λ closed closes. record {
+      keeper = keeper;
+      end = closes.end;
+      served = serves_kept base g.N.Keeping.is_appended g.N.Keeping.is_kept g.N.Keeping.is_limit g.N.Keeping.has_failed c.args.opened.config (awaits c.args.service.now.policy) server_turns
+          c.args.service.now.terms.connections opened c.in-Some-serve_kept.sessions.items c.requires.some c.in-Ok.ensures.sessions
+          g.J.Opening.config g.J.Queued.sessions g.J.Queued.capacity keeper closes.end named.config_is named.sessions_is named.capacity_is served closes.ends;
+      whole = closes.whole;
+      next_is = closes.next_is;
+    })
+    c.close_kept.ensures

@@ -41,7 +41,7 @@ returns-in-Ok-Err-Judged g c =
     } in
     record {
       given = Instead told.0;
-      is_given = instead before after arm.verdict told.0 told.1 (rw (arm.field-0-is, arm.field-0-0-is) at arm.ensures.found) arm.ensures.end arm.ensures.failures;
+      is_given = instead c.args.is_raised before after arm.verdict told.0 told.1 (rw (arm.field-0-is, arm.field-0-0-is) at arm.ensures.found) arm.ensures.end arm.ensures.failures;
       ends = told.2;
     }
 

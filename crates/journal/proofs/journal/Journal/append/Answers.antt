@@ -13,5 +13,7 @@ returns g c =
       memory = done.memory;
       failed = done.failed;
       held = held_by old new v result done.appended;
+      said = done.said;
+      broken = done.broken;
       begins = begins_by old new v result done.appended done.memory done.failed;
     }

@@ -11,6 +11,7 @@ returns g c =
       told = done.told;
       failed = done.failed;
       memory = done.memory;
+      broken = done.broken;
       held = covered_by old new c.sync_file.result done.covered;
       begins = λ h begins. begins_same old new h done.taken begins;
     }

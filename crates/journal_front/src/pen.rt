@@ -1,0 +1,238 @@
+//! The pen of a journal, by which one at a time appends to it.
+ghost use Rattle.std.specs.Prelude.{◌≡◌, ◌⊎◌, ℕ, true, false, option_map, None, IfSome};
+ghost use Rattle.http_handlers.specs.Known.{history_of};
+ghost use Rattle.journal.specs.Held.{BeginsDump};
+ghost use Rattle.model.specs.History.{now, successor};
+ghost use Rattle.journal_front.specs.Keeping.{HoldsAll, IsBehind, IsRound, Names};
+
+use crate::appending::{pass, sync_all};
+use crate::epochs::{Epoch, Epochs};
+use crate::keeper::Upkeep;
+use crate::notices::Notices;
+use crate::service::Service;
+use durable_calls::{Keeping, KeptPlace, Pass, Passes};
+use http_handlers::Viewer;
+use journal::{Appended, Journal, JournalFault};
+use std::alloc::Global;
+use std::marker::{Model, PhantomData};
+use std::sync::{Mutex, MutexGuard, Wait};
+
+/// What lies under a pen: the journal of an epoch, the session that sees what is to be appended to it, and the next epoch once it has
+/// begun. Contracts see the session and the journal.
+pub(crate) struct Round<K: Viewer, F: Appended, N: Keeping, L: Notices<F>, E: Epochs<F>> {
+    session: K,
+    journal: Journal<F>,
+    next: Option<Epoch<F>>,
+    of: PhantomData<(N, L, E)>,
+}
+
+impl<K: Viewer + Drop, F: Appended, N: Keeping, L: Notices<F>, E: Epochs<F>> Drop
+    for Round<K, F, N, L, E> {
+    fn drop(self) {
+        let Round {
+            session: _,
+            journal: _,
+            next: _,
+            of: _,
+        } = self;
+    }
+}
+
+impl<K: Viewer, F: Appended, N: Keeping, L: Notices<F>, E: Epochs<F>> Model
+    for Round<K, F, N, L, E> {
+    ghost use Rattle.std.specs.Prelude.{option_map};
+    ghost use Rattle.journal.specs.Kept.{Kept};
+    ghost use Rattle.journal_front.specs.Keeping.{IsRound, Names};
+
+    ghost Value = { K × Kept };
+
+    ghost view = { λ r. (r.session, r.journal) };
+
+    ghost invariant = { λ r.
+        Names F.said F.told L.reported N.is_appended N.is_kept N.is_limit N.has_failed (K.known r.session).base
+        × (E.reported → N.has_failed)
+        × IsRound N.has_failed (K.known r.session) r.journal (option_map (λ next. next.version.base) r.next) };
+}
+
+/// What the end of an epoch leaves.
+pub(crate) struct Left<K, F: Appended> {
+    /// The session that saw what was appended.
+    pub(crate) session: K,
+    /// The journal of the epoch.
+    pub(crate) journal: Journal<F>,
+    /// The next epoch, where the history of this one is full.
+    pub(crate) next: Option<Epoch<F>>,
+}
+
+impl<K: Viewer, F: Appended, N: Keeping, L: Notices<F>, E: Epochs<F>> Round<K, F, N, L, E> {
+    /// Over a journal that is the dump of a beginning of what the session has seen.
+    pub(crate) fn new(session: K, journal: Journal<F>) -> Round<K, F, N, L, E>
+        requires named { Names F.said F.told L.reported N.is_appended N.is_kept N.is_limit N.has_failed (K.known session).base }
+        requires unready { E.reported → N.has_failed }
+        requires behind { IsBehind journal (K.known session) }
+    {
+        Round {
+            session,
+            journal,
+            next: None,
+            of: PhantomData,
+        }
+    }
+
+    /// What is known once a failure was reported, of whatever lies here.
+    pub(crate) fn recall(&self)
+        ensures { L.reported → N.has_failed }
+    {
+        let _journal = &self.journal;
+    }
+
+    /// Its parts.
+    pub(crate) fn into_left(self) -> Left<K, F>
+        ensures session { result.session ≡ self.0 }
+        ensures journal { result.journal ≡ self.1 }
+        ensures round { IsRound N.has_failed (K.known result.session) result.journal (option_map (λ next. next.version.base) result.next) }
+    {
+        let Round {
+            session,
+            journal,
+            next,
+            of: _,
+        } = self;
+        Left {
+            session,
+            journal,
+            next,
+        }
+    }
+
+    /// A pass: what is new is appended, and with `syncs` made durable, which is said. Where the journal breaks by it, that is
+    /// reported and said. Once it is broken, or the next epoch has begun, nothing is done.
+    pub(crate) fn pass(
+        &mut self,
+        alloc: Global,
+        place: &KeptPlace<N>,
+        notices: &L,
+        syncs: bool,
+    ) -> Pass {
+        if self.journal.is_broken() || self.next.is_some() {
+            return Pass::Made;
+        }
+        match pass(alloc, &mut self.session, &mut self.journal, place, syncs) {
+            Ok(()) => Pass::Made,
+            Err(JournalFault::Memory) => Pass::Refused,
+            Err(JournalFault::Failed) => {
+                notices.failed(&self.journal);
+                place.fail();
+                Pass::Made
+            }
+        }
+    }
+
+    /// Begins the next epoch where the history is full, and ends this one, after all of it is made durable. Where none can begin,
+    /// or the journal breaks by the sync, that is reported and said. It says whether the epoch ends or the journal has failed.
+    pub(crate) fn end_epoch(
+        &mut self,
+        service: &Service<'_, L>,
+        place: &KeptPlace<N>,
+        epochs: &mut E,
+    ) -> bool {
+        if self.journal.is_broken() || self.next.is_some() {
+            return true;
+        }
+        let seen = self.session.place();
+        if seen < service.max_places as u64 || self.journal.place() != seen {
+            return false;
+        }
+        if sync_all(&self.session, &mut self.journal, place).is_err() {
+            service.notices.failed(&self.journal);
+            place.fail();
+            return true;
+        }
+        self.next = epochs.succeed(&self.journal, self.session.version());
+        if self.next.is_none() {
+            place.fail();
+            return true;
+        }
+        place.finish();
+        epochs.wake(service.workers);
+        true
+    }
+}
+
+/// The pen of a journal. Whoever has it makes a pass, the others wait for its end.
+pub(crate) struct Pen<'s, K: Viewer, F: Appended, N: Keeping, L: Notices<F>, E: Epochs<F>> {
+    alloc: Global,
+    round: Mutex<Round<K, F, N, L, E>>,
+    place: &'s KeptPlace<N>,
+    notices: &'s L,
+}
+
+impl<K: Viewer + Drop, F: Appended, N: Keeping, L: Notices<F>, E: Epochs<F>> Drop
+    for Pen<'_, K, F, N, L, E> {
+    fn drop(self) {
+        let Pen {
+            alloc: _,
+            round: _,
+            place: _,
+            notices: _,
+        } = self;
+    }
+}
+
+impl<'s, K: Viewer, F: Appended, N: Keeping, L: Notices<F>, E: Epochs<F>> Pen<'s, K, F, N, L, E> {
+    /// Over what lies under it. What it does is said by this place.
+    pub(crate) fn new(
+        alloc: Global,
+        round: Round<K, F, N, L, E>,
+        place: &'s KeptPlace<N>,
+        notices: &'s L,
+    ) -> Pen<'s, K, F, N, L, E> {
+        Pen {
+            alloc,
+            round: Mutex::new(round),
+            place,
+            notices,
+        }
+    }
+
+    /// What lies under it.
+    pub(crate) fn into_round(self) -> Round<K, F, N, L, E> {
+        let Pen {
+            alloc: _,
+            round,
+            place: _,
+            notices: _,
+        } = self;
+        round.into_inner()
+    }
+}
+
+impl<'s, R: Wait, K: Viewer, F: Appended, N: Keeping, L: Notices<F>, E: Epochs<F>> Upkeep<
+    R,
+    F,
+    N,
+    L,
+    E,
+> for Pen<'s, K, F, N, L, E> {
+    fn keep(&self, rt: &R, service: &Service<'_, L>, epochs: &mut E, syncs: bool) -> bool {
+        let mut round = self.round.lock(rt);
+        round.pass(self.alloc, self.place, self.notices, syncs);
+        let ends = round.end_epoch(service, self.place, epochs);
+        drop(round);
+        self.place.end_pass();
+        ends
+    }
+}
+
+impl<X, K: Viewer, F: Appended, N: Keeping, L: Notices<F>, E: Epochs<F>> Passes<X>
+    for Pen<'_, K, F, N, L, E> {
+    fn try_pass(&self, _context: &X, syncs: bool) -> Pass {
+        let Some(mut round) = self.round.try_lock() else {
+            return Pass::Busy;
+        };
+        let pass = round.pass(self.alloc, self.place, self.notices, syncs);
+        drop(round);
+        self.place.end_pass();
+        pass
+    }
+}
