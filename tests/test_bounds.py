@@ -5,8 +5,8 @@
 A document whose first 999 revisions are a chain has 2,000 leaves at the chain's tip. All of them with their paths are read as one
 answer: its length is the one that was announced, its text is that of the rules, and meanwhile the program holds a part of it alone.
 Then a server that may have 100 MB of address space takes documents until it refuses them, and is read from there on, by connections old
-and new: documents of 20 bytes, and of 20 kB, which take more than what a refused write gave back. Its threads have one heap; where some
-have none, they may be refused a read, but are never silent.
+and new: documents of 20 bytes, and of 20 kB, which take more than what a refused write gave back. Its threads have one heap; where each
+asks for one of its own, some have none in so little space: they may be refused a write or a read at any time, but are never silent.
 """
 import json
 import os
@@ -90,7 +90,7 @@ def long_answer(couchd, checks):
 def full_memory(couchd, checks, heaps):
     """A server whose memory is used up by documents goes on to answer reads."""
     with Server(couchd, "--workers", "4", env=dict(os.environ, **heaps), limits={"as": SPACE}) as server:
-        write_large(server.port, checks)
+        write_large(server.port, checks, 0 if heaps == ONE_HEAP else REFUSALS)
         taken = fill(server.port)
         checks.check(taken > 0, "no document is taken")
         for name, count in ("d", taken), ("large", LARGE):
@@ -101,11 +101,17 @@ def full_memory(couchd, checks, heaps):
                 checks.check(heaps != ONE_HEAP or set(statuses) == {200}, "reads with one heap: %s", statuses)
 
 
-def write_large(port, checks):
+def write_large(port, checks, most_refusals):
+    """Writes the large documents while there is memory. Each write may be refused so many times, and is asked again over a new connection."""
     connection = Connection(port)
     for number in range(LARGE):
-        status, _ = connection.ask("PUT", "/db/large%d" % number, json.dumps({"t": "x" * LARGE_SIZE}).encode())
-        checks.check(status == 201, "a large document: %d", status)
+        for refusals in range(most_refusals + 1):
+            status, _ = connection.ask("PUT", "/db/large%d" % number, json.dumps({"t": "x" * LARGE_SIZE}).encode())
+            if status == 201:
+                break
+            connection.close()
+            connection = Connection(port)
+        checks.check(status == 201, "a large document, asked %d times: %d", refusals + 1, status)
     connection.close()
 
 
