@@ -3,6 +3,7 @@ ghost use Rattle.std.specs.Prelude.{◌≡◌, ◌<◌, ◌≤◌, ℕ, true, If
 ghost use Rattle.durable_calls.specs.Kept.{IsShown};
 ghost use Rattle.durable_calls.specs.declared.kept_place.NotShown.TheVariants as not_shown;
 
+use crate::gathering::Gathering;
 use crate::keeping::{AppendedTo, FailureOf, Keeping, KeptTo, LimitOf};
 use crate::passes::{Pass, Passes};
 use std::hint::spin_loop;
@@ -42,6 +43,8 @@ pub struct KeptPlace<N: Keeping> {
     ends: AtomicU64,
     /// How many sessions sleep until a pass ends, or are about to.
     sleepers: AtomicU64,
+    /// The sessions that share a sync.
+    gathering: Gathering,
     /// How often a session asked for the keeper.
     asked: AtomicU64,
     /// Whether there is a keeper.
@@ -61,6 +64,7 @@ impl<N: Keeping> Drop for KeptPlace<N> {
             failed: _,
             ends: _,
             sleepers: _,
+            gathering: _,
             asked: _,
             begun: _,
             over: _,
@@ -81,6 +85,7 @@ impl<N: Keeping> KeptPlace<N> {
             failed: AtomicIn::new(0),
             ends: AtomicU64::new(0),
             sleepers: AtomicU64::new(0),
+            gathering: Gathering::new(),
             asked: AtomicU64::new(0),
             begun: AtomicBool::new(false),
             over: AtomicBool::new(false),
@@ -112,11 +117,17 @@ impl<N: Keeping> KeptPlace<N> {
         self.appended.store(place, SeqCst);
     }
 
-    /// Says that the entries up to this place are kept. In a pass.
+    /// Says that the entries up to this place are kept. In a pass, behind its sync.
     pub fn keep_up_to(&self, place: u64)
         requires kept { 0 < place → N.is_kept place }
     {
         self.kept.store(place, SeqCst);
+        self.gathering.expect_all();
+    }
+
+    /// Waits a while for sessions that are expected to share the sync of the pass. In a pass, before it.
+    pub fn gather(&self) {
+        self.gathering.gather();
     }
 
     /// Says that update numbers up to this limit may be shown. In a pass.
@@ -157,6 +168,27 @@ impl<N: Keeping> KeptPlace<N> {
     /// [`NotShown::Failed`] where the journal has failed, and [`NotShown::Refused`] where passes were refused for about a
     /// second.
     pub fn wait_for<X: Wait, P: Passes<X>>(
+        &self,
+        rt: &X,
+        passes: &P,
+        place: u64,
+        number: u64,
+        awaits: bool,
+    ) -> Result<(), NotShown>
+        ensures shown { IfOk result (λ _. IsShown N.is_appended N.is_kept N.is_limit awaits place number) }
+        ensures failed { result ≡ Err not_shown.Failed → N.has_failed }
+    {
+        if self.covers(place, number, awaits) {
+            return Ok(());
+        }
+        if awaits {
+            self.gathering.begin_wait();
+        }
+        self.wait_by_passes(rt, passes, place, number, awaits)
+    }
+
+    /// Makes passes, or waits for those of others, until what has so many entries and this update number may be shown.
+    fn wait_by_passes<X: Wait, P: Passes<X>>(
         &self,
         rt: &X,
         passes: &P,

@@ -7,6 +7,7 @@
 #![tactic(auto)]
 
 mod durable;
+mod gathering;
 mod keeping;
 mod kept_place;
 mod passes;

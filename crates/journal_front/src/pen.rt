@@ -230,6 +230,9 @@ impl<X, K: Viewer, F: Appended, N: Keeping, L: Notices<F>, E: Epochs<F>> Passes<
         let Some(mut round) = self.round.try_lock() else {
             return Pass::Busy;
         };
+        if syncs {
+            self.place.gather();
+        }
         let pass = round.pass(self.alloc, self.place, self.notices, syncs);
         drop(round);
         self.place.end_pass();
