@@ -9,6 +9,7 @@ after another, under clients that write and follow. Each file of a folder is aud
 and 20 epochs, else some. What ends leave is looked at by `tests/test_durability.py`.
 """
 import os
+import resource
 import shutil
 import sys
 import tempfile
@@ -35,24 +36,28 @@ def none_is_cut(checks, folder):
 # ---- a disk that is full
 
 
+def fill(checks, server):
+    """Writes documents until five writes in a row are refused, and answers those that were taken."""
+    connection, taken, refused = Connection(server.port), [], 0
+    while refused < 5 and len(taken) < 20_000:
+        id = "d%d" % (len(taken) + refused)
+        status, value = connection.ask("PUT", "/db/" + id, {"text": "x" * 50})
+        if status == 201:
+            taken.append((id, value["rev"]))
+        else:
+            is_refused = status == 503 and (value["error"], value["reason"]) == ("unavailable", "journal")
+            checks.check(is_refused, "%d, %r on a full disk", status, value)
+            refused += 1
+    checks.check(refused == 5, "no write was refused on a full disk")
+    return taken
+
+
 def full_disk(checks, program, replay, policy):
     """From the first write that fails on, writes are refused by the reason `journal`, and reads go on."""
     with tempfile.TemporaryDirectory() as folder:
-        kept, refused = [], 0
         with Server(program, "--sync", policy, "--workers", "4", data=folder, limits={"fsize": 40_000}) as server:
+            kept = fill(checks, server)
             connection = Connection(server.port)
-            for number in range(20_000):
-                id = "d%d" % number
-                status, value = connection.ask("PUT", "/db/" + id, {"text": "x" * 50})
-                if status == 201 and not refused:
-                    kept.append((id, value["rev"]))
-                    continue
-                is_refused = status == 503 and (value["error"], value["reason"]) == ("unavailable", "journal")
-                checks.check(is_refused, "%d, %r on a full disk", status, value)
-                refused += 1
-                if refused == 5:
-                    break
-            checks.check(refused == 5, "no write was refused on a full disk")
             checks.check(is_there(connection, *kept[0]), "a read is not answered on a full disk")
             other = Connection(server.port)
             checks.check(other.ask("DELETE", "/db/%s?rev=%s" % kept[0])[0] == 503, "another worker writes on a full disk")
@@ -66,6 +71,41 @@ def full_disk(checks, program, replay, policy):
             checks.check(not lost, "%d of %d answered writes are lost after a full disk", len(lost), len(kept))
             checks.check(connection.ask("PUT", "/db/after", {})[0] == 201, "no write after a full disk")
         checks.check(neighbours(replay, folder) == [True], "after a full disk numbers are raised: %r", neighbours(replay, folder))
+
+
+def taken_again(server, id):
+    """The revision of a document that is written again and again until that is taken, or None."""
+    by = time.monotonic() + SECONDS
+    while time.monotonic() < by:
+        connection = Connection(server.port)
+        status, value = connection.ask("PUT", "/db/" + id, {})
+        if status == 201:
+            return value["rev"]
+        connection.close()
+        time.sleep(0.1)
+    return None
+
+
+def mended(checks, program, replay, policy):
+    """A disk that was full and takes the journal again: it is written anew, and writes go on with no new start."""
+    with tempfile.TemporaryDirectory() as folder:
+        with Server(program, "--sync", policy, "--workers", "4", data=folder, limits={"fsize": "40000:"}) as server:
+            kept = fill(checks, server)
+            rows = Connection(server.port).ask("GET", "/db/_changes")[1]["results"]
+            resource.prlimit(server.process.pid, resource.RLIMIT_FSIZE, (resource.RLIM_INFINITY,) * 2)
+            kept.append(("after", taken_again(server, "after")))
+            checks.check(kept[-1][1] is not None, "no write once there is room: %r", server.reported())
+            checks.check("the journal is written anew" in server.reported(), "standard error says %r", server.reported())
+            kept += [("more%d" % n, Connection(server.port).ask("PUT", "/db/more%d" % n, {})[1]["rev"]) for n in range(10)]
+            seen = [(row["id"], row["changes"][0]["rev"]) for row in rows]
+        checks.check(files(folder) == [FILE], "%r are there after the journal was written anew", files(folder))
+        audit(checks, replay, folder)
+        with Server(program, data=folder) as server:
+            connection = Connection(server.port)
+            lost = [write for write in kept + seen if not is_there(connection, *write)]
+            checks.check(not lost, "%d of %d are lost behind a full disk", len(lost), len(kept + seen))
+        left = [name for name in os.listdir(folder) if name.endswith(".new")]
+        checks.check(left == [], "%r are left", left)
 
 
 # ---- spoilt files
@@ -397,7 +437,7 @@ def keeps(checks, program, replay):
 
 
 def no_next_epoch(checks, program, replay):
-    """Where the file of the next epoch can't be made, writes are refused by the reason `journal`, and reads go on."""
+    """Where the file of the next epoch can't be made, writes are refused by the reason `journal`, and reads go on, until it can."""
     with tempfile.TemporaryDirectory() as folder:
         with Server(program, "--sync", "always", "--max-places", "20", data=folder) as server:
             os.mkdir(os.path.join(folder, "0000000002.dump.new"))
@@ -415,7 +455,10 @@ def no_next_epoch(checks, program, replay):
                 "a read is not answered where no next epoch begins",
             )
             checks.check("no next epoch begins" in server.reported(), "where no next epoch begins: %r", server.reported())
-        os.rmdir(os.path.join(folder, "0000000002.dump.new"))
+            os.rmdir(os.path.join(folder, "0000000002.dump.new"))
+            rev = taken_again(server, "next")
+            checks.check(rev is not None, "no next epoch begins once it can: %r", server.reported())
+            told["next"] = rev
         with Server(program, data=folder) as server:
             connection = Connection(server.port)
             checks.check(
@@ -438,6 +481,7 @@ def main():
     changes(checks, given.couchd, given.replay, every)
     for policy in ("always", "second", "never"):
         full_disk(checks, given.couchd, given.replay, policy)
+        mended(checks, given.couchd, given.replay, policy)
     keeps(checks, given.couchd, given.replay)
     no_next_epoch(checks, given.couchd, given.replay)
     full_histories(checks, given.couchd, given.replay, 20 if given.long else 4)

@@ -16,8 +16,9 @@ IGNORE_FULL = ["env", "--ignore-signal=XFSZ"]  # a write past the size that a fi
 
 
 def bounded(limits):
-    """What runs a program whose resources are bounded: names of options of prlimit, with what each allows."""
-    return [*IGNORE_FULL, "prlimit", *("--%s=%d" % it for it in limits.items())] if limits else []
+    """What runs a program whose resources are bounded: names of options of prlimit, with what each allows. A bound that ends with a
+    colon may be raised again."""
+    return [*IGNORE_FULL, "prlimit", *("--%s=%s" % it for it in limits.items())] if limits else []
 
 
 class Server:

@@ -23,11 +23,17 @@ impl JournalNotices<DiskFile> for Notices<'_> {
 
     fn failed(&self, journal: &Journal<DiskFile>) {
         let _printed = eprintln!(self.rt;
-            "couchd: the journal failed, and writes are refused from now on"
+            "couchd: the journal failed, and writes are refused until it is written anew"
         );
         if let Some(error) = journal.file().error() {
             let _printed = eprintln!(self.rt; "couchd: {error}");
         }
+    }
+
+    fn mended(&self) {
+        let _printed = eprintln!(self.rt;
+            "couchd: the journal is written anew, and writes are taken again"
+        );
     }
 
     fn no_keeper(&self) {
@@ -61,7 +67,26 @@ impl Epochs<DiskFile> for Files<'_> {
             Ok(begun) => Some(self.begun(begun)),
             Err(fault) => {
                 let _printed = eprintln!(self.rt;
-                    "couchd: no next epoch begins, and writes are refused from now on: {fault}"
+                    "couchd: no next epoch begins, and writes are refused until one does: {fault}"
+                );
+                None
+            }
+        }
+    }
+
+    fn rewrite(
+        &mut self,
+        _broken: &Journal<DiskFile>,
+        last: &Version,
+    ) -> Option<Journal<DiskFile>> {
+        match self
+            .folder
+            .rewrite(self.rt, self.epoch, last, self.shows_kept)
+        {
+            Ok(journal) => Some(journal),
+            Err(fault) => {
+                let _printed = eprintln!(self.rt;
+                    "couchd: the journal can't be written anew yet: {fault}"
                 );
                 None
             }

@@ -137,12 +137,17 @@ impl<N: Keeping> KeptPlace<N> {
         self.limit.store(limit, SeqCst);
     }
 
-    /// Says that the journal has failed, to all that wait and to each later write.
+    /// Says that the journal has failed, to all that wait and to each write until it is mended.
     pub fn fail(&self)
         requires failed { N.has_failed }
     {
         self.failed.store(1, SeqCst);
         self.end_pass();
+    }
+
+    /// Says that the journal is whole again: it was written anew. By the keeper.
+    pub fn mend(&self) {
+        self.failed.store(0, SeqCst);
     }
 
     /// Says that a pass has ended, after the next one can begin. The system is called only where a session sleeps.

@@ -11,12 +11,10 @@ ghost use Rattle.journal.specs.Starting.{AreNumbersTooLarge, IsBegunAfter, IsDam
 ghost use Rattle.journal.specs.declared.restored.Unrestored.TheVariants as unrestored;
 ghost use Rattle.journal.specs.declared.start_fault.StartFault.TheVariants as start;
 
-use crate::disk_file::DiskFile;
 use crate::folder::Folder;
-use crate::journal::Journal;
 use crate::lock::remove_left;
 use crate::mark::{Mark, ahead_of, mark_for, raise_by, synced_by};
-use crate::mark_file::{MarkFile, found_mark};
+use crate::mark_file::found_mark;
 use crate::names::{LAST_EPOCH, epoch_name};
 use crate::reading::restore;
 use crate::restored::{End, Raise, Restored, Unrestored};
@@ -30,7 +28,7 @@ use std::io::{self, BufReader, ErrorKind};
 use std::rt::Files;
 
 /// The name of the file that has the mark.
-const MARK: &str = "mark";
+pub(crate) const MARK: &str = "mark";
 
 /// What was read of the file of an epoch, and how many bytes that has.
 #[derive(Drop)]
@@ -222,98 +220,10 @@ impl Folder {
         })
     }
 
-    /// The journal of an epoch that goes on in its file, which has a first line of so many bytes, synced. That the file has its name,
-    /// and that no earlier mark of this epoch is left, is made durable first.
-    fn resume<R: Files<File = File> + AllocGlobal>(
-        &self,
-        rt: &R,
-        epoch: u64,
-        len: u64,
-        shows_kept: bool,
-    ) -> Result<Journal<DiskFile>, StartFault>
-        ensures journal { IfOk result (λ j. (j.place ≡ 0) × (j.synced ≡ 0) × (j.broken ≡ false)) }
-        ensures fault { IfErr result IsOfFiles }
-    {
-        let mark = self.path_of(MARK)?;
-        of_file(self.alloc, MARK, remove_left(rt, mark.as_str()))?;
-        self.sync()?;
-        let name = epoch_name(self.alloc, epoch)?;
-        let path = self.path_of(name.as_str())?;
-        let file = of_file(
-            self.alloc,
-            name.as_str(),
-            DiskFile::go_on(rt, path.as_str(), len),
-        )?;
-        let mark = self.new_mark(rt, epoch, shows_kept);
-        Ok(Journal::resume(file.marked(mark)))
-    }
-
-    /// Makes the file of an epoch that begins with this version: written beside, synced, and then named.
-    fn begin<R: Files<File = File> + AllocGlobal>(
-        &self,
-        rt: &R,
-        epoch: u64,
-        version: Version,
-        shows_kept: bool,
-    ) -> Result<Begun, StartFault>
-        requires { version ≡ begun version.base }
-        ensures version { IfOk result (λ b. b.version ≡ version) }
-        ensures epoch { IfOk result (λ b. b.epoch ≡ epoch) }
-        ensures fault { IfErr result IsOfFiles }
-    {
-        let name = epoch_name(self.alloc, epoch)?;
-        let path = self.path_of(name.as_str())?;
-        let new_name = format!(in self.alloc; "{name}.new")?;
-        let beside = self.path_of(new_name.as_str())?;
-        of_file(
-            self.alloc,
-            new_name.as_str(),
-            remove_left(rt, beside.as_str()),
-        )?;
-        let file = of_file(
-            self.alloc,
-            new_name.as_str(),
-            DiskFile::create(rt, beside.as_str()),
-        )?;
-        let journal = Journal::begin(self.alloc, file, &version)?;
-        if journal.is_broken() {
-            let _removed = fs::remove_file(rt, beside.as_str());
-            return Err(unwritten(new_name, journal));
-        }
-        of_file(
-            self.alloc,
-            name.as_str(),
-            fs::rename(rt, beside.as_str(), path.as_str()),
-        )?;
-        self.sync()?;
-        let file = journal
-            .into_file()
-            .marked(self.new_mark(rt, epoch, shows_kept));
-        Ok(Begun {
-            version,
-            journal: Journal::resume(file),
-            epoch,
-        })
-    }
-
     /// The mark that is found.
     pub(crate) fn mark<R: Files<File = File>>(&self, rt: &R) -> Result<Option<Mark>, AllocError> {
         let path = self.path_of(MARK)?;
         Ok(found_mark(rt, path.as_str()))
-    }
-
-    /// A new file for the mark of this epoch, in place of the one that is there. Where it can't be made, there is none.
-    fn new_mark<R: Files<File = File>>(
-        &self,
-        rt: &R,
-        epoch: u64,
-        shows_kept: bool,
-    ) -> Option<MarkFile> {
-        let Ok(path) = self.path_of(MARK) else {
-            return None;
-        };
-        let _removed = remove_left(rt, path.as_str());
-        MarkFile::create(rt, self.alloc, path.as_str(), epoch, shows_kept, self.boot)
     }
 
     /// Removes the mark, durably.
@@ -361,16 +271,6 @@ pub(crate) fn restore_file(
 {
     let mut reader = BufReader::new(alloc, file)?;
     restore(alloc, &mut reader, synced, raise)
-}
-
-/// Why the first line of a journal's file, which has this name, could not be written.
-fn unwritten(name: String, journal: Journal<DiskFile>) -> StartFault
-    ensures { IsOfFiles result }
-{
-    match journal.into_file().into_error() {
-        Some(error) => StartFault::File { name, error },
-        None => StartFault::Unwritten,
-    }
 }
 
 /// Of epochs that rise, all up to this one but the newest `count`, at least one of them, from the newest on.

@@ -9,8 +9,10 @@ ghost use Rattle.journal.specs.Appending.{lines_above, IsBegun, AppendsAll, Fail
 ghost use Rattle.journal.specs.declared.fault.JournalFault.TheVariants as fault;
 
 use crate::appended::Appended;
+use crate::disk_file::DiskFile;
 use crate::fault::JournalFault;
 use crate::lines::lines_above;
+use crate::mark_file::MarkFile;
 use history_dump::first_line;
 use snapshots::Version;
 use std::alloc::{AllocError, Global};
@@ -205,8 +207,28 @@ impl<F: Appended> Journal<F> {
     }
 }
 
+impl Journal<DiskFile> {
+    /// The same journal, whose mark is said from now on.
+    pub(crate) fn marked(self, mark: Option<MarkFile>) -> Journal<DiskFile>
+        ensures { result ≡ self }
+    {
+        let Journal {
+            file,
+            place,
+            synced,
+            broken,
+        } = self;
+        Journal {
+            file: file.marked(mark),
+            place,
+            synced,
+            broken,
+        }
+    }
+}
+
 /// A journal over a file that gets this first line, synced.
-fn begin_with<F: Appended>(mut file: F, line: &[u8]) -> Journal<F>
+pub(crate) fn begin_with<F: Appended>(mut file: F, line: &[u8]) -> Journal<F>
     ensures begun { IsBegun (F.taken file) (F.failed file) line.now result }
     ensures told { result.broken ≡ false → F.told result.taken }
 {

@@ -5,6 +5,7 @@
 #![tactic(auto)]
 
 mod appended;
+mod beginning;
 mod boot;
 mod disk_file;
 mod epochs;

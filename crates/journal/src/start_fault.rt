@@ -35,8 +35,8 @@ pub enum StartFault {
         /// Why it failed.
         error: io::Error,
     },
-    /// The new file's first line could not be written.
-    #[error("the first line of a new file could not be written")]
+    /// A new file could not be written.
+    #[error("a new file could not be written")]
     Unwritten,
     /// Memory was refused.
     #[error("out of memory")]

@@ -112,7 +112,7 @@ pub(crate) fn sync_all<K: Viewer, F: Appended, N: Keeping>(
 }
 
 /// Up to which number updates may be shown once a sync has covered this version: an end of the machine raises numbers by as much.
-fn limit_of(version: &Version) -> u64
+pub(crate) fn limit_of(version: &Version) -> u64
     ensures { result ≤ (now version.now).update_seq + raise }
 {
     version

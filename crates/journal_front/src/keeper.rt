@@ -5,6 +5,7 @@ ghost use Rattle.journal_front.specs.Server.{sync_nanoseconds};
 
 use crate::epochs::Epochs;
 use crate::notices::Notices;
+use crate::retry::Retry;
 use crate::service::Service;
 use durable_calls::{Keeping, KeptPlace};
 use journal::Appended;
@@ -17,15 +18,33 @@ const PAUSE_MILLISECONDS: u64 = 100;
 /// So long after a sync the time of the next one has come, where there is one each second: a pause of the keeper may follow.
 const SYNC_MILLISECONDS: u64 = 900;
 
-/// What a keeper does, one time after another.
-pub(crate) trait Upkeep<R, F: Appended, N: Keeping, L: Notices<F>, E: Epochs<F>> {
-    /// A pass of the keeper, for which it waits, and the end of the epoch where its history is full. It says whether the keeper
-    /// has no more to do in this epoch.
-    fn keep(&self, rt: &R, service: &Service<'_, L>, epochs: &mut E, syncs: bool) -> bool;
+/// What became of a turn of the keeper.
+#[derive(Clone, Copy, Debug, PartialEq, Eq)]
+pub(crate) enum Turn {
+    /// There is nothing more to do now.
+    Done,
+    /// The disk refused what was tried.
+    Refused,
+    /// The next epoch has begun, and this one is over.
+    Over,
 }
 
-/// Makes passes of the journal until no more entries come or it fails: it syncs as the policy says, and where the history is
-/// full it begins the next epoch, and ends this one.
+/// What a keeper does, one time after another.
+pub(crate) trait Upkeep<R, F: Appended, N: Keeping, L: Notices<F>, E: Epochs<F>> {
+    /// A pass of the keeper, for which it waits. With `tries` a broken journal is written anew, or where the history is full the
+    /// next epoch begins, and this one ends.
+    fn keep(
+        &self,
+        rt: &R,
+        service: &Service<'_, L>,
+        epochs: &mut E,
+        syncs: bool,
+        tries: bool,
+    ) -> Turn;
+}
+
+/// Makes passes of the journal until no more entries come: it syncs as the policy says, writes the journal anew once it is broken,
+/// and where the history is full begins the next epoch, and ends this one. What the disk refuses is tried again.
 pub(crate) fn keep<
     R: Wait + Clock,
     P: Upkeep<R, F, N, L, E>,
@@ -35,6 +54,7 @@ pub(crate) fn keep<
     E: Epochs<F>,
 >(rt: &R, service: &Service<'_, L>, pen: &P, place: &KeptPlace<N>, epochs: &mut E) {
     let mut synced = Instant::now(rt).ok();
+    let mut retry = Retry::new();
     place.begin();
     for _ in rt.forever() {
         let asked = place.asked();
@@ -44,7 +64,14 @@ pub(crate) fn keep<
         if syncs {
             synced = time;
         }
-        if pen.keep(rt, service, epochs, syncs) || last {
+        let tries = last || retry.is_due(time);
+        match pen.keep(rt, service, epochs, syncs, tries) {
+            Turn::Over => return,
+            Turn::Refused => retry = retry.later(Instant::now(rt).ok()),
+            Turn::Done if tries => retry = Retry::new(),
+            Turn::Done => {}
+        }
+        if last {
             return;
         }
         place.sleep_until_asked(rt, asked, Duration::from_millis(PAUSE_MILLISECONDS));

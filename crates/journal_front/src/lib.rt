@@ -2,7 +2,8 @@
 //!
 //! The journal of an epoch and a session that sees what is to be appended to it lie under a pen. Who has written takes the pen, and
 //! appends all that is new in one write before the answer; where that is awaited one sync makes it durable. The keeper, on a
-//! thread of its own, does what time brings: the sync of each second, the next epoch once the history is full, and the last pass.
+//! thread of its own, does what time brings: the sync of each second, the next epoch once the history is full, the journal anew once it
+//! is broken, and the last pass.
 #![tactic(auto)]
 
 mod appending;
@@ -10,9 +11,11 @@ mod closing;
 mod completing;
 mod epochs;
 mod keeper;
+mod mending;
 mod notices;
 mod pen;
 mod policy;
+mod retry;
 mod server;
 mod service;
 mod serving;

@@ -1,13 +1,11 @@
 //! The pen of a journal, by which one at a time appends to it.
-ghost use Rattle.std.specs.Prelude.{◌≡◌, ◌⊎◌, ℕ, true, false, option_map, None, IfSome};
-ghost use Rattle.http_handlers.specs.Known.{history_of};
-ghost use Rattle.journal.specs.Held.{BeginsDump};
-ghost use Rattle.model.specs.History.{now, successor};
-ghost use Rattle.journal_front.specs.Keeping.{HoldsAll, IsBehind, IsRound, Names};
+ghost use Rattle.std.specs.Prelude.{◌≡◌, option_map};
+ghost use Rattle.journal_front.specs.Keeping.{IsBehind, IsRound, Names};
 
 use crate::appending::{pass, sync_all};
 use crate::epochs::{Epoch, Epochs};
-use crate::keeper::Upkeep;
+use crate::keeper::{Turn, Upkeep};
+use crate::mending::rewrite;
 use crate::notices::Notices;
 use crate::service::Service;
 use durable_calls::{Keeping, KeptPlace, Pass, Passes};
@@ -15,7 +13,7 @@ use http_handlers::Viewer;
 use journal::{Appended, Journal, JournalFault};
 use std::alloc::Global;
 use std::marker::{Model, PhantomData};
-use std::sync::{Mutex, MutexGuard, Wait};
+use std::sync::{Mutex, Wait};
 
 /// What lies under a pen: the journal of an epoch, the session that sees what is to be appended to it, and the next epoch once it has
 /// begun. Contracts see the session and the journal.
@@ -106,7 +104,7 @@ impl<K: Viewer, F: Appended, N: Keeping, L: Notices<F>, E: Epochs<F>> Round<K, F
     }
 
     /// A pass: what is new is appended, and with `syncs` made durable, which is said. Where the journal breaks by it, that is
-    /// reported and said. Once it is broken, or the next epoch has begun, nothing is done.
+    /// reported and said. While it is broken, or once the next epoch has begun, nothing is done.
     pub(crate) fn pass(
         &mut self,
         alloc: Global,
@@ -128,34 +126,66 @@ impl<K: Viewer, F: Appended, N: Keeping, L: Notices<F>, E: Epochs<F>> Round<K, F
         }
     }
 
-    /// Begins the next epoch where the history is full, and ends this one, after all of it is made durable. Where none can begin,
-    /// or the journal breaks by the sync, that is reported and said. It says whether the epoch ends or the journal has failed.
-    pub(crate) fn end_epoch(
+    /// What a disk is asked for besides passes: the journal anew where it is broken, and the next epoch where the history is full.
+    pub(crate) fn settle(
         &mut self,
         service: &Service<'_, L>,
         place: &KeptPlace<N>,
         epochs: &mut E,
-    ) -> bool {
+    ) -> Turn {
+        if self.next.is_some() {
+            return Turn::Over;
+        }
+        if self.journal.is_broken() {
+            return self.mend(service, place, epochs);
+        }
+        self.end_epoch(service, place, epochs)
+    }
+
+    /// Writes a broken journal anew, with all that the session sees, and says so.
+    fn mend(&mut self, service: &Service<'_, L>, place: &KeptPlace<N>, epochs: &mut E) -> Turn {
+        if self.next.is_some() || !self.journal.is_broken() {
+            return Turn::Done;
+        }
+        match rewrite(&mut self.session, &self.journal, place, epochs) {
+            Some(whole) => {
+                self.journal = whole;
+                place.mend();
+                service.notices.mended();
+                Turn::Done
+            }
+            None => Turn::Refused,
+        }
+    }
+
+    /// Begins the next epoch where the history is full, and ends this one, after all of it is made durable. Where none can begin,
+    /// or the journal breaks by the sync, that is reported and said.
+    fn end_epoch(
+        &mut self,
+        service: &Service<'_, L>,
+        place: &KeptPlace<N>,
+        epochs: &mut E,
+    ) -> Turn {
         if self.journal.is_broken() || self.next.is_some() {
-            return true;
+            return Turn::Done;
         }
         let seen = self.session.place();
         if seen < service.max_places as u64 || self.journal.place() != seen {
-            return false;
+            return Turn::Done;
         }
         if sync_all(&self.session, &mut self.journal, place).is_err() {
             service.notices.failed(&self.journal);
             place.fail();
-            return true;
+            return Turn::Done;
         }
         self.next = epochs.succeed(&self.journal, self.session.version());
         if self.next.is_none() {
             place.fail();
-            return true;
+            return Turn::Refused;
         }
         place.finish();
         epochs.wake(service.workers);
-        true
+        Turn::Over
     }
 }
 
@@ -214,13 +244,24 @@ impl<'s, R: Wait, K: Viewer, F: Appended, N: Keeping, L: Notices<F>, E: Epochs<F
     L,
     E,
 > for Pen<'s, K, F, N, L, E> {
-    fn keep(&self, rt: &R, service: &Service<'_, L>, epochs: &mut E, syncs: bool) -> bool {
+    fn keep(
+        &self,
+        rt: &R,
+        service: &Service<'_, L>,
+        epochs: &mut E,
+        syncs: bool,
+        tries: bool,
+    ) -> Turn {
         let mut round = self.round.lock(rt);
         round.pass(self.alloc, self.place, self.notices, syncs);
-        let ends = round.end_epoch(service, self.place, epochs);
+        let turn = if tries {
+            round.settle(service, self.place, epochs)
+        } else {
+            Turn::Done
+        };
         drop(round);
         self.place.end_pass();
-        ends
+        turn
     }
 }
 
