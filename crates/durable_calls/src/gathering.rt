@@ -4,7 +4,7 @@ use std::sync::atomic::Ordering::SeqCst;
 use std::thread;
 
 /// So often others are let run before a sync, while fewer sessions wait for it than are expected.
-const YIELDS: u32 = 400;
+const YIELDS: u32 = 1000;
 
 /// Counts the sessions that wait for a sync, so that one waits for those that the last one answered: they write again meanwhile.
 /// A session that is alone waits for nobody.
