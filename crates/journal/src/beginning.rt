@@ -229,11 +229,13 @@ fn with_all(
     version: &Version,
 ) -> Result<Journal<DiskFile>, StartFault>
     requires held { begun.broken ≡ false → HoldsDump begun (begun_from version.now.base) }
-    requires first { begun.place ≡ 0 }
     ensures held { IfOk result (λ j. j.broken ≡ false → HoldsDump j version.now × (j.synced ≡ j.place)) }
     ensures fault { IfErr result IsOfFiles }
 {
     let mut journal = begun;
+    if journal.is_broken() {
+        return Ok(journal);
+    }
     match journal.append(alloc, version) {
         Ok(()) => {}
         Err(JournalFault::Memory) => return Err(StartFault::Memory),
