@@ -1,10 +1,12 @@
 -- What the journal of an epoch has at its end.
-use Rattle.std.proofs.Common.{ℕ, List, ◌++◌, length, Some, None, sym, refl, ◌∙◌, ap, append_assoc}
+use Rattle.std.proofs.Common.{ℕ, List, ◌++◌, length, Some, None, sym, refl, ◌∙◌, ap, subst, append_assoc}
 use Rattle.std.specs.Prelude.{Option}
 use mathlib.Core.List.{IsPrefix}
 use Rattle.model.specs.Command.{Entry}
 use Rattle.model.specs.Database.{Database}
 use Rattle.model.specs.History.{Chronicle, Extends}
+use Rattle.http_handlers.specs.Calls.{Looks}
+use Rattle.http_handlers.specs.Known.{Known, history_of}
 use Rattle.journal.specs.Appending.{lines_above}
 use Rattle.journal.specs.Held.{BeginsDump}
 use Rattle.journal.specs.Kept.{Kept}
@@ -34,3 +36,8 @@ module _ (base : Option Database) (here last : List Entry) (begins : IsPrefix he
       go None begun = tt
       go (Some text) (rest, is) =
           (rest ++ lines, sym (append_assoc text rest lines) ∙ ap (λ (t : List ℕ). t ++ lines) is ∙ dump-more (record { base = base; entries = here }) (record { base = base; entries = last }) goes_on)
+
+-- what a file begins of a history that was seen, it begins of what was seen more
+pub looks_begins : (k : Kept) (old new : Known) → BeginsDump k (history_of old) → Looks old new → BeginsDump k (history_of new)
+looks_begins k old new begins looks =
+    subst (λ (n : Known). BeginsDump k (history_of n)) (sym looks.extends) (begins_last old.base old.seen (old.seen ++ looks.more) (looks.more, refl) k begins)
