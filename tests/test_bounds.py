@@ -1,9 +1,11 @@
-"""Bounds the memory of a long answer by its length, and has small documents read where the memory for writes is used up.
+"""Bounds the memory of a long answer and the time of a feed, and has small documents read where the memory for writes is used up.
 
     python3 tests/test_bounds.py [COUCHD]
 
 A document whose first 999 revisions are a chain has 2,000 leaves at the chain's tip. All of them with their paths are read as one
 answer: its length is the one that was announced, its text is that of the rules, and meanwhile the program holds a part of it alone.
+A continuous feed of 80,000 documents by their ids gives a row of each, in the order of their updates, at a cost that grows with their
+number and not with its square.
 Then a server that may have 100 MB of address space takes documents until it refuses them, and is read from there on, by connections old
 and new: documents of 20 bytes, and of 20 kB, which take more than what a refused write gave back. Its threads have one heap; where each
 asks for one of its own, some have none in so little space: they may be refused a write or a read at any time, but are never silent.
@@ -14,10 +16,12 @@ import sys
 from collections import Counter
 
 from lib.checks import Checks
-from lib.programs import arguments, memory
+from lib.programs import arguments, memory, processor_seconds
 from lib.server import Connection, Server
 
 CHAIN, LEAVES = 999, 2000
+LISTED, BULK = 80_000, 20_000
+FEED_SECONDS = 3  # of the server's processor time, on a slow and busy machine; a quadratic cost is many times that
 MEGABYTE = 1 << 20
 SPACE = 102400 * 1024  # bytes of address space
 REFUSALS, READS = 20, 1000
@@ -87,6 +91,39 @@ def long_answer(couchd, checks):
         checks.check(status == 200, "the connection goes on: %d", status)
 
 
+def compact(value):
+    """The JSON of a value without spaces, as the body of a request."""
+    return json.dumps(value, separators=(",", ":")).encode()
+
+
+def write_listed(connection, ids, checks):
+    """Writes a document of each id, and returns their rows."""
+    revs = []
+    for at in range(0, len(ids), BULK):
+        status, written = connection.ask("POST", "/db/_bulk_docs", compact({"docs": [{"_id": id} for id in ids[at : at + BULK]]}))
+        checks.check(status == 201, "a bulk of documents: %d", status)
+        revs += [one["rev"] for one in written]
+    return ['{"changes":[{"rev":"%s"}],"id":"%s","seq":%d}' % (rev, id, at + 1) for at, (id, rev) in enumerate(zip(ids, revs))]
+
+
+def listed_feed(couchd, checks):
+    """A feed of many documents by their ids, up to the last of their rows."""
+    with Server(couchd, "--workers", "2") as server:
+        ids = ["k%d" % number for number in range(LISTED)]
+        rows = write_listed(Connection(server.port), ids, checks)
+        before = processor_seconds(server.process.pid)
+        feed = Connection(server.port)
+        feed.send("POST", "/db/_changes?filter=_doc_ids&feed=continuous&limit=%d" % LISTED, compact({"doc_ids": ids}))
+        feed.next_head()
+        while feed.more():
+            pass
+        *given, last, end = feed.rest.decode().split("\n")
+        spent = processor_seconds(server.process.pid) - before
+        print("a feed of %d listed documents took %.2f seconds of the processor" % (LISTED, spent))
+        checks.check((given, last, end) == (rows, '{"last_seq":%d,"pending":0}' % LISTED, ""), "the rows of a feed of listed documents")
+        checks.check(spent <= FEED_SECONDS, "a feed of %d listed documents takes %.2f seconds", LISTED, spent)
+
+
 def full_memory(couchd, checks, heaps):
     """A server whose memory is used up by documents goes on to answer reads."""
     with Server(couchd, "--workers", "4", env=dict(os.environ, **heaps), limits={"as": SPACE}) as server:
@@ -151,7 +188,8 @@ def reads(port, name, documents, each_anew):
 def main():
     couchd = arguments(__doc__, "couchd").parse_args().couchd
     checks = Checks()
-    long_answer(couchd, checks)
+    for bound in long_answer, listed_feed:
+        bound(couchd, checks)
     for heaps in ({}, ONE_HEAP):
         full_memory(couchd, checks, heaps)
     return checks.report()

@@ -1,20 +1,12 @@
 """What processes have used, as the system counts it."""
 import os
 
-from lib.programs import memory
-
-TICKS = os.sysconf("SC_CLK_TCK")
+from lib.programs import memory, processor_seconds
 
 
 def read(process, name):
     with open("/proc/%d/%s" % (process, name)) as file:
         return file.read()
-
-
-def processor_seconds(process):
-    """The processor time of a process and of its threads so far, by the system's ticks."""
-    user, system = read(process, "stat").rsplit(")", 1)[1].split()[11:13]
-    return (int(user) + int(system)) / TICKS
 
 
 def is_running(process):

@@ -8,6 +8,7 @@ TESTS = os.path.dirname(os.path.dirname(os.path.abspath(__file__)))
 ROOT = os.path.dirname(TESTS)
 CRATES = os.path.join(ROOT, "crates")
 SECONDS = 60  # that one run may take
+TICKS = os.sysconf("SC_CLK_TCK")  # of a processor, a second
 
 
 def built(name):
@@ -72,3 +73,10 @@ def memory(process, name):
     """The bytes that a process, named by its number, holds (`VmRSS`), or the most that it has held (`VmHWM`)."""
     with open("/proc/%d/status" % process) as file:
         return next(1024 * int(line.split()[1]) for line in file if line.startswith(name + ":"))
+
+
+def processor_seconds(process):
+    """The processor time of a process, named by its number, and of its threads so far, by the system's ticks."""
+    with open("/proc/%d/stat" % process) as file:
+        user, system = file.read().rsplit(")", 1)[1].split()[11:13]
+    return (int(user) + int(system)) / TICKS

@@ -285,9 +285,6 @@ module _ {k : Known} {before after : Progress} {r : Result (Option ℕ) Failed} 
   pub one_writes : (first : Option (List ℕ)) (text : List ℕ) → Appends first taken text → Writes first taken' r (text ++ piece_text one.piece)
   one_writes first text appends = writes-later first taken taken' r text (piece_text one.piece) appends one.writes
 
-pub gave_none : (k : Known) (before after : Progress) (taken taken' : Option (List ℕ)) (given : Option ℕ) → given ≡ None → GivesNext k before after (Ok given) taken taken' → taken' ≡ taken
-gave_none k before after taken taken' given is gives = subst (λ (o : Option ℕ). GivesNext k before after (Ok o) taken taken') is gives
-
 pub gave_some : (k : Known) (before after : Progress) (taken taken' : Option (List ℕ)) (given : Option ℕ) (pending : ℕ) → given ≡ Some pending → GivesNext k before after (Ok given) taken taken'
     → GivesNext k before after (Ok (Some pending)) taken taken'
 gave_some k before after taken taken' given pending is gives = subst (λ (o : Option ℕ). GivesNext k before after (Ok o) taken taken') is gives

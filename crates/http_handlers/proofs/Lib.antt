@@ -6,6 +6,8 @@ pub mod Turns
 pub mod Told
 pub mod LongAnswers
 pub mod Feeds
+pub mod RowsLeft
+pub mod RowTexts
 pub mod Fed
 pub mod Sessions
 pub mod Accepting

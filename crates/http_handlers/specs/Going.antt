@@ -1,7 +1,10 @@
 -- How a feed goes on.
-use Rattle.std.specs.Prelude.{◌≡◌, ℕ, Bool, IsTrue, List, ◌∷◌, ◌++◌, [], length, is_ok, Option, None, Some, Result, Ok, Err, IfOk}
-use Rattle.std.specs.List.{FoldsTo}
+use Rattle.std.specs.Prelude.{◌≡◌, ◌⊎◌, ℕ, ◌<◌, Bool, true, false, IsTrue, List, ◌∷◌, ◌++◌, [], length, take, is_ok, Option, None, Some, Result, Ok, Err, IfOk}
+use Rattle.std.specs.List.{FoldsTo, flat_map}
+use Rattle.std.specs.Io.KnownBytes.{Appends}
+use Rattle.model.specs.Query.{Row}
 use Rattle.model.specs.Told.{NoneFalls}
+use Rattle.api_json.specs.Changes.{feed_line}
 use Rattle.http_framing.specs.Request.{Request}
 use Rattle.http_framing.specs.Input.{Requested}
 use Rattle.http_connection.specs.Turn.{Turn}
@@ -22,10 +25,29 @@ pub record GivesOne (k : Known) (before after : Progress) (result : Result (Opti
   pub here : piece.place ≡ length k.seen
   pub writes : Writes taken taken' result (piece_text piece)
 
--- The next piece was written, after which so many rows are left; or a part of it, where a write failed; or nothing, where
--- memory was refused.
+-- the rows were written, a line each; or the first of them alone, out of memory for the others; or a part of their text, where a
+-- write failed
+abbrev pub WritesRows : Option (List ℕ) → Option (List ℕ) → Result Bool Failed → List Row → Type 0
+WritesRows taken taken' (Ok true) rows = Appends taken taken' (flat_map feed_line rows)
+WritesRows taken taken' (Ok false) rows = (n : ℕ) × (n < length rows) × Appends taken taken' (flat_map feed_line (take n rows))
+WritesRows taken taken' (Err failed) rows =
+    let text : List ℕ = flat_map feed_line rows in
+    (n : ℕ) × (n < length text) × Appends taken taken' (take n text)
+
+-- a piece of what had been seen was written, and memory was refused for more of the rows that are to be given
+pub record GivesPart (k : Known) (before : Progress) (taken taken' : Option (List ℕ)) : Type 0 where
+  pub piece : Piece
+  pub after : Progress
+  pub gives : GivesPiece k before piece after
+  pub here : piece.place ≡ length k.seen
+  pub writes : Appends taken taken' (piece_text piece)
+  pub to_give : 0 < after.left
+  pub more : 0 < length (rows_at k (length k.seen) after.follower)
+
+-- The next piece was written, after which so many rows are left; or a part of it, where a write failed; or a piece with fewer rows
+-- than are to be given, or nothing, where memory was refused.
 abbrev pub GivesNext : Known → Progress → Progress → Result (Option ℕ) Failed → Option (List ℕ) → Option (List ℕ) → Type 0
-GivesNext k before after (Ok None) taken taken' = taken' ≡ taken
+GivesNext k before after (Ok None) taken taken' = (taken' ≡ taken) ⊎ GivesPart k before taken taken'
 GivesNext k before after (Ok (Some pending)) taken taken' =
     GivesOne k before after (Ok (Some pending)) taken taken' × (pending ≡ length (rows_at k (length k.seen) after.follower))
 GivesNext k before after (Err failed) taken taken' = GivesOne k before after (Err failed) taken taken'

@@ -1,5 +1,5 @@
 //! Feeds that go on as changes come.
-ghost use Rattle.std.specs.Prelude.{◌≡◌, ◌<◌, ◌++◌, ℕ, List, length, true, is_ok, Ok, IfOk, string_bytes};
+ghost use Rattle.std.specs.Prelude.{◌≡◌, ◌<◌, ◌≤◌, ◌++◌, ℕ, List, length, true, is_ok, Ok, IfOk};
 ghost use Rattle.http_framing.specs.Request as framing;
 ghost use Rattle.http_request.specs.Decide.{decide};
 ghost use Rattle.http_response.specs.Feed.{feed_head_text, feed_last_text};
@@ -7,25 +7,23 @@ ghost use Rattle.streams.specs.Counts.{CountsFailure};
 ghost use Rattle.streams.specs.Writes.{Writes};
 ghost use Rattle.model.specs.History.{now};
 ghost use Rattle.http_handlers.specs.Deeds.{Deed};
-ghost use Rattle.http_handlers.specs.Feed.{Piece, GivesPiece, feed_start, piece_text, rows_at};
+ghost use Rattle.http_handlers.specs.Feed.{Piece, GivesPiece, feed_start, rows_at};
 ghost use Rattle.http_handlers.specs.Feeding.{HasMore};
 ghost use Rattle.http_handlers.specs.Known.{history_of};
 ghost use Rattle.http_handlers.specs.Going.{GivesNext, GoesOn, WritesTurn};
 
 use crate::calls::{CallFault, Calls, Viewer};
 use crate::failing::fail;
-use crate::progress::{Progress, lines};
+use crate::progress::{AT_ONCE, Progress, write_rows};
 use crate::reading::since_seen;
 use crate::response::send;
 use crate::setting::Setting;
 use crate::waiting::wait_for_changes;
 use http_request::{Asked, ChangesAsked, Feed, Since};
 use http_response::{feed_head, feed_last};
+use queries::Row;
 use std::alloc::{AllocError, Global};
 use streams::{Failed, Sink, write_next};
-
-/// The most rows that are written at once.
-const PIECE: u64 = 100;
 
 /// Gives the rows of a feed as they come, and answers whether the connection closes behind them.
 pub(crate) fn follow<X, S: Calls<X>, W: Sink>(
@@ -134,8 +132,8 @@ fn has_more<X, S: Calls<X>>(
     wait_for_changes(session, setting, seen, follower.cursor(), follower.ids())
 }
 
-/// Writes the next rows of what has been seen, and answers how many are left. Nothing where memory
-/// is refused.
+/// Writes the next rows of what has been seen, and answers how many are left. Where memory is refused, it writes
+/// some of them or none, and answers nothing.
 fn give<S: Viewer, W: Sink>(
     session: &S,
     alloc: Global,
@@ -147,31 +145,44 @@ fn give<S: Viewer, W: Sink>(
     ensures failures { CountsFailure (W.failed_writes writer.old)
         (W.failed_writes writer.new) result }
 {
-    let Ok(text) = next_lines(session, alloc, progress) else {
+    let Ok(rows) = next_rows(session, alloc, progress) else {
         return Ok(None);
     };
-    let Ok(()) = write_next(writer, text.as_bytes()) else {
+    let Ok(whole) = write_rows(alloc, writer, &rows) else {
         return Err(Failed);
     };
+    if !whole {
+        return Ok(None);
+    }
     Ok(Some(progress.follower.pending(session.version())))
 }
 
-/// The next rows of what has been seen, at most as many as are written at once.
-fn next_lines<S: Viewer>(
+/// The next rows of what has been seen.
+fn next_rows<S: Viewer>(
     session: &S,
     alloc: Global,
     progress: &mut Progress,
-) -> Result<String, AllocError>
-    ensures { IfOk result (λ text. (piece : Piece)
+) -> Result<Vec<Row>, AllocError>
+    ensures { IfOk result (λ rows. (piece : Piece)
         × GivesPiece (S.known session.now) progress.old piece progress.new
         × (piece.place ≡ length (S.known session.now).seen)
-        × (string_bytes text ≡ piece_text piece)) }
+        × (piece.rows ≡ rows.items)) }
 {
-    let most = progress.left.min(PIECE);
+    let most = most_found(progress);
     let rows = progress.follower.next(alloc, session.version(), most)?;
-    let text = lines(alloc, &rows)?;
     progress.left -= rows.len() as u64;
-    Ok(text)
+    Ok(rows)
+}
+
+/// The most rows that are found at once: of all documents as many as are written at once, and of some documents all that
+/// are still to give, since to find any takes a look at each of the documents.
+fn most_found(progress: &Progress) -> u64
+    ensures { result ≤ progress.now.left }
+{
+    match progress.follower.ids() {
+        Some(_) => progress.left,
+        None => progress.left.min(AT_ONCE as u64),
+    }
 }
 
 /// Writes the last line, and answers that the connection closes behind it.

@@ -1,8 +1,10 @@
 //! The rows of a feed.
 ghost use Rattle.std.specs.Prelude.{◌≡◌, ◌≤◌, length, IfOk, string_bytes};
 ghost use Rattle.std.specs.List.{flat_map};
+ghost use Rattle.streams.specs.Counts.{CountsFailure};
 ghost use Rattle.api_json.specs.Changes.{feed_line};
 ghost use Rattle.http_handlers.specs.Changes.{most_rows};
+ghost use Rattle.http_handlers.specs.Going.{WritesRows};
 
 use api_json::feed_line;
 use changes_feed::Follower;
@@ -11,6 +13,10 @@ use http_request::ChangesAsked;
 use model::Style;
 use queries::Row;
 use std::alloc::{AllocError, Global};
+use streams::{Failed, Sink, write_next};
+
+/// The most rows that are written at once.
+pub(crate) const AT_ONCE: usize = 100;
 
 /// The most rows of a feed that has no limit.
 const NO_LIMIT: u64 = 999_999_999_999_999_999;
@@ -66,8 +72,33 @@ fn most_rows(limit: Option<u64>) -> u64
     }
 }
 
+/// Writes a line for each row, so many at once, and says whether all are written: out of memory for more of them it
+/// stops.
+pub(crate) fn write_rows<W: Sink>(
+    alloc: Global,
+    writer: &mut W,
+    rows: &[Row],
+) -> Result<bool, Failed>
+    ensures written { WritesRows (W.taken writer.old) (W.taken writer.new) result rows.now }
+    ensures failures { CountsFailure (W.failed_writes writer.old)
+        (W.failed_writes writer.new) result }
+{
+    let mut at = 0;
+    while at < rows.len() {
+        let end = rows.len().min(at.saturating_add(AT_ONCE));
+        let Ok(text) = lines(alloc, &rows[at..end]) else {
+            return Ok(false);
+        };
+        let Ok(()) = write_next(writer, text.as_bytes()) else {
+            return Err(Failed);
+        };
+        at = end;
+    }
+    Ok(true)
+}
+
 /// A line each.
-pub(crate) fn lines(alloc: Global, rows: &[Row]) -> Result<String, AllocError>
+fn lines(alloc: Global, rows: &[Row]) -> Result<String, AllocError>
     ensures { IfOk result (λ text. string_bytes text ≡ flat_map feed_line rows.now) }
 {
     let mut text = String::new(alloc);

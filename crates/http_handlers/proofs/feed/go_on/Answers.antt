@@ -6,7 +6,8 @@ use Rattle.http_response.specs.Feed.{feed_last_text}
 use Rattle.http_handlers.specs.Feed.{piece_text}
 use Rattle.http_handlers.specs.Feeding.{HasMore}
 use Rattle.http_handlers.specs.declared.calls.CallFault.{CallFault}
-use Rattle.http_handlers.proofs.Feeds.{gave_none, gave_some, going-start, going-on, goes_cut, goes_ended, goes_refused, goes_unseen, one_writes, writes-later}
+use Rattle.http_handlers.proofs.Feeds.{gave_some, going-start, going-on, goes_cut, goes_ended, goes_refused, goes_unseen, one_writes, writes-later}
+use Rattle.http_handlers.proofs.RowsLeft.{gave_none, goes_short}
 use Rattle.http_handlers.proofs.feed.go_on.Goals as goal
 
 pub loop-turn-init : goal.loop-turn-init
@@ -21,8 +22,11 @@ returns-in_default-clause-goes_on g c =
 pub returns-in_default-given-clause-goes_on : goal.returns-in_default-given-clause-goes_on
 returns-in_default-given-clause-goes_on g c =
     let inv = c.loop-turn.invariant in
-    let same = gave_none (g.S.Viewer.known c.loop-turn.session) c.loop-turn.progress c.give.new.progress (g.W.Sink.taken c.loop-turn.writer) (g.W.Sink.taken c.give.new.writer) c.in-Ok.given c.in_default-given.is c.in-Ok.ensures.gives in
-    (inv.0, goes_refused g.S.Viewer.goes g.S.Viewer.known _ inv.1 true, (subst (λ t. Appends (g.W.Sink.taken c.args.writer.now) t inv.0) (sym same) inv.2, tt))
+    let taken = g.W.Sink.taken c.loop-turn.writer in
+    let taken' = g.W.Sink.taken c.give.new.writer in
+    let none = gave_none (g.S.Viewer.known c.loop-turn.session) c.loop-turn.progress c.give.new.progress taken taken' c.in-Ok.given c.in_default-given.is c.in-Ok.ensures.gives in
+    let short = goes_short g.S.Viewer.goes g.S.Viewer.known _ inv.1 true (g.W.Sink.taken c.args.writer.now) taken taken' inv.2 none in
+    (short.0, short.1, (short.2, tt))
 
 pub returns-then-progress-eq0-clause-goes_on : goal.returns-then-progress-eq0-clause-goes_on
 returns-then-progress-eq0-clause-goes_on g c =

@@ -1,21 +1,18 @@
-use Rattle.std.proofs.Common.{List, length, take, refl, ap, ◌∙◌, arith}
-use Rattle.std.specs.List.{flat_map}
-use Rattle.model.specs.Query.{Row}
+use Rattle.std.proofs.Common.{length, take, refl, ap, ◌∙◌, arith}
 use Rattle.model.specs.History.{Chronicle, now}
 use Rattle.model.specs.Changes.{rows_since, wanted_by}
-use Rattle.api_json.specs.Changes.{feed_line}
 use Rattle.http_handlers.proofs.Feeds.{few, gives_rows}
-use Rattle.http_handlers.proofs.feed.next_lines.Goals as goal
+use Rattle.http_handlers.proofs.feed.next_rows.Goals as goal
 
 pub returns : goal.returns
 returns g c =
     let k = g.S.Viewer.known c.args.session.now in
     let before = c.args.progress.now in
-    let most = c.min-most.result in
-    let fit = few most before.left _ c.in_ok-rows.ensures.rows (omega arith) in
+    let most = c.most_found-most.result in
+    let fit = few most before.left _ c.in_ok-rows.ensures.rows c.most_found-most.ensures in
     let rows = c.in_ok-rows.ensures.rows ∙ ap (λ (h : Chronicle). take most (rows_since (wanted_by before.follower.ids) (now h) before.follower.cursor before.follower.style)) c.version.ensures in (
       record { place = length k.seen; rows = c.in_ok-rows.rows.items },
       gives_rows k before most rows c.in_ok-rows.ensures.cursor (omega (arith, fit, c.len.ensures)),
       refl,
-      c.in_ok-text.ensures ∙ ap (λ (rows : List Row). flat_map feed_line rows) c.deref.ensures.value,
+      refl,
     )
