@@ -91,16 +91,11 @@ def long_answer(couchd, checks):
         checks.check(status == 200, "the connection goes on: %d", status)
 
 
-def compact(value):
-    """The JSON of a value without spaces, as the body of a request."""
-    return json.dumps(value, separators=(",", ":")).encode()
-
-
 def write_listed(connection, ids, checks):
     """Writes a document of each id, and returns their rows."""
     revs = []
     for at in range(0, len(ids), BULK):
-        status, written = connection.ask("POST", "/db/_bulk_docs", compact({"docs": [{"_id": id} for id in ids[at : at + BULK]]}))
+        status, written = connection.ask("POST", "/db/_bulk_docs", {"docs": [{"_id": id} for id in ids[at : at + BULK]]})
         checks.check(status == 201, "a bulk of documents: %d", status)
         revs += [one["rev"] for one in written]
     return ['{"changes":[{"rev":"%s"}],"id":"%s","seq":%d}' % (rev, id, at + 1) for at, (id, rev) in enumerate(zip(ids, revs))]
@@ -113,7 +108,7 @@ def listed_feed(couchd, checks):
         rows = write_listed(Connection(server.port), ids, checks)
         before = processor_seconds(server.process.pid)
         feed = Connection(server.port)
-        feed.send("POST", "/db/_changes?filter=_doc_ids&feed=continuous&limit=%d" % LISTED, compact({"doc_ids": ids}))
+        feed.send("POST", "/db/_changes?filter=_doc_ids&feed=continuous&limit=%d" % LISTED, {"doc_ids": ids})
         feed.next_head()
         while feed.more():
             pass
