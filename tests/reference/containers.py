@@ -1,4 +1,4 @@
-"""What comes of what is done to maps, lists and trees."""
+"""What comes of what is done to maps, lists, trees and runs."""
 from . import revisions, trees
 from .json_profile import EMPTY
 from .versions import names
@@ -193,3 +193,58 @@ def known_text(tree, rev):
             yield "deleted"
         if tree[rev].body is not None:
             yield "body"
+
+
+# ---- runs: dictionaries from tops to forks, bottoms and lows
+
+
+def runs_results(statements):
+    kept = Kept({})
+    for statement in statements:
+        name, *words = statement.split()
+        if name == "keep":
+            kept.keep()
+            yield ""
+        elif name == "back":
+            kept.back()
+            yield ""
+        elif name in RUNS_CHANGES:
+            kept.value = RUNS_CHANGES[name](kept.value, *words)
+            yield ""
+        else:
+            yield runs_text(kept.value, name, *words)
+
+
+def with_run(runs, top, bottom, low, fork=None):
+    return {**runs, revisions.parse(top): (fork and revisions.parse(fork), revisions.parse(bottom), int(low))}
+
+
+def without_run(runs, top):
+    return {other: run for other, run in runs.items() if other != revisions.parse(top)}
+
+
+RUNS_CHANGES = {
+    "with": with_run,
+    "root": lambda runs, top: with_run(runs, top, top, top.partition("-")[0]),
+    "without": without_run,
+    "clear": without_run,
+}
+
+
+def runs_text(runs, name, *words):
+    rev = revisions.parse(words[0]) if words else None
+    if name == "get":
+        return run_text(*runs[rev]) if rev in runs else "none"
+    if name == "ending_at":
+        found = [top for top, run in runs.items() if run[1] == rev]
+    elif name == "nearest_under":
+        found = sorted((top for top, run in runs.items() if run[0] == rev), key=lambda top: runs[top][2])
+    else:
+        assert name == "deepest"
+        above = {top: run[2] - top[0] for top, run in runs.items()}
+        found = sorted((top for top in above if above[top] > 0), key=lambda top: -above[top])
+    return revisions.text(found[0]) if found else "none"
+
+
+def run_text(fork, bottom, low):
+    return "to %s low %d%s" % (revisions.text(bottom), low, "" if fork is None else " under " + revisions.text(fork))

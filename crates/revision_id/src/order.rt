@@ -7,6 +7,7 @@ ghost use Rattle.std.specs.Ordering.{as_partial_cmp, eq_by_cmp};
 ghost use Rattle.model.specs.Revision.{rev_cmp};
 
 use crate::rev::RevId;
+use index_key::IndexKey;
 use std::cmp::Ordering;
 
 impl PartialEq for RevId {
@@ -47,4 +48,10 @@ impl PartialOrd for RevId {
     fn partial_cmp(&self, other: &RevId) -> Option<Ordering> {
         Some(self.cmp(other))
     }
+}
+
+impl IndexKey for RevId {
+    ghost use Rattle.model.specs.Revision.{rev_exact};
+
+    ghost exact = { rev_exact };
 }

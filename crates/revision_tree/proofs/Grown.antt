@@ -34,7 +34,7 @@ linked_first (r ∷ rs) next v le is e = let same : Some r ≡ v.parent = ap Som
 
 -- ---- marks
 
-abbrev marking : (Rev → Bool) → Rev → Revision → Revision × Bool
+abbrev pub marking : (Rev → Bool) → Rev → Revision → Revision × Bool
 marking m q v = (v, m q)
 
 abbrev pub with_marks : (Rev → Bool) → Tree → Map revs (Revision × Bool)

@@ -13,7 +13,7 @@ use Rattle.model.proofs.StripLaws.{is_leaf-strip}
 use Rattle.model.proofs.TreeLaws.{child_of, childless_leaf, knows_child, leaf_childless, leaf_known}
 use Rattle.model.proofs.UnionLaws.{graft-union}
 use Rattle.revision_tree.specs.declared.node.Node.{Node}
-use Rattle.revision_tree.specs.Kept.{HasOneLeaf}
+use Rattle.revision_tree.specs.Notes.{HasOneLeaf}
 use Rattle.revision_tree.specs.Growth.{grown}
 use Rattle.revision_tree.specs.Nodes.{IsNodes, rows_of, tree_of}
 use Rattle.revision_tree.proofs.Grafts.{graft_agreed, grown_tree}

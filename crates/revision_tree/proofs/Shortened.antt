@@ -5,9 +5,9 @@ use Rattle.std.specs.FinMap.Entries.{is_sorted}
 use Rattle.std.proofs.Common.{sym, ap, subst, ◌∙◌, arith, lt-ltb, ltb-true}
 use Rattle.std.specs.Cmp.{both_ways}
 use Rattle.std.proofs.lemmas.Bool.{cond-true}
-use Rattle.std.proofs.lemmas.List.{map-append, append-nil, take_more, take_all}
+use Rattle.std.proofs.lemmas.List.{map-append, append-nil, take_more}
 use Rattle.std.proofs.Math.ListN.{length-map}
-use Rattle.std.proofs.lemmas.List.Elements.{All-head, All-tail, All-nil, All-cons, All-append, All-weaker, All-contains_itself, Contains-append_left, Contains-append_right, filter_map-append}
+use Rattle.std.proofs.lemmas.List.Elements.{All-head, All-tail, All-cons, All-weaker, All-contains_itself, Contains-append_left, Contains-append_right, filter_map-append}
 use Rattle.model.specs.Map.{entries, refine_list}
 use Rattle.model.specs.Revision.{Rev, rev_cmp, revs}
 use Rattle.model.specs.Tree.{Tree, Revision, IsForest, IsNear, has_child, is_leaf, knows}
@@ -138,18 +138,6 @@ module _ (ns : List Node) (h : IsNodes ns) (limit : ℕ) (some : 0 < limit) (new
   pub shortened_tree : tree_of made ≡ stem limit (tree_of ns)
   shortened_tree = tree_marked made u (has_child u) shortened_rows
 
--- ---- leaves of one generation
-
-abbrev pub IsLevel : ℕ → Node → Type 0
-IsLevel g n = n.inner ≡ false → n.rev.generation ≡ g
-
-pub level_leaves : (ns : List Node) → IsNodes ns → (g : ℕ) → All (IsLevel g) ns → (l : Rev) → is_leaf (tree_of ns) l ≡ true → l.generation ≡ g
-level_leaves ns h g all l leaf =
-    let m = Rattle.revision_tree.proofs.Places.node_known ns h.sorted l (leaf_known (tree_of ns) l leaf) in
-    let n = m.node in
-    let outer : n.inner ≡ false = h.inner n m.listed ∙ ap (has_child (tree_of ns)) m.rev ∙ leaf_childless (tree_of ns) l leaf in
-    ap (λ (q : Rev). q.generation) (sym m.rev) ∙ Rattle.std.proofs.lemmas.List.Elements.All-contains (IsLevel g) ns n all m.listed outer
-
 -- ---- pieces
 
 pub above_joined : (g : ℕ) (mss : List (List Node)) (ms all last : List Node) → rows_of (joined mss) ≡ filter_map (row_above g) (rows_of all) → rows_of ms ≡ filter_map (row_above g) (rows_of last)
@@ -249,14 +237,6 @@ pub nodes_more : (g : ℕ) (ns : List Node) (i : ℕ) (n : Node) (old new : List
 nodes_more g ns i n old new lt is e f =
     f ∙ ap (λ rs. rs ++ filter_map (row_above g) (row_of n ∷ [])) e ∙ sym (filter_map-append (row_above g) (rows_of (take i ns)) (row_of n ∷ []))
     ∙ ap (filter_map (row_above g)) (sym (map-append row_of (take i ns) (n ∷ [])) ∙ ap rows_of (ap (λ m. take i ns ++ m ∷ []) is ∙ sym (take_more ns i n lt)))
-
-pub level_more : (g : ℕ) (ps : List Piece) (i : ℕ) (p : Piece) (ns : List Node) → i < length ps → p ≡ get_or ps i p → ns ≡ items_of p → All (IsLevel g) (joined (take i (lists_of ps))) → All (IsLevel g) ns → All (IsLevel g) (joined (take (i + 1) (lists_of ps)))
-level_more g ps i p ns lt is here before more =
-    subst (All (IsLevel g)) (sym (joined_more ps i p lt is)) (All-append (IsLevel g) (joined (take i (lists_of ps))) (items_of p) before (subst (All (IsLevel g)) here more))
-
-pub level_all : (g : ℕ) (ps : List Piece) (i : ℕ) (last : List Node) → length ps ≤ i → All (IsLevel g) (joined (take i (lists_of ps))) → All (IsLevel g) last → All (IsLevel g) (joined (lists_of ps) ++ last)
-level_all g ps i last le before more =
-    All-append (IsLevel g) (joined (lists_of ps)) last (subst (λ nss. All (IsLevel g) (joined nss)) (take_all i (lists_of ps) (omega (arith, le, length-map ps items_of))) before) more
 
 pub above_next : (g : ℕ) (ps : List Piece) (i : ℕ) (p : Piece) (old new : List Row) → i < length ps → p ≡ get_or ps i p → old ≡ filter_map (row_above g) (rows_of (joined (take i (lists_of ps)))) → new ≡ old ++ filter_map (row_above g) (rows_of (items_of p))
     → new ≡ filter_map (row_above g) (rows_of (joined (take (i + 1) (lists_of ps))))

@@ -1,35 +1,27 @@
--- A stem that takes one revision: the one that is the limit of steps above a leaf, and above no other.
-use Rattle.std.specs.Prelude.{◌≡◌, ◌⊎◌, ◌↔◌, ℕ, zero, suc, ◌+◌, ◌-◌, ◌<◌, T, Bool, true, false, not, List, [], ◌∷◌, ◌++◌, length, get_or, take, drop, All, AllPairs, Contains, Option, Some, None, is_some, option_and_then, if◌then◌else◌, refl}
+-- Nodes without one revision.
+use Rattle.std.specs.Prelude.{◌≡◌, ℕ, zero, suc, ◌+◌, ◌<◌, T, Bool, true, false, not, List, [], ◌∷◌, ◌++◌, length, get_or, take, drop, All, AllPairs, Contains, Option, Some, None, option_and_then, if◌then◌else◌, refl}
 use Rattle.std.specs.List.{filter_map, cons_option}
-use Rattle.std.proofs.Common.{sym, ap, subst, ◌∙◌, ⊎_elim, arith}
-use Rattle.std.specs.Cmp.{both_ways}
+use Rattle.std.proofs.Common.{sym, ap, subst, ◌∙◌, arith}
 use Rattle.std.specs.Ordering.{is_lt}
 use Rattle.std.specs.declared.cmp.Ordering.TheVariants.{Less}
-use Rattle.std.proofs.lemmas.Bool.{true≢false, not-true, not_from_false}
+use Rattle.std.proofs.lemmas.Bool.{true≢false, not_from_false}
 use Rattle.std.proofs.lemmas.List.{map-append, take_more}
 use Rattle.std.proofs.Math.ListN.{length-map}
 use Rattle.std.proofs.lemmas.List.Elements.{All-head, All-tail, All-nil, All-cons, All-weaker, All-contains, All-contains_itself, Contains-push, Contains-append_left, Contains-append_right, filter_map-append}
-use Rattle.std.proofs.lemmas.Option.{none-some, same_Some}
 use Rattle.model.specs.Map.{entries, refine_list}
 use Rattle.model.specs.Revision.{Rev, rev_cmp, rev_total, revs, same_rev, same_rev-equal}
-use Rattle.model.specs.Tree.{Tree, Revision, IsForest, IsNear, ancestor, has_child, is_leaf, knows, parent_of}
-use Rattle.model.specs.TreeChange.{IsRestriction, restrict, stem}
+use Rattle.model.specs.Tree.{Tree, Revision}
+use Rattle.model.specs.TreeChange.{restrict}
 use Rattle.model.proofs.ListLaws.{by_cases, AllPairs-head, AllPairs-tail}
 use Rattle.model.proofs.MapLaws.{same_key-apart}
 use Rattle.model.proofs.PathLaws.{same_rev-symm}
-use Rattle.model.proofs.RestrictLaws.{IsRestriction-restrict}
-use Rattle.model.proofs.StemLaws.{near_known, stem-restriction, IsTree-stem, IsInRange-stem}
-use Rattle.model.proofs.TreeLaws.{has_child-parent, child_of, leaf_childless, no_parent_of_leaf}
 use Rattle.revision_tree.specs.declared.node.Node.{Node}
-use Rattle.revision_tree.specs.Kept.{IsUnforked}
-use Rattle.revision_tree.specs.Nodes.{Row, IsNodes, IsSorted, entry_of, entries_of, row_of, rows_of, tree_of}
+use Rattle.revision_tree.specs.Nodes.{Row, IsNodes, IsSorted, entry_of, entries_of, row_of, rows_of}
 use Rattle.revision_tree.specs.Rows.{Piece, items_of, lists_of, joined}
 use Rattle.revision_tree.specs.Trimmed.{is_other, row_apart, row_without, IsChildOnly, IsPart}
-use Rattle.revision_tree.proofs.Depth.{last_step, stem_near}
 use Rattle.revision_tree.proofs.Ends.{joined_more}
-use Rattle.revision_tree.proofs.Grown.{with_marks, nodes_marked, tree_marked}
-use Rattle.revision_tree.proofs.Listed.{entries-tree_of, less}
-use Rattle.revision_tree.proofs.Places.{Before, got, rising}
+use Rattle.revision_tree.proofs.Listed.{less}
+use Rattle.revision_tree.proofs.Places.{Before, rising}
 use Rattle.revision_tree.proofs.Pieces.{list_read, whole_at}
 use Rattle.revision_tree.proofs.Shortened.{rising_part}
 
@@ -38,14 +30,14 @@ use Rattle.revision_tree.proofs.Shortened.{rising_part}
 abbrev apart : Rev → Revision → Revision
 apart r v = record v { parent = option_and_then (λ p. if is_other r p then Some p else None) v.parent }
 
-abbrev kept : Rev → Rev → Revision → Option Revision
+abbrev pub kept : Rev → Rev → Revision → Option Revision
 kept r q v = if is_other r q then Some (apart r v) else None
 
 -- a node of another is marked as the tree says
-abbrev Said : Rev → (Rev → Bool) → Node → Type 0
+abbrev pub Said : Rev → (Rev → Bool) → Node → Type 0
 Said r m n = is_other r n.rev ≡ true → n.inner ≡ m n.rev
 
-rows_without : (r : Rev) (m : Rev → Bool) (ns : List Node) → All (Said r m) ns → filter_map (row_without r) (rows_of ns) ≡ refine_list revs (λ q v. Some (v, m q)) (refine_list revs (kept r) (entries_of ns))
+pub rows_without : (r : Rev) (m : Rev → Bool) (ns : List Node) → All (Said r m) ns → filter_map (row_without r) (rows_of ns) ≡ refine_list revs (λ q v. Some (v, m q)) (refine_list revs (kept r) (entries_of ns))
 rows_without r m [] h = refl
 rows_without r m (n ∷ ns) h = at (is_other r n.rev) (All-head (Said r m) n ns h) (rows_without r m ns (All-tail (Said r m) n ns h))
   where
@@ -63,100 +55,12 @@ rows_without r m (n ∷ ns) h = at (is_other r n.rev) (All-head (Said r m) n ns 
     at true said e = λ i. (n.rev, (v, said refl i)) ∷ e i
     at false said e = e
 
-other_of : (r q : Rev) → (q ≡ r → ⊥) → is_other r q ≡ true
+pub other_of : (r q : Rev) → (q ≡ r → ⊥) → is_other r q ≡ true
 other_of r q h = not_from_false (same_rev r q) (by_cases (same_rev r q) (λ e. absurd (h (sym ((same_rev-equal r q).0 e)))) (λ e. e))
 
-is_none_other : (r q : Rev) → is_other r q ≡ true → q ≡ r → ⊥
-is_none_other r q o e = true≢false (sym ((same_rev-equal r q).1 (sym e)) ∙ not-true (same_rev r q) o)
-
-module _ (t : Tree) (f : IsForest t) (limit : ℕ) (newest : Rev) (leaf : is_leaf t newest ≡ true) (g : ℕ) (unforked : IsUnforked g t) where
-  -- what stands above the same revision, and above no fork, is on one path
-  meet : (k n d : ℕ) → n ≡ d + k → (l r : Rev) → ancestor t k (Some l) ≡ Some r → ancestor t n (Some newest) ≡ Some r → g < r.generation → ancestor t d (Some newest) ≡ Some l
-  meet zero n d e l r x y over = let same : d ≡ n = omega (arith, e) in ap (λ m. ancestor t m (Some newest)) same ∙ y ∙ sym x
-  meet (suc k) zero d e l r x y over = absurd (omega (arith, e))
-  meet (suc k) (suc n) d e l r x y over =
-      let a = last_step t k (Some l) r x in
-      let b = last_step t n (Some newest) r y in
-      let same : b.child ≡ a.child = unforked r b.child a.child over b.parent a.parent in
-      let up = (f.parents a.child r a.parent).1 in
-      meet k n d (omega (arith, e)) l a.child a.leads (b.leads ∙ ap Some same) (omega (arith, up, over))
-
-  above_leaf : (d : ℕ) → 0 < d → (l : Rev) → is_leaf t l ≡ true → ancestor t d (Some newest) ≡ Some l → ⊥
-  above_leaf zero some l at e = absurd (omega (arith, some))
-  above_leaf (suc d) some l at e = let s = last_step t d (Some newest) l e in no_parent_of_leaf t l s.child at s.parent
-
-  module _ (r : Rev) (far : ancestor t limit (Some newest) ≡ Some r) (over : g < r.generation) where
-    not_near : IsNear limit t r → ⊥
-    not_near h = above_leaf (limit - h.steps) (omega (arith, h.few)) h.leaf h.at_leaf (meet h.steps limit (limit - h.steps) (omega (arith, h.few)) h.leaf r h.leads far over)
-
-    module _ (each : (q : Rev) → knows t q ≡ true → IsNear limit t q ⊎ (ancestor t limit (Some newest) ≡ Some q)) where
-      near_other : (q : Rev) → (is_other r q ≡ true) × (knows t q ≡ true) ↔ IsNear limit t q
-      near_other q = (
-        λ h. ⊎_elim (λ near. near) (λ e. absurd (is_none_other r q h.0 (same_Some q r (sym e ∙ far)))) (each q h.1),
-        λ h. (other_of r q (λ e. not_near (subst (IsNear limit t) e h)), near_known limit t f q h),
-      )
-
-      restriction : IsRestriction (IsNear limit t) t (restrict (is_other r) t)
-      restriction = IsRestriction-restrict (is_other r) t (IsNear limit t) f near_other
-
-      stem_other : stem limit t ≡ restrict (is_other r) t
-      stem_other = (stem-restriction limit t f (restrict (is_other r) t)).1 restriction
-
-      below : (q : Rev) → IsNear limit t q → has_child t q ≡ true → (c : Rev) × (parent_of t c ≡ Some q) × IsNear limit t c
-      below q h child = at h.steps h.few h.leads
-        where
-          at : (n : ℕ) → n < limit → ancestor t n (Some h.leaf) ≡ Some q → (c : Rev) × (parent_of t c ≡ Some q) × IsNear limit t c
-          at zero few e = absurd (true≢false (sym (ap (has_child t) (same_Some h.leaf q e) ∙ child) ∙ leaf_childless t h.leaf h.at_leaf))
-          at (suc n) few e = let s = last_step t n (Some h.leaf) q e in (s.child, s.parent, record { leaf = h.leaf; at_leaf = h.at_leaf; steps = n; few = omega arith; leads = s.leads })
-
-      -- what is kept has a child where it had one
-      kept_children : (q : Rev) → is_other r q ≡ true → knows t q ≡ true → has_child t q ≡ has_child (stem limit t) q
-      kept_children q other k = both_ways _ _ to from ∙ ap (λ u. has_child u q) (sym stem_other)
-        where
-          to : has_child t q ≡ true → has_child (restrict (is_other r) t) q ≡ true
-          to h =
-              let near = (near_other q).0 (other, k) in
-              let c = below q near h in
-              has_child-parent (restrict (is_other r) t) q c.0 ((restriction.parents c.0 q).1 (c.1, c.2, near))
-
-          from : has_child (restrict (is_other r) t) q ≡ true → has_child t q ≡ true
-          from h =
-              let c = child_of (restrict (is_other r) t) q h in
-              has_child-parent t q c.child ((restriction.parents c.child q).0 c.parent).0
-
-entries_other : (r : Rev) (t : Tree) → entries (restrict (is_other r) t) ≡ refine_list revs (kept r) (entries t)
+pub entries_other : (r : Rev) (t : Tree) → entries (restrict (is_other r) t) ≡ refine_list revs (kept r) (entries t)
 unfolding restrict
 entries_other r t = refl
-
-module _ (ns : List Node) (h : IsNodes ns) (limit : ℕ) (newest : Rev) (leaf : is_leaf (tree_of ns) newest ≡ true) (g : ℕ) (unforked : IsUnforked g (tree_of ns)) (r : Rev) (far : ancestor (tree_of ns) limit (Some newest) ≡ Some r)
-    (over : g < r.generation) where
-  pub only_child : (child : Rev) → parent_of (tree_of ns) child ≡ Some r → All (IsChildOnly r child) ns
-  only_child child up = All-weaker (Contains ns) (IsChildOnly r child) (λ n c e. unforked r n.rev child over (ap (option_and_then (λ (v : Revision). v.parent)) (got ns h.sorted n c) ∙ e) up) ns (All-contains_itself ns)
-
-  module _ (each : (q : Rev) → knows (tree_of ns) q ≡ true → IsNear limit (tree_of ns) q ⊎ (ancestor (tree_of ns) limit (Some newest) ≡ Some q)) (some : 0 < limit) (made : List Node) (is : rows_of made ≡ filter_map (row_without r) (rows_of ns)) where
-    abbrev u : Tree
-    u = stem limit (tree_of ns)
-
-    trimmed_rows : rows_of made ≡ entries (with_marks (has_child u) u)
-    trimmed_rows =
-        let t = tree_of ns in
-        let e = stem_other t h.tree.forest limit newest leaf g unforked r far over each in
-        is ∙ rows_without r (has_child u) ns (All-weaker (Contains ns) (Said r (has_child u)) (λ n c other. h.inner n c ∙ kept_children t h.tree.forest limit newest leaf g unforked r far over each n.rev other (ap is_some (got ns h.sorted n c))) ns (All-contains_itself ns))
-        ∙ ap (λ es. refine_list revs (λ q v. Some (v, has_child u q)) es) (ap (refine_list revs (kept r)) (sym (entries-tree_of ns h.sorted)) ∙ sym (entries_other r t) ∙ ap entries (sym e))
-
-    pub trimmed_nodes : IsNodes made
-    trimmed_nodes = nodes_marked made u (has_child u) trimmed_rows (λ q. refl) (IsTree-stem limit (tree_of ns) some h.tree) (IsInRange-stem limit (tree_of ns) h.tree.forest h.range)
-
-    pub trimmed_tree : tree_of made ≡ stem limit (tree_of ns)
-    trimmed_tree = tree_marked made u (has_child u) trimmed_rows
-
--- where there is none, all are near
-pub none_far : (t : Tree) → IsForest t → (limit : ℕ) (newest : Rev) → ancestor t limit (Some newest) ≡ None → ((q : Rev) → knows t q ≡ true → IsNear limit t q ⊎ (ancestor t limit (Some newest) ≡ Some q)) → stem limit t ≡ t
-none_far t f limit newest none each = stem_near t f limit (λ q k. ⊎_elim (λ near. near) (λ e. absurd (none-some q (sym none ∙ e))) (each q k))
-
--- where it is near to another leaf, all are near
-pub near_far : (t : Tree) → IsForest t → (limit : ℕ) (newest far : Rev) → ancestor t limit (Some newest) ≡ Some far → IsNear limit t far → ((q : Rev) → knows t q ≡ true → IsNear limit t q ⊎ (ancestor t limit (Some newest) ≡ Some q)) → stem limit t ≡ t
-near_far t f limit newest far leads held each = stem_near t f limit (λ q k. ⊎_elim (λ near. near) (λ e. subst (IsNear limit t) (same_Some far q (sym leads ∙ e)) held) (each q k))
 
 -- ---- one node
 

@@ -1,12 +1,15 @@
 //! The leaves of a tree in the winner's order.
-ghost use Rattle.std.specs.Prelude.{◌≡◌, true, false, Some, IfOk, All, ◌++◌, map, filter, reverse, option_map};
+ghost use Rattle.std.specs.Prelude.{◌≡◌, T, true, false, Some, IfOk, All, ◌++◌, map, filter, reverse, option_map};
+ghost use Rattle.std.specs.FinMap.Entries.{is_sorted};
 ghost use Rattle.std.specs.List.{find};
 ghost use Rattle.model.specs.Revision.{Rev};
-ghost use Rattle.model.specs.Tree.{leaves as ranked, winner as winning, revs_of};
+ghost use Rattle.model.specs.Tree.{Tree, IsTree, leaves as ranked, winner as winning, revs_of};
 ghost use Rattle.revision_tree.specs.Nodes.{is_wanted, tree_of};
+ghost use Rattle.revision_tree.specs.Ranks.{AreLeaves, rank_cmp};
 ghost use Rattle.revision_tree.specs.Rows.{IsRows, joined, lists_of, nodes_of};
 
 use crate::node::Node;
+use crate::noted::Noted;
 use crate::rows::Rows;
 use revision_id::RevId;
 use std::alloc::{AllocError, Global};
@@ -136,4 +139,31 @@ fn marked(alloc: Global, nodes: &[Node], deleted: bool) -> Result<Vec<RevId>, Al
         .filter(|node| !node.inner && node.deleted == deleted)
         .map(|node| node.rev)
         .collect(alloc)
+}
+
+/// The first of the leaves that are noted.
+pub(crate) fn first_of(noted: &Noted) -> Leaf
+    requires { (t : Tree) × IsTree t × AreLeaves t noted.now.leaves.entries }
+    ensures { (t : Tree) → AreLeaves t noted.now.leaves.entries → winning t ≡ Some (record { deleted = result.deleted; rev = result.rev }) }
+{
+    let mut leaves = noted.leaves.iter();
+    let Some((rank, _)) = leaves.next() else {
+        unreachable!();
+    };
+    Leaf {
+        deleted: rank.deleted,
+        rev: rank.rev,
+    }
+}
+
+/// The leaves that are noted.
+pub(crate) fn all_of(alloc: Global, noted: &Noted) -> Result<Vec<RevId>, AllocError>
+    ensures revs { IfOk result (λ revs. revs.items ≡ map (λ e. e.0.rev) noted.now.leaves.entries) }
+    ensures ordered { T (is_sorted rank_cmp noted.now.leaves.entries) }
+{
+    let mut revs = Vec::new(alloc);
+    for (rank, _) in noted.leaves.iter() {
+        revs.push(rank.rev)?;
+    }
+    Ok(revs)
 }

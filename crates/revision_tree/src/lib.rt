@@ -2,19 +2,23 @@
 #![tactic(auto)]
 
 mod decide;
-mod fork;
 mod growth;
 mod leaf;
+mod links;
 mod marks;
-mod near;
+mod members;
 mod node;
+mod noted;
+mod noted_tree;
+mod notes;
+mod orphan;
 mod place;
 mod put;
+mod rank;
 mod rows;
 mod search;
 mod shorten;
 mod strip;
-mod tails;
 mod tree;
 mod trim;
 mod walk;

@@ -1,7 +1,7 @@
 //! Look-ups among the nodes, which ascend.
-ghost use Rattle.std.specs.Prelude.{◌≡◌, ◌<◌, true, Some, None, IsTrue, IfOk, IfSome, length, slice_index_or, is_some, Contains, option_map, option_and_then};
+ghost use Rattle.std.specs.Prelude.{◌≡◌, ◌<◌, true, Some, IsTrue, IfOk, IfSome, length, slice_index_or, is_some, Contains, option_map, option_and_then};
 ghost use Rattle.model.specs.Map.{get};
-ghost use Rattle.model.specs.Tree.{knows, ancestor, ancestors, has_child, parent_of};
+ghost use Rattle.model.specs.Tree.{knows, ancestors, has_child, parent_of};
 ghost use Rattle.std.specs.FinMap.Entries.{find};
 ghost use Rattle.model.specs.Revision.{rev_cmp};
 ghost use Rattle.revision_tree.specs.Nodes.{IsSorted, IsPlaceOf, entry_of, row_of, rows_of, tree_of};
@@ -13,13 +13,6 @@ use crate::place::{piece_for, piece_of};
 use crate::rows::Rows;
 use revision_id::RevId;
 use std::alloc::{AllocError, Global};
-
-/// A revision above another, and its child on the way.
-#[derive(Clone, Copy, Drop)]
-pub(crate) struct Forebear {
-    pub(crate) rev: RevId,
-    pub(crate) child: RevId,
-}
 
 /// The place of a revision among nodes, which ascend.
 pub fn place_among(nodes: &[Node], rev: RevId) -> Option<usize>
@@ -81,39 +74,7 @@ pub(crate) fn parent_in(rows: &Rows, rev: RevId) -> Option<RevId>
     node_of(rows, rev)?.parent
 }
 
-/// The revision that is so many parent steps above another.
-pub(crate) fn ancestor_of(rows: &Rows, rev: RevId, steps: u32) -> Option<RevId>
-    requires { IsRows rows.now }
-    ensures { result ≡ ancestor (tree_of (nodes_of rows.now)) steps (Some rev) }
-{
-    let mut at = rev;
-    for _step in 0..steps {
-        let Some(parent) = parent_in(rows, at) else {
-            return None;
-        };
-        at = parent;
-    }
-    Some(at)
-}
-
-/// The same, at least one step above, with its child on the way.
-pub(crate) fn forebear_of(rows: &Rows, rev: RevId, steps: u32) -> Option<Forebear>
-    requires rows { IsRows rows.now }
-    requires steps { 0 < steps }
-    ensures none { result ≡ None → ancestor (tree_of (nodes_of rows.now)) steps (Some rev) ≡ None }
-    ensures rev { IfSome result (λ a. ancestor (tree_of (nodes_of rows.now)) steps (Some rev) ≡ Some a.rev) }
-    ensures child { IfSome result (λ a. parent_of (tree_of (nodes_of rows.now)) a.child ≡ Some a.rev) }
-{
-    let Some(child) = ancestor_of(rows, rev, steps - 1) else {
-        return None;
-    };
-    let Some(rev) = parent_in(rows, child) else {
-        return None;
-    };
-    Some(Forebear { rev, child })
-}
-
-/// A child of a revision, if there is one.
+/// A child of a revision, if one is found.
 pub(crate) fn child_of(rows: &Rows, rev: RevId) -> Option<RevId>
     requires { IsRows rows.now }
     ensures { IfSome result (λ child. parent_of (tree_of (nodes_of rows.now)) child ≡ Some rev) }
@@ -127,11 +88,18 @@ pub(crate) fn child_of(rows: &Rows, rev: RevId) -> Option<RevId>
     None
 }
 
-/// The same, looked for among the revisions of its generation and the next.
+/// The most pieces in which a child is looked for.
+const MOST_PIECES: usize = 16;
+
+/// The same, looked for among the next revisions, of its generation and the next.
 fn child_from(rows: &Rows, rev: RevId) -> Option<RevId>
     requires { IsRows rows.now }
 {
-    for place in piece_for(rows, rev)..rows.older.len() {
+    let begin = piece_for(rows, rev);
+    for place in begin..rows.older.len() {
+        if place - begin >= MOST_PIECES {
+            return None;
+        }
         let piece = &rows.older[place];
         if begins_beyond(piece, rev) {
             return None;
@@ -158,17 +126,6 @@ fn child_among(nodes: &[Node], rev: RevId) -> Option<RevId> {
         }
     }
     None
-}
-
-/// Whether it is the parent of a known revision.
-pub(crate) fn is_parent(rows: &Rows, rev: RevId) -> bool
-    requires { IsRows rows.now }
-    ensures { result ≡ has_child (tree_of (nodes_of rows.now)) rev }
-{
-    let Some(node) = node_of(rows, rev) else {
-        return false;
-    };
-    node.inner
 }
 
 /// A known revision and the known ones above it, newest first.

@@ -1,5 +1,5 @@
 //! Nodes without the oldest.
-ghost use Rattle.std.specs.Prelude.{◌≡◌, ◌<◌, [], ◌∷◌, ◌++◌, true, false, Some, IfOk, All, length};
+ghost use Rattle.std.specs.Prelude.{◌≡◌, ◌<◌, [], ◌∷◌, ◌++◌, true, Some, IfOk, All, length};
 ghost use Rattle.std.specs.List.{filter_map};
 ghost use Rattle.revision_tree.specs.Nodes.{row_of, rows_of};
 ghost use Rattle.revision_tree.specs.Rows.{items_of, joined, lists_of, nodes_of, AreFilled, IsRows};
@@ -9,29 +9,6 @@ use crate::node::Node;
 use crate::rows::Rows;
 use std::alloc::{AllocError, Global};
 use std::sync::Arc;
-
-/// Whether each leaf is of this generation.
-pub(crate) fn are_level(rows: &Rows, generation: u32) -> bool
-    ensures { result ≡ true → All (λ n. n.inner ≡ false → n.rev.generation ≡ generation) (nodes_of rows.now) }
-{
-    for piece in &rows.older {
-        if !is_level(piece, generation) {
-            return false;
-        }
-    }
-    is_level(&rows.last, generation)
-}
-
-fn is_level(nodes: &[Node], generation: u32) -> bool
-    ensures { result ≡ true → All (λ n. n.inner ≡ false → n.rev.generation ≡ generation) nodes.now }
-{
-    for node in nodes {
-        if !node.inner && node.rev.generation() != generation {
-            return false;
-        }
-    }
-    true
-}
 
 /// The nodes above a generation, each with its parent where that is above it too. Shares the pieces that begin far enough above it.
 pub(crate) fn above(alloc: Global, rows: Rows, generation: u32) -> Result<Rows, AllocError>

@@ -1,30 +1,29 @@
 //! The tree.
-ghost use Rattle.std.specs.Prelude.{◌≡◌, ◌↔◌, ◌⊎◌, ◌<◌, ◌≤◌, Some, true, IfOk, IfSome, All, length, min, option_map, option_copied, unwrap_or};
+ghost use Rattle.std.specs.Prelude.{◌≡◌, ◌↔◌, ◌≤◌, Bool, Some, true, IfOk, IfSome, All, length, min, option_map, option_copied, unwrap_or};
 ghost use Rattle.std.specs.Arc.{arc_value};
 ghost use Rattle.model.specs.Map.{empty, entries};
-ghost use Rattle.model.specs.Body.{IsBody};
+ghost use Rattle.model.specs.Body.{Body as BodyText, IsBody};
 ghost use Rattle.model.specs.Revision.{Rev, IsRev};
 ghost use Rattle.model.specs.Tree.{Tree, IsTree, IsInRange, knows as is_known, IsNear, ancestor, has_child as has_known_child, parent_of as known_parent, is_leaf as is_known_leaf, among, body_of as kept_body, is_deleted as is_known_deleted, path_of as path_to, leaves as ranked, winner as winning, revs_of};
 ghost use Rattle.model.specs.TreeChange.{IsPath, agrees as is_agreed, grafted as grafting, stem as stemming, strip as stripping};
 ghost use Rattle.revision_tree.specs.Nodes.{IsListOf, IsNodes, entries_of, tree_of};
 ghost use Rattle.revision_tree.specs.Growth.{AreGround};
-ghost use Rattle.revision_tree.specs.Kept.{IsUnforked};
-ghost use Rattle.revision_tree.specs.Rows.{AreFilled, lists_of, nodes_of};
-ghost use Rattle.revision_tree.specs.Tails.{AreTails};
+ghost use Rattle.revision_tree.specs.Notes.{AreNotes, HasOneLeaf};
+ghost use Rattle.revision_tree.specs.Rows.{AreFilled, IsRows, lists_of, nodes_of};
 ghost use Rattle.revision_tree.specs.Walk.{left_of};
 
 mod stems;
 
 use crate::decide::mark_tree;
-use crate::fork::forks_with;
 use crate::growth::grow;
-use crate::leaf::{Leaf, has_one_leaf, leaves_of, winner_of};
+use crate::leaf::{Leaf, all_of, first_of, has_one_leaf, leaves_of, winner_of};
 use crate::marks::mark;
+use crate::members::noted_with;
 use crate::node::Node;
+use crate::notes::{Notes, notes_of};
 use crate::rows::Rows;
-use crate::search::{is_parent, node_of, parent_in, path_from};
+use crate::search::{node_of, parent_in, path_from};
 use crate::strip::stripped;
-use crate::tails::Tails;
 use crate::walk::Nodes;
 use crate::whole::{all, count, first, last, pieces_of};
 use json_profile::Body;
@@ -36,28 +35,12 @@ use std::sync::Arc;
 /// The revisions of a document: at least one, each with its parent where that is known, and each leaf with its body.
 pub struct RevTree {
     rows: Rows,
-    /// Whether it is known to have no leaf but the newest revision.
-    one_leaf: bool,
-    /// Each revision is known to be fewer steps than this above some leaf: a stem at this limit, or a higher one, keeps all.
-    depth: u32,
-    /// No revision of a generation above this is known to have two children.
-    forks: u32,
-    /// The oldest revisions on the paths of some leaves.
-    tails: Tails,
+    notes: Notes,
 }
-
-/// More steps than a path can have, and the highest generation.
-const ANY: u32 = u32::MAX;
 
 impl Drop for RevTree {
     fn drop(self) {
-        let RevTree {
-            rows: _,
-            one_leaf: _,
-            depth: _,
-            forks: _,
-            tails: _,
-        } = self;
+        let RevTree { rows: _, notes: _ } = self;
     }
 }
 
@@ -69,12 +52,12 @@ impl Model for RevTree {
     ghost coded = { coded_tree };
 
     ghost use Rattle.revision_tree.specs.Nodes.{tree_of};
-    ghost use Rattle.revision_tree.specs.Rows.{nodes_of, IsRows};
-    ghost use Rattle.revision_tree.specs.Kept.{IsKept};
+    ghost use Rattle.revision_tree.specs.Rows.{nodes_of};
+    ghost use Rattle.revision_tree.specs.Notes.{IsKept};
 
     ghost view = { λ t. tree_of (nodes_of t.rows) };
 
-    ghost invariant = { λ t. IsKept t.rows t.one_leaf t.depth t.forks t.tails };
+    ghost invariant = { λ t. IsKept t.rows t.notes };
 }
 
 impl RevTree {
@@ -84,8 +67,8 @@ impl RevTree {
         ensures { (t : Tree) → entries t ≡ entries_of nodes.items → IfOk result (λ made. made ≡ t) }
     {
         let mut nodes = nodes;
-        let forks = mark(&mut nodes);
-        RevTree::from_marked(alloc, nodes, forks)
+        mark(&mut nodes);
+        RevTree::from_marked(alloc, nodes)
     }
 
     /// The tree of a list, where it is one that a tree has: the revisions ascend, the parent of each that has one is
@@ -97,23 +80,18 @@ impl RevTree {
         if !mark_tree(&mut nodes) {
             return Ok(None);
         }
-        Ok(Some(RevTree::from_marked(alloc, nodes, ANY)?))
+        Ok(Some(RevTree::from_marked(alloc, nodes)?))
     }
 
     /// The tree of nodes of which the parents are marked.
-    fn from_marked(alloc: Global, nodes: Vec<Node>, forks: u32) -> Result<RevTree, AllocError>
-        requires nodes { IsNodes nodes.items }
-        requires forks { IsUnforked forks (tree_of nodes.items) }
+    fn from_marked(alloc: Global, nodes: Vec<Node>) -> Result<RevTree, AllocError>
+        requires { IsNodes nodes.items }
         ensures { IfOk result (λ made. made ≡ tree_of nodes.items) }
     {
         let one_leaf = has_one_leaf(&nodes);
-        Ok(RevTree {
-            rows: pieces_of(alloc, nodes)?,
-            one_leaf,
-            depth: ANY,
-            forks,
-            tails: Tails::none(alloc),
-        })
+        let rows = pieces_of(alloc, nodes)?;
+        let notes = notes_of(alloc, &rows, one_leaf)?;
+        Ok(RevTree { rows, notes })
     }
 
     /// The tree, or the empty one, with the members of a path that agrees with it, each next one the parent of the one
@@ -131,58 +109,29 @@ impl RevTree {
         requires agrees { is_agreed (unwrap_or (option_copied tree) empty) path.now ≡ true }
         ensures { IfOk result (λ t. t ≡ grafting path.now (arc_value body) deleted (unwrap_or (option_copied tree.entry) empty)) }
     {
-        let one_leaf = goes_through_leaves(tree, path);
-        let forks = forks_with(tree, path);
-        let tails = tails_of(alloc, tree)?;
+        let one_leaf = keeps_one_leaf(tree, path);
         let mut rows = ground(alloc, tree, path.len())?;
         grow(alloc, &mut rows, path, body, deleted)?;
-        Ok(RevTree {
-            rows,
-            one_leaf,
-            depth: ANY,
-            forks,
-            tails,
-        })
+        let notes = notes_with(alloc, tree, &rows, path, deleted, one_leaf)?;
+        Ok(RevTree { rows, notes })
     }
 
     /// The tree with the bodies of its leaves alone.
     pub fn stripped(&self, alloc: Global) -> Result<RevTree, AllocError>
         ensures { IfOk result (λ t. t ≡ stripping self.now) }
     {
-        Ok(RevTree {
-            rows: stripped(alloc, &self.rows)?,
-            one_leaf: self.one_leaf,
-            depth: self.depth,
-            forks: self.forks,
-            tails: self.tails.share(alloc)?,
-        })
-    }
-
-    /// A generation above which no revision has two children.
-    pub(crate) fn forks(&self) -> u32
-        ensures { IsUnforked result self.now }
-    {
-        self.forks
-    }
-
-    /// Whether it is the parent of a known revision.
-    pub(crate) fn has_child(&self, rev: RevId) -> bool
-        ensures { result ≡ has_known_child self.now rev }
-    {
-        is_parent(&self.rows, rev)
+        let notes = self.notes.share(alloc)?;
+        let rows = stripped(alloc, &self.rows)?;
+        Ok(RevTree { rows, notes })
     }
 
     /// The same tree, which shares what it can.
     pub fn share(&self, alloc: Global) -> Result<RevTree, AllocError>
         ensures { IfOk result (λ t. t ≡ self.now) }
     {
-        Ok(RevTree {
-            rows: self.rows.share(alloc)?,
-            one_leaf: self.one_leaf,
-            depth: self.depth,
-            forks: self.forks,
-            tails: self.tails.share(alloc)?,
-        })
+        let notes = self.notes.share(alloc)?;
+        let rows = self.rows.share(alloc)?;
+        Ok(RevTree { rows, notes })
     }
 
     /// The revisions, in ascending order.
@@ -255,14 +204,20 @@ impl RevTree {
     pub fn winner(&self) -> Leaf
         ensures { winning self.now ≡ Some (record { deleted = result.deleted; rev = result.rev }) }
     {
-        winner_of(&self.rows)
+        match &self.notes {
+            Notes::Many(noted) => first_of(noted),
+            _ => winner_of(&self.rows),
+        }
     }
 
     /// The leaves: the live ones before the deleted ones, and of each the greatest first.
     pub fn leaves(&self, alloc: Global) -> Result<Vec<RevId>, AllocError>
         ensures { IfOk result (λ revs. revs.items ≡ revs_of (ranked self.now)) }
     {
-        leaves_of(alloc, &self.rows)
+        match &self.notes {
+            Notes::Many(noted) => all_of(alloc, noted),
+            _ => leaves_of(alloc, &self.rows),
+        }
     }
 
     /// The known path of a revision, newest first, and nothing of one that isn't known.
@@ -283,14 +238,25 @@ impl RevTree {
     }
 }
 
-/// Whether the path has each leaf of the tree, and each of no tree: then a graft of it leaves no leaf but its newest.
-fn goes_through_leaves(tree: Option<&RevTree>, path: &[RevId]) -> bool
-    ensures { result ≡ true → (l : Rev) → is_known_leaf (unwrap_or (option_copied tree.entry) empty) l ≡ true → among path.now l ≡ true }
+/// Whether it is known that a graft of the path leaves one leaf: that of the tree, or the newest of the path in its place.
+fn keeps_one_leaf(tree: Option<&RevTree>, path: &[RevId]) -> bool
+    requires path { IsPath path.now }
+    requires agrees { is_agreed (unwrap_or (option_copied tree) empty) path.now ≡ true }
+    ensures { result ≡ true → (body : BodyText) (deleted : Bool) → HasOneLeaf (grafting path.now body deleted (unwrap_or (option_copied tree.entry) empty)) }
 {
     let Some(tree) = tree else {
         return true;
     };
-    tree.one_leaf && has_leaf(tree, path)
+    let Notes::OneLeaf = &tree.notes else {
+        return false;
+    };
+    let [newest, ..] = path else {
+        return false;
+    };
+    if tree.knows(*newest) {
+        return true;
+    }
+    has_leaf(tree, path)
 }
 
 /// Whether one of these revisions is a leaf.
@@ -305,14 +271,34 @@ fn has_leaf(tree: &RevTree, revs: &[RevId]) -> bool
     false
 }
 
-/// The tails that a tree has noted, and none of no tree.
-fn tails_of(alloc: Global, tree: Option<&RevTree>) -> Result<Tails, AllocError>
-    ensures { IfOk result (λ s. AreTails s (unwrap_or (option_copied tree.entry) empty)) }
+/// What is noted of a tree, or the empty one, once a path is grafted onto it. The rows are those after the graft.
+fn notes_with(
+    alloc: Global,
+    tree: Option<&RevTree>,
+    rows: &Rows,
+    path: &[RevId],
+    deleted: bool,
+    one_leaf: bool,
+) -> Result<Notes, AllocError>
+    requires rows { IsRows rows.now }
+    requires path { IsPath path.now }
+    requires agrees { is_agreed (unwrap_or (option_copied tree) empty) path.now ≡ true }
+    requires one { one_leaf ≡ true → HasOneLeaf (tree_of (nodes_of rows.now)) }
+    requires grown { (body : BodyText) × (tree_of (nodes_of rows.now) ≡ grafting path.now body deleted (unwrap_or (option_copied tree) empty)) }
+    ensures { IfOk result (λ n. AreNotes (tree_of (nodes_of rows.now)) n) }
 {
-    match tree {
-        Some(tree) => tree.tails.share(alloc),
-        None => Ok(Tails::none(alloc)),
+    if one_leaf {
+        return Ok(Notes::OneLeaf);
     }
+    let Some(tree) = tree else {
+        return notes_of(alloc, rows, false);
+    };
+    let Notes::Many(noted) = &tree.notes else {
+        return notes_of(alloc, rows, false);
+    };
+    let noted = noted.share()?;
+    let grown = noted_with(tree, noted, rows, path, deleted)?;
+    Ok(Notes::Many(Box::new(alloc, grown)?))
 }
 
 /// The nodes of a tree, shared, and none of no tree, with room for so many.

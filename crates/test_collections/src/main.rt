@@ -1,12 +1,13 @@
-//! Does what each row of its input says to an empty map, list or tree, and prints what comes of it.
+//! Does what each row of its input says to an empty map, list, tree or set of runs, and prints what comes of it.
 //!
-//! A row begins with its kind: `map` has calls of the shared map, `list` calls of the shared list, and `tree` changes of a
-//! document's revisions. Statements are with `;` between. `tests/rows` has the rows and what they must print.
+//! A row begins with its kind: `map` has calls of the shared map, `list` calls of the shared list, `tree` changes of a
+//! document's revisions, and `runs` calls of their runs. Statements are with `;` between. `tests/rows` has the rows and what they must print.
 #![tactic(auto)]
 
 mod lists;
 mod maps;
 mod merges;
+mod runs;
 mod trees;
 
 use std::alloc::Global;
@@ -20,6 +21,7 @@ fn told(alloc: Global, row: &str) -> Result<String, Fail> {
     match kind {
         "map" => maps::told(alloc, statements),
         "list" => lists::told(alloc, statements),
+        "runs" => runs::told(alloc, statements),
         "tree" => trees::told(alloc, statements),
         _ => Err("a kind of row".into()),
     }

@@ -1,5 +1,5 @@
 -- Two trees compared node by node.
-use Rattle.std.specs.Prelude.{◌≡◌, ◌↔◌, ℕ, min, ◌&&◌, Bool, true, false, List, [], ◌∷◌, length, not, Option, Some, None, is_some, MatchOption, refl}
+use Rattle.std.specs.Prelude.{◌≡◌, ◌↔◌, ℕ, min, ◌&&◌, Bool, true, false, List, [], ◌∷◌, length, not, Option, Some, None, is_some, option_map, MatchOption, refl}
 use Rattle.std.specs.Borrow.{Bor}
 use Rattle.std.proofs.Common.{sym, ap, ◌∙◌, arith}
 use Rattle.std.specs.Cmp.{both_ways}
@@ -8,7 +8,7 @@ use Rattle.std.proofs.lemmas.Bool.{and_right, true≢false}
 use Rattle.model.specs.Body.{Body, same_body}
 use Rattle.model.specs.Map.{entries}
 use Rattle.model.specs.Revision.{Rev}
-use Rattle.model.specs.Tree.{Tree, Revision, knows}
+use Rattle.model.specs.Tree.{Tree, Revision, body_of, knows}
 use Rattle.model.specs.Database.{same_tree, same_entry}
 use Rattle.model.proofs.SameLaws.{same_body-equal, same_tree-equal}
 use Rattle.revision_tree.specs.declared.node.Node.{Node}
@@ -35,13 +35,21 @@ counted_apart s t a b most e f h = long (entries s) (entries t) (λ k. h (e ∙ 
     long (x ∷ xs) [] h = refl
     long (x ∷ xs) (y ∷ ys) h = and_right (same_entry x y) (pointwise same_entry xs ys) (long xs ys (λ e. h (omega (arith, e))))
 
+untrue : (b : Bool) → (b ≡ true → ⊥) → b ≡ false
+untrue true h = absurd (h refl)
+untrue false h = refl
+
 -- trees of which one alone has a revision
 pub known_in_one : (s t : Tree) (r : Rev) → knows s r ≡ true → knows t r ≡ false → same_tree s t ≡ false
 known_in_one s t r known unknown = untrue (same_tree s t) (λ e. true≢false (sym known ∙ ap (λ u. knows u r) ((same_tree-equal s t).0 e) ∙ unknown))
-  where
-    untrue : (b : Bool) → (b ≡ true → ⊥) → b ≡ false
-    untrue true h = absurd (h refl)
-    untrue false h = refl
+
+-- or a body for it
+pub kept_in_one : (s t : Tree) (r : Rev) → is_some (body_of s r) ≡ true → is_some (body_of t r) ≡ false → same_tree s t ≡ false
+kept_in_one s t r some none = untrue (same_tree s t) (λ e. true≢false (sym some ∙ ap (λ u. is_some (body_of u r)) ((same_tree-equal s t).0 e) ∙ none))
+
+pub some_of : {X Y : Type 0} (f : X → Y) (o : Option X) → is_some (option_map f o) ≡ is_some o
+some_of f None = refl
+some_of f (Some x) = refl
 
 pub alike_next : (xs ys ms ns : List Node) (m n : Node) → xs ≡ m ∷ ms → ys ≡ n ∷ ns → Alike xs ys ≡ (same_entry (entry_of m) (entry_of n) && Alike ms ns)
 alike_next xs ys ms ns m n e f = λ i. Alike (e i) (f i)

@@ -5,7 +5,5 @@ pub mod Restricted
 pub mod Raised
 pub mod Writes
 pub mod Compared
-pub mod Depths
 pub mod Unaltered
 pub mod Cuts
-pub mod Stepped

@@ -1,4 +1,3 @@
 pub mod Links
 pub mod Reach
 pub mod Seen
-pub mod Steps

@@ -7,8 +7,6 @@ mod matches;
 mod reach;
 mod removed;
 mod restrict;
-mod settle;
-mod shallow;
 mod stems;
 mod strips;
 mod unchanged;

@@ -11,11 +11,28 @@ use revision_id::RevId;
 use revision_tree::{Node, RevTree};
 use std::sync::Arc;
 
-/// Whether the first tree has a revision that the second has not: then they are not the same. Costs two look-ups, and takes no memory.
+/// Whether the first tree has a revision that the second has not, or a body for it: then they are not the same. Costs a few
+/// look-ups, and takes no memory.
 pub fn has_alone(one: &RevTree, other: &RevTree, rev: RevId) -> bool
     ensures { result ≡ true → same_tree one.now other.now ≡ false }
 {
+    if knows_alone(one, other, rev) {
+        return true;
+    }
+    keeps_alone(one, other, rev)
+}
+
+fn knows_alone(one: &RevTree, other: &RevTree, rev: RevId) -> bool
+    ensures { result ≡ true → same_tree one.now other.now ≡ false }
+{
     one.knows(rev) && !other.knows(rev)
+}
+
+/// Whether the first alone has a body for it.
+fn keeps_alone(one: &RevTree, other: &RevTree, rev: RevId) -> bool
+    ensures { result ≡ true → same_tree one.now other.now ≡ false }
+{
+    one.body_of(rev).is_some() && other.body_of(rev).is_none()
 }
 
 /// Whether the two have the same revisions, parents, flags and bodies. Takes no memory.

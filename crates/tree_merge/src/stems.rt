@@ -19,19 +19,26 @@ pub fn stem(alloc: Global, tree: &RevTree, limit: u32) -> Result<RevTree, AllocE
 {
     let nodes = restricted(alloc, tree, &[], limit)?;
     let stem = RevTree::from_nodes(alloc, nodes)?;
-    Ok(stem.as_stem(limit))
+    Ok(stem)
 }
 
-/// The same of a tree that is given up. Where each leaf is of the newest generation, as in a history with no conflicts, the
-/// oldest revisions alone are looked at one by one.
-pub(crate) fn stemmed(alloc: Global, tree: RevTree, limit: u32) -> Result<RevTree, AllocError>
+/// The same of a tree that a path was grafted onto. Where the tree before was its own stem, no more of it is too far above the
+/// leaves than the path has members, and the others aren't looked at.
+pub(crate) fn settled(
+    alloc: Global,
+    before: Option<&RevTree>,
+    grafted: RevTree,
+    limit: u32,
+) -> Result<RevTree, AllocError>
     requires { 0 < limit }
-    ensures { IfOk result (λ t. t ≡ stemming limit tree) }
+    ensures { IfOk result (λ t. t ≡ stemming limit grafted) }
 {
-    if tree.is_level() {
-        return tree.shortened(alloc, limit);
+    if let Some(before) = before {
+        if !before.is_stem(limit) {
+            return stem(alloc, &grafted, limit);
+        }
     }
-    stem(alloc, &tree, limit)
+    grafted.stemmed(alloc, limit)
 }
 
 /// What is left where the named leaves go, and nothing where no leaf stays.

@@ -6,7 +6,6 @@ ghost use Rattle.model.specs.Tree.{is_at};
 ghost use Rattle.model.specs.TreeChange.{IsPath};
 ghost use Rattle.tree_merge.specs.Links.{IsLinked};
 
-use crate::shallow::is_shallow;
 use revision_id::RevId;
 use revision_tree::RevTree;
 
@@ -26,7 +25,8 @@ pub fn is_written(tree: &RevTree, limit: u32, path: &[RevId]) -> bool
     if !has_links(tree, path) {
         return false;
     }
-    is_shallow(tree, limit)
+    let _recalled = tree.oldest();
+    tree.is_stem(limit)
 }
 
 /// Whether each next member is the parent of the one before.

@@ -8,8 +8,7 @@ ghost use Rattle.tree_merge.specs.declared.fault.MergeFault.TheVariants.{Contrad
 
 use crate::fault::MergeFault;
 use crate::grafts::graft;
-use crate::settle::settled;
-use crate::shallow::is_shallow;
+use crate::stems::settled;
 use json_profile::Body;
 use revision_id::RevId;
 use revision_tree::RevTree;
@@ -31,9 +30,9 @@ pub fn with_path(
     ensures refused { (result ≡ Err Contradiction) ↔ (writing limit (option_copied tree.entry) path.now (arc_value body) deleted ≡ Err BadHistory) }
 {
     let grafted = graft(alloc, tree, path, body, deleted)?;
-    if is_shallow(&grafted, limit) {
+    if grafted.is_stem(limit) {
         return Ok(grafted);
     }
-    let stemmed = settled(alloc, tree, path, grafted, limit)?;
-    Ok(stemmed)
+    let stem = settled(alloc, tree, grafted, limit)?;
+    Ok(stem)
 }

@@ -24,8 +24,8 @@ are_rooted-requires c =
     let nodes : List Node = c.args.nodes.now in
     let sorted : IsSorted nodes = c.ascend.ensures.0 c.if-not-ascend.false in
     record {
-      sorted = subst IsSorted (sym c.mark.ensures.marks) (IsSorted-marked (entries_of nodes) nodes sorted);
-      inner = subst (λ (ns : List Node). (n : Node) → Contains ns n → n.inner ≡ has_child (tree_of ns) n.rev) (sym c.mark.ensures.marks) (inner-marked nodes sorted);
+      sorted = subst IsSorted (sym c.mark.ensures) (IsSorted-marked (entries_of nodes) nodes sorted);
+      inner = subst (λ (ns : List Node). (n : Node) → Contains ns n → n.inner ≡ has_child (tree_of ns) n.rev) (sym c.mark.ensures) (inner-marked nodes sorted);
       ranges = c.recall_all.ensures;
     }
 
@@ -34,9 +34,9 @@ returns c =
     let nodes : List Node = c.args.nodes.now in
     let marked : List Node = c.mark.new.nodes in
     let sorted : IsSorted nodes = c.ascend.ensures.0 c.if-not-ascend.false in
-    let rising : IsSorted marked = subst IsSorted (sym c.mark.ensures.marks) (IsSorted-marked (entries_of nodes) nodes sorted) in
-    let inner = subst (λ (ns : List Node). (n : Node) → Contains ns n → n.inner ≡ has_child (tree_of ns) n.rev) (sym c.mark.ensures.marks) (inner-marked nodes sorted) in
-    let same : entries_of marked ≡ entries_of nodes = ap entries_of c.mark.ensures.marks ∙ entries-marked_by (entries_of nodes) nodes in
+    let rising : IsSorted marked = subst IsSorted (sym c.mark.ensures) (IsSorted-marked (entries_of nodes) nodes sorted) in
+    let inner = subst (λ (ns : List Node). (n : Node) → Contains ns n → n.inner ≡ has_child (tree_of ns) n.rev) (sym c.mark.ensures) (inner-marked nodes sorted) in
+    let same : entries_of marked ≡ entries_of nodes = ap entries_of c.mark.ensures ∙ entries-marked_by (entries_of nodes) nodes in
     record {
       entries = same;
       nodes = λ e. record { sorted = rising; inner = inner; tree = c.are_rooted.ensures.0 e; range = range_of marked rising c.recall_all.ensures };

@@ -1,8 +1,5 @@
-use Rattle.std.proofs.Common.{◌≡◌, ◌∙◌, sym, subst}
-use Rattle.model.specs.Tree.{Tree}
 use Rattle.model.specs.TreeChange.{stem}
 use Rattle.tree_merge.proofs.Restricted.{stem_list}
-use Rattle.tree_merge.proofs.Stepped.{stem_again}
 use Rattle.tree_merge.proofs.stems.stem.Goals as goal
 
 pub from_nodes-requires : goal.from_nodes-requires
@@ -10,14 +7,8 @@ from_nodes-requires c =
     let t = c.args.tree.now in
     (stem c.args.limit t, stem_list t c.in_ok-nodes.ensures.tree.forest c.args.limit c.in_ok-nodes.nodes.items c.requires c.in_ok-nodes.ensures.tree c.in_ok-nodes.ensures.range c.in_ok-nodes.ensures.kept)
 
-pub as_stem-requires : goal.as_stem-requires
-as_stem-requires c =
-    let t = c.args.tree.now in
-    let listed = stem_list t c.in_ok-nodes.ensures.tree.forest c.args.limit c.in_ok-nodes.nodes.items c.requires c.in_ok-nodes.ensures.tree c.in_ok-nodes.ensures.range c.in_ok-nodes.ensures.kept in
-    subst (λ (u : Tree). stem c.args.limit u ≡ u) (sym (c.in_ok-stem.ensures (stem c.args.limit t) listed.entries)) (stem_again t c.in_ok-nodes.ensures.tree.forest c.args.limit c.requires)
-
 pub returns : goal.returns
 returns c =
     let t = c.args.tree.now in
     let listed = stem_list t c.in_ok-nodes.ensures.tree.forest c.args.limit c.in_ok-nodes.nodes.items c.requires c.in_ok-nodes.ensures.tree c.in_ok-nodes.ensures.range c.in_ok-nodes.ensures.kept in
-    c.as_stem.ensures ∙ c.in_ok-stem.ensures (stem c.args.limit t) listed.entries
+    c.in_ok-stem.ensures (stem c.args.limit t) listed.entries

@@ -10,5 +10,5 @@ returns c = λ e body deleted.
     let some = c.is_none.ensures in
     let has = has_body _ _ c.body_of.result _ c.body_of.ensures (some ∙ ap not c.if-is_none.false) in
     written_ok c.args.limit (Some t) c.args.path.now body deleted t
-    (grafts_nothing t c.is_shallow.ensures.tree.forest c.args.path.now c.newest-item.result body deleted c.requires c.newest-item.is has (c.has_links.ensures c.if-not-has_links.false))
-    ∙ ap Ok (c.is_shallow.ensures.kept e)
+    (grafts_nothing t c.oldest-recalled.ensures.tree.forest c.args.path.now c.newest-item.result body deleted c.requires c.newest-item.is has (c.has_links.ensures c.if-not-has_links.false))
+    ∙ ap Ok (c.is_stem.ensures e)

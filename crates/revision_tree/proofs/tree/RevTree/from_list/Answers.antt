@@ -7,7 +7,6 @@ use Rattle.std.proofs.lemmas.Option.{none-some, same_Some}
 use Rattle.revision_tree.specs.declared.node.Node.{Node}
 use Rattle.revision_tree.specs.Nodes.{IsListOf, IsNodes, entry_of, entries_of, tree_of}
 use Rattle.revision_tree.proofs.Listed.{tree_of-list}
-use Rattle.revision_tree.proofs.Depth.{unforked_any}
 use Rattle.revision_tree.proofs.Deciding.{list_of_marked}
 use Rattle.revision_tree.proofs.tree.RevTree.from_list.Goals as goal
 
@@ -23,8 +22,7 @@ pub from_marked-requires : goal.from_marked-requires
 from_marked-requires c =
     let same : entries_of c.mark_tree.new.nodes ≡ entries_of c.args.nodes.items = c.mark_tree.ensures.entries ∙ ap entries_of c.deref_mut.ensures.value in
     let long : length c.mark_tree.new.nodes ≡ c.args.nodes.len = omega (arith, ap length same, length-map c.mark_tree.new.nodes entry_of, length-map c.args.nodes.items entry_of, c.args.nodes.ok.0) in
-    let nodes = subst IsNodes (sym (with_items_is c.args.nodes c.mark_tree.new.nodes long)) (c.mark_tree.ensures.nodes c.if-not-mark_tree.false) in
-    record { nodes = nodes; forks = unforked_any _ nodes.tree.forest nodes.range }
+    subst IsNodes (sym (with_items_is c.args.nodes c.mark_tree.new.nodes long)) (c.mark_tree.ensures.nodes c.if-not-mark_tree.false)
 
 pub returns : goal.returns
 returns c =

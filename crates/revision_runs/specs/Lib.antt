@@ -1,0 +1,4 @@
+pub mod Keys
+pub mod Runs
+pub mod TreeRuns
+pub mod Changes
