@@ -67,15 +67,18 @@ OPTIONS_OF_SERVE = (
     "  -h, --help                       Print help\n"
 )
 HELP_OF_SERVE = SERVE + "\n\nUsage: couchd serve [OPTIONS]\n" + OPTIONS_OF_SERVE
-REQUIRED_BY_REPLICATE = "--source <HOST:PORT> --target <HOST:PORT> --id <ID>\n"
+REQUIRED_BY_REPLICATE = "--source <HOST:PORT> --target <HOST:PORT>\n"
 USAGE_OF_REPLICATE = "\nUsage: couchd replicate " + REQUIRED_BY_REPLICATE
 HELP_OF_REPLICATE = (
     REPLICATE + "\n\nUsage: couchd replicate [OPTIONS] " + REQUIRED_BY_REPLICATE + "\nOptions:\n"
-    "      --source <HOST:PORT>  Where the changes come from; the host is a numeric address\n"
+    "      --source <HOST:PORT>  Where the changes come from; a host is a name or an address, and http://HOST:PORT and http://HOST:PORT/db are taken too\n"
     "      --target <HOST:PORT>  Where they are brought to\n"
-    "      --id <ID>             The id of the checkpoints, 1 to 512 bytes, not beginning with '_'\n"
+    "      --id <ID>             The id of the checkpoints, 1 to 512 bytes, not beginning with '_'; a digest of both ends, the list and '--skip' where it is left out\n"
     "      --doc-ids <IDS>       Brings these documents alone: ids between commas, a comma or '%' in one escaped as in a path; an ID goes with one list\n"
-    "      --patience <SECONDS>  How long an end may be silent [default: 60]\n"
+    "      --patience <SECONDS>  How long an end has for an answer [default: 60]\n"
+    "      --max-answer <BYTES>  How many bytes an answer has at most [default: 67108864]\n"
+    "      --skip                Leaves out documents that no request can hold, and names each; an ID goes with or without it\n"
+    "      --continuous          Waits for changes where there are none, and goes on without end\n"
     "  -h, --help                Print help\n"
 )
 USAGE_OF_REPAIR = "\nUsage: couchd repair --data <DIR>\n"
@@ -86,13 +89,71 @@ HELP_OF_REPAIR = (
     + "\nOptions:\n      --data <DIR>  The folder of the journal\n  -h, --help        Print help\n"
 )
 NO_DATA = "error: the following required arguments were not provided:\n  --data <DIR>\n" + USAGE_OF_REPAIR + HINT
-NO_SOURCE = "error: the source is no numeric address with a port\n" + USAGE
-NO_TARGET = "error: the target is no numeric address with a port\n" + USAGE
+NO_PLACE = "error: '--source' and '--target' are HOST:PORT, http://HOST:PORT or http://HOST:PORT/db\n" + USAGE
+NO_HTTPS = "error: '--source' and '--target' are reached by http alone: for https, name a proxy that speaks it\n" + USAGE
+NO_USER = "error: '--source' and '--target' have no user: name a proxy that adds the user\n" + USAGE
+NO_PATH = "error: '--source' and '--target' have no path but /db: for another one, name a proxy that adds it\n" + USAGE
+ONE_PLACE = "error: '--source' and '--target' are one place\n" + USAGE
 NO_ID = "error: the id has not 1 to 512 bytes, or begins with '_'\n" + USAGE
 NO_FOLDER = "error: '--sync' and '--keep' are for a journal, and go with '--data'\n" + USAGE
 NO_SYNC = "error: the journal is synced 'always', each 'second' or 'never'\n" + USAGE
 NO_SESSION = "error: with '--data' there are at most 63 workers\n" + USAGE
 NO_LIST = "error: the list of documents has an id that is no text of 1 to 512 bytes\n" + USAGE
+
+# what names a database at no place, with the text that says so
+NO_PLACES = [
+    *[
+        (place, NO_PLACE)
+        for place in (
+            "",
+            "localhost",
+            "127.0.0.1",
+            "127.0.0.1:65536",
+            "127.0.0.1:",
+            ":1",
+            "h:-1",
+            "h:1:1",
+            "h:http",
+            "::1",
+            "[::1]",
+        )
+    ],
+    *[
+        (place, NO_PLACE)
+        for place in (
+            "::1:5984",
+            "[h]:1",
+            "[::1:1",
+            "h h:1",
+            "h%20:1",
+            "\u00e9:1",
+            "http://",
+            "http://h",
+            "ftp://h:1",
+            "HTTP://h:1",
+        )
+    ],
+    *[(place, NO_HTTPS) for place in ("https://h:1", "https://h/db", "https://u:p@h:1/db", "https:h")],
+    *[(place, NO_USER) for place in ("u:p@h:1", "http://u@h:1", "http://u:p@h:1/db")],
+    *[
+        (place, NO_PATH)
+        for place in (
+            "h:1/db",
+            "h:1/",
+            "http://h:1/",
+            "http://h:1/db/",
+            "http://h:1/other",
+            "http://h:1/a/db",
+            "http://h:1/db/db",
+        )
+    ],
+]
+
+# and what names one
+PLACES = [
+    *("127.0.0.1:1", "[::1]:1", "[fe80::1%1]:1", "localhost:1", "db.example:5984", "a-b_c.D9:65535", "0:0", "http:80"),
+    *("http://localhost:1", "http://[::1]:1/db", "http://db.example:80/db", "http://http:80"),
+]
 
 
 def replication(source, target, id):
@@ -189,21 +250,39 @@ REFUSED = [
         out_of_range("86401", "patience", 1, 86400, "SECONDS"),
     ),
     (
-        ["replicate", "--source", "127.0.0.1:1"],
-        "error: the following required arguments were not provided:\n  --target <HOST:PORT>\n  --id <ID>\n"
-        + USAGE_OF_REPLICATE
-        + HINT,
+        replication("127.0.0.1:1", "[::1]:1", "r") + ["--max-answer", "0"],
+        out_of_range("0", "max-answer", 1, 4294967295, "BYTES"),
     ),
     (
+        replication("127.0.0.1:1", "[::1]:1", "r") + ["--max-answer", "4294967296"],
+        out_of_range("4294967296", "max-answer", 1, 4294967295, "BYTES"),
+    ),
+    (
+        ["replicate", "--source", "127.0.0.1:1"],
+        "error: the following required arguments were not provided:\n  --target <HOST:PORT>\n" + USAGE_OF_REPLICATE + HINT,
+    ),
+    (
+        # what is required, and then what was given
         ["replicate", "--id", "r"],
         "error: the following required arguments were not provided:\n  --source <HOST:PORT>\n  --target <HOST:PORT>\n"
-        + USAGE_OF_REPLICATE
+        + USAGE_OF_REPLICATE.rstrip("\n")
+        + " --id <ID>\n"
         + HINT,
     ),
-    (replication("localhost:1", "127.0.0.1:1", "r"), NO_SOURCE),
-    (replication("localhost:1", "127.0.0.1", "_r"), NO_SOURCE),
-    (replication("127.0.0.1:1", "127.0.0.1", "r"), NO_TARGET),
-    (replication("127.0.0.1:1", "127.0.0.1:65536", "r"), NO_TARGET),
+    *[(replication(place, "127.0.0.1:1", "_r"), text) for place, text in NO_PLACES],
+    *[(replication("127.0.0.1:1", place, "r"), text) for place, text in NO_PLACES],
+    *[(replication(place, "[::1]:2", "_r"), NO_ID) for place in PLACES],
+    *[(replication("[::1]:2", place, "_r"), NO_ID) for place in PLACES],
+    (replication("127.0.0.1:1", "127.0.0.1:1", "r"), ONE_PLACE),
+    (replication("http://127.0.0.1:1", "127.0.0.1:1", "r"), ONE_PLACE),
+    (replication("[::1]:1", "http://[::1]:1/db", "r"), ONE_PLACE),
+    (
+        replication("h:1", "h:2", "r") + ["--continuous=yes"],
+        "error: unexpected value 'yes' for '--continuous' found; no more were expected\n"
+        + USAGE_OF_REPLICATE.rstrip("\n")
+        + " --continuous\n"
+        + HINT,
+    ),
     (replication("127.0.0.1:1", "[::1]:1", ""), NO_ID),
     (replication("127.0.0.1:1", "[::1]:1", "r" * 513), NO_ID),
     (replication("127.0.0.1:1", "[::1]:1", "_r"), NO_ID),

@@ -4,30 +4,37 @@ afterwards.
     python3 tests/test_replication.py [--seeds N] [--pairs N] [COUCHD]
 
 First a worked row: two conflicting leaves come to an empty target, both ends have one checkpoint, and a second run writes
-nothing. Then an end that nobody listens at, and ends that fail or lie, by a proxy between the program and a server: the
-target takes the documents and the connection is cut; the source's checkpoint is cut; the source leaves a revision out; the
-target lists a refusal, or answers a bulk by what is no list, or no JSON. After each failure a run without it brings all.
-Then a run whose standard error is a terminal, which reports each batch. Then replications of listed documents: a worked
-row, ids that have to be escaped, lists that are none, and a source that answers with a document that isn't on the list, or
-with no page of changes; and 100 pairs of databases, each edited at random, between which replications of disjoint lists
-bring together what one without a list brings, each what it lists alone, as the reference puts two databases together. Then
-databases that conflicting writers edit at random, replicated in both directions until neither has news for the other: each
-write is taken, some documents have conflicts, and both hold the same leaves and the same winners. At last each request for
-memory of a replication is refused in turn, for all documents and for a list. It needs a C compiler.
+nothing. Then an end that nobody listens at, and ends that fail or lie, by a proxy between the program and a server: the target
+takes the documents and the connection is cut; the source's checkpoint is cut; the source leaves a revision out; the target
+lists a refusal, or answers a bulk by what is no list, or no JSON. After each failure a run without it brings all. Then a run
+whose standard error is a terminal, which says how far it has come. Then documents that no request can hold, which are named
+and, with `--skip`, left out. Then hosts by their names and URLs, ends that are one, and ids that are left out. Then
+replications without end: each write is at the target within a second, of a list alone too and both ways at once, and within ten
+after the source was killed and started again. Then replications of listed documents: a worked row, ids that have to be escaped,
+lists that are none, and a source that answers with a document that isn't on the list, or with no page of changes; and 100 pairs
+of databases, each edited at random, between which replications of disjoint lists bring together what one without a list brings,
+each what it lists alone, as the reference puts two databases together. Then databases that conflicting writers edit at random,
+replicated in both directions until neither has news for the other: each write is taken, some documents have conflicts, and both
+hold the same leaves and the same winners. At last each request for memory of a replication is refused in turn, for all
+documents and for a list. It needs a C compiler.
 """
+import hashlib
 import itertools
 import json
 import os
 import pty
 import random
 import re
+import signal
 import socket
 import subprocess
 import sys
+import tempfile
+import time
 
 from lib.checks import Checks
 from lib.ends import Proxy, replicate, replication
-from lib.programs import SECONDS, arguments
+from lib.programs import SECONDS, arguments, run
 from lib.refusals import refuser, was_refused
 from lib.replicas import (
     B,
@@ -46,6 +53,7 @@ from lib.replicas import (
     settle,
 )
 from lib.requests import encoded
+from lib.server import Server
 from reference import bodies, queries
 from reference.database import Database, Refused
 
@@ -53,6 +61,13 @@ BATCH = 100  # changes that a replication reads at once
 DOCUMENTS = 6  # that the writers of one seed share
 EDITS = 12  # of each database before the two meet, and after
 LISTS = 4  # at most, of disjoint documents, between the two of one pair
+
+LEAVES = 30_000  # of one document, more than a request holds
+MOST_BODY = 1_048_576  # bytes of a request
+UNREADABLE = "an answer can't be read"
+
+# what a terminal shows of a replication
+PROGRESS = re.compile(r"documents read (\d+), written (\d+); changes left (\d+); (\d+) documents a second\x1b\[K")
 
 # what is reported of a replication of two revisions that is refused memory
 OUT_OF_MEMORY = re.compile(r"documents read [0-2], written [0-2]: out of memory\n")
@@ -72,10 +87,11 @@ def worked(checks, program):
 
 def unreachable(checks, program):
     """An end that nobody listens at."""
-    with socket.socket() as closed, End(checks, program) as end:
-        closed.bind(("127.0.0.1", 0))  # so that nobody else takes its port
-        port = closed.getsockname()[1]
-        for source, target, name in (port, port, "source"), (port, end.port, "source"), (end.port, port, "target"):
+    with socket.socket() as closed, socket.socket() as other, End(checks, program) as end:
+        for bound in closed, other:
+            bound.bind(("127.0.0.1", 0))  # so that nobody else takes its port
+        port, last = [bound.getsockname()[1] for bound in (closed, other)]
+        for source, target, name in (port, last, "source"), (port, end.port, "source"), (end.port, port, "target"):
             ran = replicate(program, source, target, "r")
             wanted = 1, "", "couchd: cannot reach the %s at 127.0.0.1:%d\n" % (name, port)
             checks.check(ran == wanted, "%r where nobody listens as %s", ran, name)
@@ -204,23 +220,217 @@ def read_terminal(terminal):
 
 
 def progress(checks, program):
-    """Each batch of 100 changes is a line on standard error, where that is a terminal, and else nothing."""
+    """On a terminal one line on standard error says how far it has come, and is taken away at the end; else nothing is said so
+    soon."""
     with End(checks, program) as source, End(checks, program) as target:
         docs = [{"_id": "d%d" % number} for number in range(BATCH + 1)]
         checks.check(source.ask("POST", "/db/_bulk_docs", {"docs": docs})[0] == 201, "no documents are made")
+        proxy = Proxy(source.port, lambda request, answer: time.sleep(0.01 if answer else 0) or answer)
         terminal, errors = pty.openpty()
-        command = replication(program, source.port, target.port, "t")
+        command = replication(program, proxy.port, target.port, "t")
         ran = subprocess.run(command, stdin=subprocess.DEVNULL, stdout=subprocess.PIPE, stderr=errors, timeout=SECONDS)
         os.close(errors)
-        lines = read_terminal(terminal).decode()
+        text = read_terminal(terminal).decode()
         os.close(terminal)
         found = ran.returncode, ran.stdout.decode()
         wanted = 0, reported(BATCH + 1, BATCH + 1, "done")
         checks.check(found == wanted, "%r on a terminal in place of %r", found, wanted)
         has_documents(target, *(doc["_id"] for doc in docs))
-        wanted = "".join("checkpoint %d: documents read %d\r\n" % (last, last) for last in (BATCH, BATCH + 1))
-        checks.check(lines == wanted, "%r on the terminal in place of %r", lines, wanted)
+        before, *lines = text.split("\r")
+        checks.check(before == "" and lines[-1:] == ["\x1b[K"], "%r on the terminal", text)
+        said = [PROGRESS.fullmatch(line) for line in lines[:-1]]
+        checks.check(all(said) and said, "%r on the terminal", text)
+        read = [int(line[1]) for line in said if line]
+        checks.check(read == sorted(read) and max(read, default=0) <= BATCH + 1, "documents read %r", read)
+        checks.check({int(line[3]) for line in said if line} <= {0, 1}, "changes left %r", text)
         ran_as(checks, replicate(program, source.port, target.port, "u"), 0, reported(0, 0, "done"))
+
+
+def document_around(id):
+    """What a document has beside its only member where it is sent."""
+    path = '"_rev":"1-%s","_revisions":{"ids":["%s"],"start":1},' % ("0" * 32, "0" * 32)
+    return '"_id":"%s",' % id + path
+
+
+def source_seq(server):
+    return server.ask("GET", "/db")[1]["update_seq"]
+
+
+def fill_wide(server, id, leaves):
+    """A document with so many leaves."""
+    for first in range(0, leaves, 15000):
+        docs = [{"_id": id, "_rev": "1-%032x" % leaf} for leaf in range(first, min(first + 15000, leaves))]
+        found = server.ask("POST", "/db/_bulk_docs", {"docs": docs, "new_edits": False})
+        server.check(found == (201, []), "no document of %d leaves is made: %r", leaves, found)
+
+
+def skips(checks, program):
+    """A document too large for a bulk, and one with more leaves than a request holds, keep what is behind them from coming, and
+    are named; with `--skip` all else comes, and the checkpoints, which are others, say so. Then what comes later comes alone."""
+    large, wide = "l" * 20, "w"
+    leaf = 'couchd: one request may not hold %d leaves, of which the document "w" has %d\n'
+    with End(checks, program) as source, End(checks, program) as strict, End(checks, program) as target:
+        put(source, "a")
+        text = "x" * (MOST_BODY - len('{"t":""}'))
+        checks.check(source.ask("PUT", "/db/" + large, {"t": text})[0] == 201, "no large document is made")
+        put(source, "b")
+        fill_wide(source, wide, LEAVES)
+        put(source, "c")
+        ran = replicate(program, source.port, strict.port, None)
+        checks.check(ran[:2] == (3, reported(0, 0, UNREADABLE)), "%r of a document with too many leaves", ran)
+        checks.check(ran.errors == leaf % (LEAVES + 4, LEAVES), "%r of a document with too many leaves", ran.errors)
+        ran = replicate(program, source.port, strict.port, None, "a,b,c," + large)
+        checks.check(ran[:2] == (3, reported(4, 3, UNREADABLE)), "%r of a large document", ran)
+        length = MOST_BODY + len(document_around(large))
+        line = 'couchd: no bulk can hold the document "%s", which has %d bytes\n' % (large, length)
+        checks.check(ran.errors == line, "%r of a large document", ran.errors)
+        ran = replicate(program, source.port, target.port, None, skip=True)
+        checks.check(ran[:2] == (0, reported(4, 3, "done")), "%r of a replication that skips", ran)
+        lines = [
+            'couchd: the document "w" is skipped: no request can hold its %d leaves' % LEAVES,
+            'couchd: the document "%s" is skipped: no bulk can hold its %d bytes' % (large, length),
+        ]
+        checks.check(ran.errors.splitlines() == lines, "%r of a replication that skips", ran.errors)
+        has_documents(target, "a", "b", "c")
+        places = "127.0.0.1:%d\n127.0.0.1:%d\n" % (source.port, target.port)
+        id, other = [hashlib.md5((places + skip).encode()).hexdigest() for skip in ("skip\n", "")]
+        for server in source, target:
+            _, mark = server.ask("GET", "/db/_local/" + id)
+            checks.check(mark.get("skip") is True and mark["last_seq"] == source_seq(source), "the checkpoint %r", mark)
+            checks.check(checkpoint(server, other) is None, "a checkpoint of a replication that skips nothing")
+        put(source, "d")
+        ran_as(checks, replicate(program, source.port, target.port, None, skip=True), 0, reported(1, 1, "done"))
+
+
+# ---- ends that are given
+
+
+def one_end(checks, program):
+    """A source that is the target is refused at once, by its name or by where it is reached."""
+    with End(checks, program) as server:
+        target = ["--target", "127.0.0.1:%d" % server.port]
+        for source in "127.0.0.1", "http://127.0.0.1":
+            ran = run([program, "replicate", "--source", "%s:%d" % (source, server.port), *target], "")
+            checks.check(ran.status == 2 and "'--source' and '--target' are one place" in ran.errors, "%r", ran)
+        ran = run([program, "replicate", "--source", "localhost:%d" % server.port, *target], "")
+        checks.check(ran == (1, "", "couchd: the source and the target are one\n"), "%r of one end by two names", ran)
+
+
+def ids_of_ends(checks, program):
+    """Without an id each direction, and each list, has checkpoints of its own, under the digest of what it is for."""
+    with End(checks, program) as one, End(checks, program) as other:
+        put(one, "a", "b")
+        put(other, "c")
+        ran_as(checks, replicate(program, one.port, other.port, None), 0, reported(2, 2, "done"))
+        ran_as(checks, replicate(program, other.port, one.port, None), 0, reported(1, 1, "done"))
+        ran_as(checks, replicate(program, one.port, other.port, None), 0, reported(0, 0, "done"))
+        here, there = "127.0.0.1:%d" % one.port, "127.0.0.1:%d" % other.port
+        for text in "%s\n%s\n" % (here, there), "%s\n%s\n" % (there, here):
+            id = hashlib.md5(text.encode()).hexdigest()
+            for server in one, other:
+                checks.check(checkpoint(server, id) is not None, "no checkpoint for %r", text)
+        ran_as(checks, replicate(program, one.port, other.port, None, "b,a,b"), 0, reported(0, 0, "done"))
+        id = hashlib.md5(("%s\n%s\nids:1:a1:b" % (here, there)).encode()).hexdigest()
+        checks.check(checkpoint(other, id) is not None, "no checkpoint for a list")
+
+
+def names(checks, program):
+    """Hosts by their names, and databases by their URLs."""
+    with End(checks, program) as source, End(checks, program) as target:
+        put(source, "a")
+        places = ["localhost:%d", "http://localhost:%d", "http://127.0.0.1:%d/db", "127.0.0.1:%d"]
+        for number, (one, other) in enumerate(itertools.product(places, places)):
+            ends = ["--source", one % source.port, "--target", other % target.port]
+            ran = run([program, "replicate", *ends, "--id", "n%d" % number], "")
+            documents = 1 if number == 0 else 0
+            checks.check(ran[:2] == (0, reported(documents, documents, "done")), "%r from %s to %s", ran, one, other)
+        ends = ["--source", "no-such-host.invalid:1", "--target", "127.0.0.1:%d" % target.port]
+        ran = run([program, "replicate", *ends, "--id", "n"], "")
+        wanted = 1, "", "couchd: no address of the source at no-such-host.invalid:1 is found\n"
+        checks.check(ran == wanted, "%r of a name without an address", ran)
+
+
+# ---- without end
+
+
+def endless(program, source, target, *options):
+    """A replication from one port to another that goes on without end."""
+    command = replication(program, source, target, None) + ["--continuous", *options]
+    return subprocess.Popen(command, stdin=subprocess.DEVNULL, stdout=subprocess.PIPE, stderr=subprocess.PIPE)
+
+
+def ended(checks, process):
+    """What an endless replication wrote on standard error, when a signal has ended it."""
+    checks.check(process.poll() is None, "it ended by itself, with status %r", process.poll())
+    process.terminate()
+    output, errors = process.communicate(timeout=SECONDS)
+    checks.check(process.returncode == -signal.SIGTERM, "status %d after a signal", process.returncode)
+    checks.check(output == b"", "%r on standard output", output)
+    return errors.decode()
+
+
+def appears(server, id, seconds):
+    """Whether a document is at the server within so many seconds."""
+    until = time.monotonic() + seconds
+    while time.monotonic() < until:
+        if server.ask("GET", "/db/" + id)[0] == 200:
+            return True
+        time.sleep(0.01)
+    return False
+
+
+def continuous(checks, program):
+    """Each write is at the target within a second, one of a list alone too, and all of it is marked."""
+    for listed in None, ["c%d" % number for number in range(0, 20, 2)]:
+        with End(checks, program) as source, End(checks, program) as target:
+            ids = None if listed is None else as_list(listed)
+            process = endless(program, source.port, target.port, *([] if ids is None else ["--doc-ids", ids]))
+            for number in range(20):
+                id = "c%d" % number
+                put(source, id)
+                if listed is None or id in listed:
+                    checks.check(appears(target, id, 1), "%s isn't there after a second", id)
+            if listed is not None:
+                has_documents(target, *listed)
+            errors = ended(checks, process)
+            checks.check(errors == "", "standard error %r", errors)
+            ran_as(checks, replicate(program, source.port, target.port, None, ids), 0, reported(0, 0, "done"))
+
+
+def both_ways(checks, program):
+    """Two servers that replicate to each other without end have what either was given, and nothing goes round."""
+    with End(checks, program) as one, End(checks, program) as other:
+        processes = endless(program, one.port, other.port), endless(program, other.port, one.port)
+        for number in range(20):
+            put(one if number % 2 else other, "w%d" % number)
+        for number in range(20):
+            for server in one, other:
+                checks.check(appears(server, "w%d" % number, 2), "w%d isn't there", number)
+        time.sleep(1)
+        places = one.place(), other.place()
+        time.sleep(1)
+        checks.check((one.place(), other.place()) == places, "writes go round")
+        for process in processes:
+            checks.check(ended(checks, process) == "", "something is said")
+
+
+def comes_back(checks, program):
+    """The source is killed and started again: what is written then is at the target within ten seconds, and each failure is
+    said."""
+    with tempfile.TemporaryDirectory() as folder, End(checks, program) as target:
+        port, process = 0, None
+        for number in range(3):
+            with Server(program, "--sync", "always", "--workers", "3", data=folder, port=port) as server:
+                port = server.port
+                process = process or endless(program, port, target.port)
+                connection = server.connect()
+                checks.check(connection.ask("PUT", "/db/k%d" % number, {})[0] == 201, "k%d isn't made", number)
+                checks.check(appears(target, "k%d" % number, 10), "k%d isn't there after ten seconds", number)
+                connection.close()
+            time.sleep(1.5)
+        lines = ended(checks, process).splitlines()
+        wanted = "couchd: cannot reach the source at 127.0.0.1:%d" % port, "couchd: the next run begins in 1 s"
+        checks.check(all(line in lines for line in wanted), "the lines %r", lines)
 
 
 # ---- listed documents
@@ -439,6 +649,13 @@ def main():
     unreachable(checks, program)
     failing(checks, program)
     progress(checks, program)
+    skips(checks, program)
+    names(checks, program)
+    one_end(checks, program)
+    ids_of_ends(checks, program)
+    continuous(checks, program)
+    both_ways(checks, program)
+    comes_back(checks, program)
     listed_documents(checks, program)
     lists(checks, program)
     lying_lists(checks, program)

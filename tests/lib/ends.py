@@ -34,6 +34,7 @@ class Listener:
 
     def accept(self):
         client = Exchange(self.listener.accept()[0])
+        self.listener.close()  # so that none waits for what never comes
         client.socket.settimeout(SECONDS)
         try:
             self.serve(client)
@@ -41,7 +42,6 @@ class Listener:
             pass
         self.rest = client.rest
         client.close()
-        self.listener.close()
 
     def join(self):
         """Waits until the connection has ended."""
@@ -72,6 +72,37 @@ class Scripted(Listener):
         """The requests, when the connection has ended."""
         self.join()
         return self.requests + ([self.rest] if self.rest else [])
+
+
+class Several:
+    """An end whose connections are served one after the other, each by a script of its own. Behind the last none is taken."""
+
+    def __init__(self, *scripts):
+        self.scripts, self.requests, self.rest = scripts, [], b""
+        self.listener = socket.create_server(("127.0.0.1", 0))
+        self.port = self.listener.getsockname()[1]
+        self.thread = threading.Thread(target=self.accept, daemon=True)
+        self.thread.start()
+
+    def accept(self):
+        for number, script in enumerate(self.scripts):
+            client = Exchange(self.listener.accept()[0])
+            if number + 1 == len(self.scripts):
+                self.listener.close()
+            client.socket.settimeout(SECONDS)
+            one = Scripted.__new__(Scripted)
+            one.answers, one.requests = script, []
+            try:
+                one.serve(client)
+            except (EOFError, OSError):
+                pass
+            self.requests += one.requests + ([client.rest] if client.rest else [])
+            client.close()
+
+    def all_requests(self):
+        """The requests of all connections, when the last has ended."""
+        self.thread.join(SECONDS)
+        return self.requests
 
 
 class Gathering(Scripted):
@@ -133,13 +164,17 @@ class Proxy(Listener):
             client.socket.sendall(head + b"\r\n\r\n" + answer)
 
 
-def replication(program, source, target, id, listed=None, patience=None):
-    """The command of a replication from one port to another, of all documents or of those on a list."""
-    command = [program, "replicate", "--source", "127.0.0.1:%d" % source, "--target", "127.0.0.1:%d" % target, "--id", id]
+def replication(program, source, target, id, listed=None, patience=None, skip=False, options=()):
+    """The command of a replication from one port to another, of all documents or of those on a list. Without an id it makes its
+    own."""
+    command = [program, "replicate", "--source", "127.0.0.1:%d" % source, "--target", "127.0.0.1:%d" % target]
+    command += [] if id is None else ["--id", id]
     command += [] if listed is None else ["--doc-ids", listed]
-    return command + ([] if patience is None else ["--patience", str(patience)])
+    command += ["--skip"] if skip else []
+    command += [] if patience is None else ["--patience", str(patience)]
+    return command + list(options)
 
 
-def replicate(program, source, target, id, listed=None, env=None, patience=None):
+def replicate(program, source, target, id, listed=None, env=None, patience=None, skip=False, options=()):
     """A run of a replication."""
-    return run(replication(program, source, target, id, listed, patience), "", env)
+    return run(replication(program, source, target, id, listed, patience, skip, options), "", env)

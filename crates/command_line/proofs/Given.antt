@@ -1,6 +1,6 @@
 -- Numbers in the arguments of `couchd serve`.
-use Rattle.std.proofs.Common.{◌≡◌, ℕ, ◌<◌, ◌^◌, Option, Some, None, sym, ◌∙◌, ap, subst, option_map}
-use Rattle.std.specs.Prelude.{Result, Ok, Err}
+use Rattle.std.proofs.Common.{◌≡◌, refl, ℕ, ◌<◌, ◌^◌, Option, Some, None, sym, ◌∙◌, ap, subst, option_map}
+use Rattle.std.specs.Prelude.{IsErrAnd, Result, Ok, Err}
 use Rattle.std.specs.Str.Parse.{ParsesUnsigned}
 use Rattle.clap.specs.Words.{Text, first_of, first_value, rows_of}
 use Rattle.clap.specs.declared.parser.matches.Found.{Found}
@@ -35,3 +35,11 @@ one_number text a b is is_too = is.1 ∙ sym is_too.1
 -- two texts that were given under one name are one
 pub one_text : (given : Option Text) (a b : Text) → given ≡ Some a → given ≡ Some b → a ≡ b
 one_text given a b is is_too = cc
+
+same_fault : {A E : Type 0} (r : Result A E) (x y : E) → r ≡ Err x → r ≡ Err y → x ≡ y
+same_fault r x y is also = cc
+
+-- what a call refused is what its caller refuses
+pub refused_too : {A B E : Type 0} (a : Result A E) (b : Result B E) (f g : E) → a ≡ Err f → IsErrAnd b (λ h. h ≡ f) → b ≡ Err g → a ≡ Err g
+refused_too a (Ok x) f g is_f passed is_g = absurd passed
+refused_too a (Err h) f g is_f passed is_g = is_f ∙ ap (λ e. Err e) (sym passed ∙ same_fault (Err h) h g refl is_g)

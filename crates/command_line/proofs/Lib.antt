@@ -3,3 +3,4 @@ pub mod Given
 pub mod Runs
 pub mod Built
 pub mod Lists
+pub mod PlaceTexts

@@ -89,11 +89,24 @@ pub(crate) const NO_SYNC: &str = "the journal is synced 'always', each 'second' 
 /// What is said of more workers than sessions beside the journal's.
 pub(crate) const NO_SESSION: &str = "with '--data' there are at most 63 workers";
 
-/// What is said of a source that can't be read.
-pub(crate) const NO_SOURCE: &str = "the source is no numeric address with a port";
+/// What is said of a source or a target that names no place.
+pub(crate) const NO_PLACE: &str =
+    "'--source' and '--target' are HOST:PORT, http://HOST:PORT or http://HOST:PORT/db";
 
-/// What is said of a target that can't be read.
-pub(crate) const NO_TARGET: &str = "the target is no numeric address with a port";
+/// What is said of a source or a target that is reached by https.
+pub(crate) const NO_HTTPS: &str =
+    "'--source' and '--target' are reached by http alone: for https, name a proxy that speaks it";
+
+/// What is said of a source or a target with a user.
+pub(crate) const NO_USER: &str =
+    "'--source' and '--target' have no user: name a proxy that adds the user";
+
+/// What is said of a source or a target with another path than that of the database.
+pub(crate) const NO_PATH: &str =
+    "'--source' and '--target' have no path but /db: for another one, name a proxy that adds it";
+
+/// What is said of a source that is the target.
+pub(crate) const ONE_PLACE: &str = "'--source' and '--target' are one place";
 
 /// What is said of an id that is none.
 pub(crate) const NO_ID: &str = "the id has not 1 to 512 bytes, or begins with '_'";

@@ -16,6 +16,7 @@ mod flags;
 mod journal;
 mod lines;
 mod numbers;
+mod places;
 mod repair;
 pub mod replay;
 mod replicate;

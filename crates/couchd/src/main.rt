@@ -1,12 +1,17 @@
 //! The program `couchd`: a replicating document store, served over HTTP.
 #![tactic(auto)]
 
+mod continuous;
 mod held;
 mod journaled;
+mod pair;
 mod patient;
+mod progress;
+mod reaching;
 mod repair;
 mod replication;
 mod serving;
+mod watching;
 
 use command_line::{Run, given_arguments, read_arguments, refuse_bytes};
 use held::Held;

@@ -1,52 +1,95 @@
-//! Connections to peers that may be silent for so long.
+//! Connections to ends that have so long for each answer.
+ghost use Rattle.std.specs.Prelude.{◌≤◌, IfOk, length};
 
 use std::cell::Cell;
 use std::io::{self, ErrorKind, Read, Write};
-use std::net::{SocketAddr, TcpStream};
-use std::time::Duration;
+use std::net::TcpStream;
+use std::time::{Duration, Instant};
 
-/// A connection that fails where its peer gives or takes nothing for too long.
+/// Why an end was given up.
+#[derive(Clone, Copy, Debug, PartialEq, Eq)]
+pub(crate) enum GivenUp {
+    /// Its answer took too long.
+    Silent,
+    /// Its answer is too long.
+    Large,
+}
+
+/// How long an end has for each answer and how many bytes that has at most, since when it is asked, how many bytes have
+/// come since, why it was given up, if it was, and whether it answered last that it can't serve a call. A few bytes may
+/// come of the next answer besides.
 #[derive(Drop)]
-pub(crate) struct Patient {
+pub(crate) struct Patience {
+    most: Duration,
+    largest: u64,
+    asked: Cell<Option<Instant>>,
+    come: Cell<u64>,
+    given_up: Cell<Option<GivenUp>>,
+    unavailable: Cell<bool>,
+}
+
+/// An end of a connection that is read or written.
+#[derive(Drop)]
+pub(crate) struct PatientEnd<'r> {
+    rt: &'r HostRuntime,
     socket: TcpStream,
-    gave_up: Cell<bool>,
+    patience: &'r Patience,
 }
 
-/// An end of it that is read or written.
-#[derive(Drop)]
-pub(crate) struct PatientEnd<'s> {
-    patient: &'s Patient,
-}
-
-impl Patient {
-    /// A connection to this address, whose peer may be silent for so long, which is no time of zero.
-    ///
-    /// # Errors
-    ///
-    /// The peer can't be reached in that time, or the time can't be set.
-    pub(crate) fn connect(
-        rt: &HostRuntime,
-        address: SocketAddr,
-        patience: Duration,
-    ) -> io::Result<Patient> {
-        let socket = TcpStream::connect_timeout(rt, &address, patience)?;
-        let _nodelay = socket.set_nodelay(true);
-        socket.set_read_timeout(Some(patience))?;
-        socket.set_write_timeout(Some(patience))?;
-        Ok(Patient {
-            socket,
-            gave_up: Cell::new(false),
-        })
+impl Patience {
+    /// So long, which is no time of zero, and so many bytes.
+    pub(crate) fn new(most: Duration, largest: u64) -> Patience {
+        Patience {
+            most,
+            largest,
+            asked: Cell::new(None),
+            come: Cell::new(0),
+            given_up: Cell::new(None),
+            unavailable: Cell::new(false),
+        }
     }
 
-    /// An end that is read or written.
-    pub(crate) fn end(&self) -> PatientEnd<'_> {
-        PatientEnd { patient: self }
+    /// How long an end has.
+    pub(crate) fn most(&self) -> Duration {
+        self.most
     }
 
-    /// Whether the peer was given up.
-    pub(crate) fn gave_up(&self) -> bool {
-        self.gave_up.get()
+    /// Something is asked now, so the time and the bytes begin anew.
+    pub(crate) fn begin(&self, rt: &HostRuntime) {
+        self.asked.set(Instant::now(rt).ok());
+        self.come.set(0);
+        self.unavailable.set(false);
+    }
+
+    /// The end can't serve what was asked.
+    pub(crate) fn set_unavailable(&self) {
+        self.unavailable.set(true);
+    }
+
+    /// Whether the end answered last that it can't serve what was asked.
+    pub(crate) fn is_unavailable(&self) -> bool {
+        self.unavailable.get()
+    }
+
+    /// The end isn't given up any more.
+    pub(crate) fn forgive(&self) {
+        self.given_up.set(None);
+    }
+
+    /// Why the end was given up, if it was.
+    pub(crate) fn given_up(&self) -> Option<GivenUp> {
+        self.given_up.get()
+    }
+
+    /// How long the end still has for what was asked.
+    fn left(&self, rt: &HostRuntime) -> Duration {
+        let Some(asked) = self.asked.get() else {
+            return self.most;
+        };
+        match asked.elapsed(rt) {
+            Ok(passed) => self.most.saturating_sub(passed),
+            Err(_) => self.most,
+        }
     }
 
     /// Notes where a call ended since its time had passed.
@@ -54,25 +97,96 @@ impl Patient {
         if let Err(error) = outcome
             && matches!(error.kind(), ErrorKind::WouldBlock | ErrorKind::TimedOut)
         {
-            self.gave_up.set(true);
+            self.given_up.set(Some(GivenUp::Silent));
+        }
+    }
+
+    /// Counts bytes that have come, and gives the end up where they are too many.
+    fn count(&self, bytes: usize) {
+        let come = self.come.get().saturating_add(bytes as u64);
+        self.come.set(come);
+        if come > self.largest {
+            self.given_up.set(Some(GivenUp::Large));
         }
     }
 }
 
+impl<'r> PatientEnd<'r> {
+    /// The two ends of a connection: one that is read, and one that is written.
+    ///
+    /// # Errors
+    ///
+    /// The times can't be set, or the system gives no second end.
+    pub(crate) fn both(
+        rt: &'r HostRuntime,
+        socket: TcpStream,
+        patience: &'r Patience,
+    ) -> io::Result<(PatientEnd<'r>, PatientEnd<'r>)> {
+        let _nodelay = socket.set_nodelay(true);
+        let written = socket.try_clone()?;
+        let reader = PatientEnd {
+            rt,
+            socket,
+            patience,
+        };
+        let writer = PatientEnd {
+            rt,
+            socket: written,
+            patience,
+        };
+        Ok((reader, writer))
+    }
+
+    /// Reads, for as long as the end still has.
+    fn read_in_time(&self, buf: &mut [u8]) -> io::Result<usize>
+        ensures { IfOk result (λ read. read ≤ length buf.new) }
+    {
+        let left = self.patience.left(self.rt);
+        if left.is_zero() {
+            return Err(io::Error::from(ErrorKind::TimedOut));
+        }
+        self.socket.set_read_timeout(Some(left))?;
+        let mut socket = &self.socket;
+        socket.read(buf)
+    }
+
+    /// Writes, for as long as the end still has.
+    fn write_in_time(&self, buf: &[u8]) -> io::Result<usize>
+        ensures { IfOk result (λ written. written ≤ length buf.now) }
+    {
+        let left = self.patience.left(self.rt);
+        if left.is_zero() {
+            return Err(io::Error::from(ErrorKind::TimedOut));
+        }
+        self.socket.set_write_timeout(Some(left))?;
+        let mut socket = &self.socket;
+        socket.write(buf)
+    }
+}
+
 impl Read for PatientEnd<'_> {
+    /// It fails from then on where the end is given up.
     fn read(&mut self, buf: &mut [u8]) -> io::Result<usize> {
-        let mut socket = &self.patient.socket;
-        let outcome = socket.read(buf);
-        self.patient.note(&outcome);
+        if self.patience.given_up().is_some() {
+            return Err(io::Error::from(ErrorKind::Other));
+        }
+        let outcome = self.read_in_time(buf);
+        self.patience.note(&outcome);
+        if let Ok(bytes) = outcome {
+            self.patience.count(bytes);
+        }
         outcome
     }
 }
 
 impl Write for PatientEnd<'_> {
+    /// It fails from then on where the end is given up.
     fn write(&mut self, buf: &[u8]) -> io::Result<usize> {
-        let mut socket = &self.patient.socket;
-        let outcome = socket.write(buf);
-        self.patient.note(&outcome);
+        if self.patience.given_up().is_some() {
+            return Err(io::Error::from(ErrorKind::Other));
+        }
+        let outcome = self.write_in_time(buf);
+        self.patience.note(&outcome);
         outcome
     }
 

@@ -1,104 +1,74 @@
-//! `couchd replicate`: the changes of one database are brought to another over two connections.
+//! `couchd replicate`: the changes of one database are brought to another over a connection to each.
 
-use crate::patient::Patient;
+use crate::continuous::replicate_continuously;
+use crate::pair::Pair;
 use crate::unwritten;
 use command_line::Replicating;
-use document_id::{DocId, DocIds};
-use replicator_run::{Asked, End, Report, Watch, run_replication};
-use std::alloc::{AllocError, Global};
-use std::cell::Cell;
-use std::io::IsTerminal;
-use std::net::SocketAddr;
+use replicator_run::Report;
 use std::process::ExitCode;
+use std::thread;
 use std::time::Duration;
-use streams::Stream;
 
-/// Reports of each batch by a line on standard error, where that is a terminal, and there in any case what
-/// keeps the replication from going on. Keeps what was asked last.
-#[derive(Clone, Copy, Drop)]
-struct Lines<'r> {
-    rt: &'r HostRuntime,
-    shown: bool,
-    last: &'r Cell<Option<(End, Asked)>>,
-}
+/// How many seconds pass before a run is made again that came no further.
+const PAUSES: [u64; 4] = [0, 1, 2, 4];
 
-impl Watch for Lines<'_> {
-    fn asks(&self, end: End, asked: Asked) {
-        self.last.set(Some((end, asked)));
+/// Replicates between the two ends that were given, and prints what came of it, or goes on without end. What fails
+/// before the first request is named on standard error.
+pub(crate) fn replicate(rt: &HostRuntime, replicating: &Replicating) -> ExitCode {
+    let Ok(pair) = Pair::new(rt, replicating) else {
+        let _printed = eprintln!(rt; "couchd: no memory");
+        return ExitCode::FAILURE;
+    };
+    if replicating.continuous {
+        return replicate_continuously(rt, &pair);
     }
-
-    fn checkpoint(&self, last_seq: u64, documents_read: u64) {
-        if self.shown {
-            let _printed = eprintln!(self.rt;
-                "checkpoint {last_seq}: documents read {documents_read}"
-            );
+    match pair.run() {
+        Ok(first) => {
+            let report = go_on(rt, &pair, first);
+            pair.clear();
+            say_why(&pair, &report);
+            end(rt, &report)
+        }
+        Err(why) => {
+            pair.say(&why);
+            ExitCode::FAILURE
         }
     }
-
-    fn large_document(&self, id: &DocId, len: usize) {
-        let id = id.as_str();
-        let _printed = eprintln!(self.rt;
-            "couchd: no bulk can hold the document {id:?}, which has {len} bytes"
-        );
-    }
-
-    fn past_end(&self, since: u64, last_seq: u64) {
-        let _printed = eprintln!(self.rt;
-            "couchd: the checkpoint at {since} is past the source's end, which is at {last_seq}"
-        );
-    }
 }
 
-/// Replicates between the two ends that were given, and prints what came of it. What fails before the
-/// first request is named on standard error.
-pub(crate) fn replicate(rt: &HostRuntime, replicating: &Replicating) -> ExitCode {
-    let Ok(id) = DocId::new(rt.alloc(), replicating.id.as_str()) else {
-        let _printed = eprintln!(rt; "couchd: no memory");
-        return ExitCode::FAILURE;
-    };
-    let Ok(ids) = listed(rt.alloc(), &replicating.doc_ids) else {
-        let _printed = eprintln!(rt; "couchd: no memory");
-        return ExitCode::FAILURE;
-    };
-    let patience = Duration::from_secs(replicating.patience as u64);
-    let Some(source) = connect(rt, End::Source, replicating.source, patience) else {
-        return ExitCode::FAILURE;
-    };
-    let Some(target) = connect(rt, End::Target, replicating.target, patience) else {
-        return ExitCode::FAILURE;
-    };
-    let last = Cell::new(None);
-    let lines = Lines {
-        rt,
-        shown: rt.stderr().is_terminal(),
-        last: &last,
-    };
-    let report = run_replication(
-        rt.alloc(),
-        id,
-        ids,
-        (Stream::new(source.end()), Stream::new(source.end())),
-        (Stream::new(target.end()), Stream::new(target.end())),
-        lines,
-    );
-    if source.gave_up() || target.gave_up() {
-        say_silence(rt, last.get(), replicating.patience, &report);
+/// Makes further runs while an end fails, at once after one that wrote something, and else after a pause, and answers
+/// what came of all of them. It ends after the last pause, or where an end was given up or isn't reached.
+fn go_on(rt: &HostRuntime, pair: &Pair<'_>, first: Report) -> Report {
+    let mut all = first;
+    let mut last = first;
+    let mut pauses = PAUSES.iter();
+    for _run in 0..u64::MAX {
+        if last.documents_written > 0 {
+            pauses = PAUSES.iter();
+        }
+        if !last.has_failed() || pair.given_up().is_some() {
+            return all;
+        }
+        let Some(pause) = pauses.next() else {
+            return all;
+        };
+        thread::sleep(rt, Duration::from_secs(*pause));
+        let Ok(next) = pair.run() else {
+            return all;
+        };
+        last = next;
+        all = all.then(&next);
     }
-    end(rt, &report)
+    all
 }
 
-/// Says which end was silent for so many seconds, and what was asked of it.
-fn say_silence(rt: &HostRuntime, last: Option<(End, Asked)>, patience: u32, report: &Report) {
-    let Some((end, asked)) = last else {
-        return;
-    };
-    let _printed = eprintln!(rt;
-        "couchd: the {} was silent for {patience} s at {}; documents read {}, written {}",
-        end.name(),
-        asked.name(),
-        report.documents_read,
-        report.documents_written
-    );
+/// Says why an end was given up, or that it couldn't serve what was asked, where the last run ended so.
+fn say_why(pair: &Pair<'_>, report: &Report) {
+    if let Some(why) = pair.given_up() {
+        pair.say_given_up(why, report);
+    } else if report.has_failed() {
+        pair.say_unavailable();
+    }
 }
 
 /// Prints what came of a replication.
@@ -112,22 +82,4 @@ fn end(rt: &HostRuntime, report: &Report) -> ExitCode {
         return unwritten(rt);
     };
     ExitCode::from(report.exit_status())
-}
-
-/// The documents of the list, if one was given.
-fn listed(alloc: Global, ids: &Option<Vec<String>>) -> Result<Option<DocIds>, AllocError> {
-    let Some(ids) = ids else {
-        return Ok(None);
-    };
-    let texts: Vec<&str> = ids.iter().map(|id| id.as_str()).collect(alloc)?;
-    Ok(Some(DocIds::named(alloc, &texts)?))
-}
-
-/// A connection to one end; nothing where it can't be reached, which is said.
-fn connect(rt: &HostRuntime, end: End, address: SocketAddr, patience: Duration) -> Option<Patient> {
-    let Ok(peer) = Patient::connect(rt, address, patience) else {
-        let _printed = eprintln!(rt; "couchd: cannot reach the {} at {address}", end.name());
-        return None;
-    };
-    Some(peer)
 }

@@ -31,7 +31,20 @@ put_ahead request rest old new next is =
       failed_reads = ap (λ (c : Connection). c.failed_reads) is;
       come = ap (λ (c : Connection). c.come) is;
       state = ap (λ (c : Connection). c.state) is;
+      terms = ap (λ (c : Connection). c.terms) is;
     }
+
+-- it is written, and none is ahead
+pub put_now : (request : List ℕ) (old new : Connection) → old.ahead ≡ [] → HasWritten request old new → IsPut request old new
+put_now request old new none written = record {
+  sent = inl (none, written.ahead ∙ none, written.written);
+  failed_writes = written.failed_writes;
+  left = written.left;
+  failed_reads = written.failed_reads;
+  come = written.come;
+  state = written.state;
+  terms = written.terms;
+}
 
 sent_then : (request : List ℕ) (old mid new : Connection) (result : Result ResponseSpans ResponseFault) → IsSent request old mid
     → Reads mid new result → IsSent request old new
@@ -57,6 +70,7 @@ written_then request old mid new result is_open put reads = record {
     subst (λ l. Consumes l new.left reads.read.0) put.left reads.read.2,
   );
   needed = needed_then old mid new put.come put.left reads.needed;
+  terms = reads.terms ∙ put.terms;
 }
 
 pub come_then : (request : List ℕ) (old mid new : Connection) (spans : ResponseSpans) → old.state ≡ state.Open
@@ -94,6 +108,7 @@ fails_cut request old mid new why none cut is failed =
       failed_reads = cut.failed_reads;
       come = cut.come;
       given_up = cut.given_up;
+      terms = cut.terms;
     } in
     (Cut, (none, counted (λ c. IsCut request old c) mid new is made), failed)
 
@@ -109,6 +124,7 @@ fails_unread request old mid read new because why is_open put reads is failed =
         failed_writes = un.is_written.failed_writes;
         read = un.is_written.read;
         needed = un.is_written.needed;
+        terms = un.is_written.terms;
       };
       reads = un.reads;
       failed_reads = un.failed_reads;
@@ -140,7 +156,7 @@ dropped_read old popped read new spans is_open some is reads away =
     let come = come_then next.0 old popped read spans is_open (put_ahead next.0 next.1 old popped next.2 is) reads in
     let exchange : Exchange = Answered (response_at read.come spans) (drop spans.body.end read.come) in (
       Dropped next.0 exchange,
-      ((next.1, next.2), tt, subst (λ (c : Connection). Exchanges next.0 old exchange c) (sym away) (taken_away next.0 old read spans come)),
+      ((next.1, next.2), tt, subst (λ (c : Connection). Exchanges next.0 old exchange c) (sym away) (taken_away next.0 old read spans come read.failed_calls)),
     )
 
 pub dropped_unread : (old popped new : Connection) (why : ResponseFault) → old.state ≡ state.Open → 0 < length old.ahead
@@ -153,7 +169,7 @@ dropped_unread old popped new why is_open some is reads =
 
 -- requests were written ahead
 pub sent_ahead : (old added new : Connection) (more : List (List ℕ)) (text : List ℕ) → old.state ≡ state.Open
-    → added ≡ record old { ahead = old.ahead ++ more } → All AsksRevisions more → text ≡ concat more → IsWithin added.ahead
+    → added ≡ record old { ahead = old.ahead ++ more } → All (AsksRevisions old.terms.host) more → text ≡ concat more → IsWithin added.ahead
     → HasWritten text added new → (events : List Event) × FoldsTo Happens old events new
 sent_ahead old added new more text is_open is asks same within written =
     let sent : IsSentAhead more old new = record {
@@ -168,11 +184,12 @@ sent_ahead old added new more text is_open is asks same within written =
       failed_writes = written.failed_writes ∙ ap (λ (c : Connection). c.failed_writes) is;
       come = written.come ∙ ap (λ (c : Connection). c.come) is;
       state = written.state ∙ ap (λ (c : Connection). c.state) is;
+      terms = written.terms ∙ ap (λ (c : Connection). c.terms) is;
     } in
     (Sent more ∷ [], (new, sent, refl))
 
 pub cut_ahead : (old added new : Connection) (more : List (List ℕ)) (text : List ℕ) → added ≡ record old { ahead = old.ahead ++ more }
-    → All AsksRevisions more → text ≡ concat more → IsCut text added new → (events : List Event) × FoldsTo Happens old events new
+    → All (AsksRevisions old.terms.host) more → text ≡ concat more → IsCut text added new → (events : List Event) × FoldsTo Happens old events new
 cut_ahead old added new more text is asks same cut =
     let cut_all : IsCut (concat more) added new = subst (λ (b : List ℕ). IsCut b added new) same cut in
     let base : Connection = record old { ahead = old.ahead ++ more } in
@@ -185,11 +202,12 @@ cut_ahead old added new more text is asks same cut =
       failed_reads = from.failed_reads;
       come = from.come;
       given_up = from.given_up;
+      terms = from.terms;
     } in
     (CutAhead more ∷ [], (new, (asks, whole), refl))
 
 pub wrote_ahead : {E : Type 0} (old added new : Connection) (text bytes : List ℕ) (result : Result ⊤ E) → old.state ≡ state.Open
-    → (more : List (List ℕ)) × (added ≡ record old { ahead = old.ahead ++ more }) × All AsksRevisions more × (text ≡ concat more)
+    → (more : List (List ℕ)) × (added ≡ record old { ahead = old.ahead ++ more }) × All (AsksRevisions old.terms.host) more × (text ≡ concat more)
     → IsWithin added.ahead → bytes ≡ text → OnOk result (HasWritten bytes added new) → OnErr result (IsCut bytes added new)
     → (events : List Event) × FoldsTo Happens old events new
 wrote_ahead old added new text bytes (Ok x) is_open (more, is, asks, same) within all written cut =

@@ -137,7 +137,7 @@ module _ (laws : Laws) where
 
   keeps_call : (fresh old new : Connection) (call : Call) → Keeps fresh old → Goes old call new → Keeps fresh new
   keeps_call fresh old new call keeps (events, mid, folds, (exchange, made, tells)) =
-      keeps_exchange fresh mid new (request_of call) exchange (keeps_events fresh old mid events keeps folds) made
+      keeps_exchange fresh mid new (request_of mid.terms call) exchange (keeps_events fresh old mid events keeps folds) made
 
   keeps_calls : (fresh old new : Connection) (calls : List Call) → Keeps fresh old → FoldsTo Goes old calls new → Keeps fresh new
   keeps_calls fresh old new [] keeps same = subst (λ (c : Connection). Keeps fresh c) same keeps

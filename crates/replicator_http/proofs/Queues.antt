@@ -26,18 +26,18 @@ pushed xs ys x bytes n (is, within) len few small same =
     (omega arith, record { few = omega arith; small = omega arith })
 
 -- requests were added to those that are ahead, and their text behind the other
-abbrev pub Added : List (List ℕ) → List (List ℕ) → List ℕ → List ℕ → Type 0
-Added old new before after = (more : List (List ℕ)) × (new ≡ old ++ more) × All AsksRevisions more × (after ≡ before ++ concat more)
+abbrev pub Added : List ℕ → List (List ℕ) → List (List ℕ) → List ℕ → List ℕ → Type 0
+Added host old new before after = (more : List (List ℕ)) × (new ≡ old ++ more) × All (AsksRevisions host) more × (after ≡ before ++ concat more)
 
-pub none_added : (old : List (List ℕ)) (before : List ℕ) → Added old old before before
-none_added old before = ([], sym (append-nil old), All-nil AsksRevisions, sym (append-nil before))
+pub none_added : (host : List ℕ) (old : List (List ℕ)) (before : List ℕ) → Added host old old before before
+none_added host old before = ([], sym (append-nil old), All-nil (AsksRevisions host), sym (append-nil before))
 
-pub one_added : (old now new : List (List ℕ)) (before text after : List ℕ) → Added old now before text
-    → (request : List ℕ) × (new ≡ now ++ request ∷ []) × AsksRevisions request × (after ≡ text ++ request) → Added old new before after
-one_added old now new before text after (more, is, asks, same) (request, also, one, behind) = (
+pub one_added : (host : List ℕ) (old now new : List (List ℕ)) (before text after : List ℕ) → Added host old now before text
+    → (request : List ℕ) × (new ≡ now ++ request ∷ []) × AsksRevisions host request × (after ≡ text ++ request) → Added host old new before after
+one_added host old now new before text after (more, is, asks, same) (request, also, one, behind) = (
   more ++ request ∷ [],
   also ∙ ap (λ (l : List (List ℕ)). l ++ request ∷ []) is ∙ append_assoc old more (request ∷ []),
-  All-push AsksRevisions more request asks one,
+  All-push (AsksRevisions host) more request asks one,
   behind ∙ ap (λ (b : List ℕ). b ++ request) same ∙ append_assoc before (concat more) request
       ∙ ap (λ (b : List ℕ). before ++ b) (sym (concat-append more (request ∷ []) ∙ ap (λ (b : List ℕ). concat more ++ b) (append-nil request))),
 )

@@ -9,9 +9,9 @@ use Rattle.replicator_http.specs.Connection.{Connection, Exchange, Unanswered, A
 use Rattle.replicator_http.specs.Requests.{open_revs_request}
 use Rattle.replicator_http.specs.declared.state.State.TheVariants as state
 
--- a request for revisions of a document
-abbrev pub AsksRevisions : List ℕ → Type 0
-AsksRevisions request = (id : Id) × (revs : List Rev) × (request ≡ open_revs_request SEGMENT id revs)
+-- a request to a host for revisions of a document
+abbrev pub AsksRevisions : List ℕ → List ℕ → Type 0
+AsksRevisions host request = (id : Id) × (revs : List Rev) × (request ≡ open_revs_request host SEGMENT id revs)
 
 -- the most requests that are ahead at once
 abbrev pub max_ahead : ℕ
@@ -38,7 +38,7 @@ pub data Event : Type 0 where
 -- requests for revisions were written ahead, and nothing was read
 pub record IsSentAhead (requests : List (List ℕ)) (old new : Connection) : Type 0 where
   pub was_open : old.state ≡ state.Open
-  pub revisions : All AsksRevisions requests
+  pub revisions : All (AsksRevisions old.terms.host) requests
   pub written : Appends old.taken new.taken (concat requests)
   pub ahead : new.ahead ≡ old.ahead ++ requests
   pub within : IsWithin new.ahead
@@ -47,6 +47,7 @@ pub record IsSentAhead (requests : List (List ℕ)) (old new : Connection) : Typ
   pub failed_writes : new.failed_writes ≡ old.failed_writes
   pub come : new.come ≡ old.come
   pub state : new.state ≡ old.state
+  pub terms : new.terms ≡ old.terms
 
 -- a response was read, or none is
 abbrev pub IsRead : Exchange → Type 0
@@ -60,7 +61,7 @@ IsNext request old = (rest : List (List ℕ)) × (old.ahead ≡ request ∷ rest
 
 abbrev pub Happens : Connection → Event → Connection → Type 0
 Happens old (Sent requests) new = IsSentAhead requests old new
-Happens old (CutAhead requests) new = All AsksRevisions requests × IsCut (concat requests) old new
+Happens old (CutAhead requests) new = All (AsksRevisions old.terms.host) requests × IsCut (concat requests) old new
 Happens old (Dropped request exchange) new = IsNext request old × IsRead exchange × Exchanges request old exchange new
 
 -- so it is after what happened before

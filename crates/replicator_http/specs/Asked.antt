@@ -29,6 +29,7 @@ pub record HasWritten (bytes : List ℕ) (old new : Connection) : Type 0 where
   pub come : new.come ≡ old.come
   pub ahead : new.ahead ≡ old.ahead
   pub state : new.state ≡ old.state
+  pub terms : new.terms ≡ old.terms
 
 -- the request was written, now or ahead, and nothing else has changed
 pub record IsPut (request : List ℕ) (old new : Connection) : Type 0 where
@@ -38,6 +39,7 @@ pub record IsPut (request : List ℕ) (old new : Connection) : Type 0 where
   pub failed_reads : new.failed_reads ≡ old.failed_reads
   pub come : new.come ≡ old.come
   pub state : new.state ≡ old.state
+  pub terms : new.terms ≡ old.terms
 
 -- a request has its turn: none is ahead, or it is the next of those that are
 abbrev pub IsTurnOf : List ℕ → List (List ℕ) → Type 0
@@ -59,6 +61,7 @@ pub record Reads (old new : Connection) (result : Result ResponseSpans ResponseF
   pub failed_writes : new.failed_writes ≡ old.failed_writes
   pub ahead : new.ahead ≡ old.ahead
   pub state : new.state ≡ state_then result old.state
+  pub terms : new.terms ≡ old.terms
 
 -- the request was written, and all that has come is there: a response first
 pub record HasCome (request : List ℕ) (old new : Connection) (spans : ResponseSpans) : Type 0 where

@@ -1,5 +1,5 @@
 -- The connection to another database, and what a request does on it.
-use Rattle.std.specs.Prelude.{◌≡◌, ◌⊎◌, ℕ, ◌<◌, List, [], ◌∷◌, ◌++◌, length, take, Option, Err}
+use Rattle.std.specs.Prelude.{◌≡◌, ◌⊎◌, ℕ, ◌<◌, Bool, List, [], ◌∷◌, ◌++◌, length, take, Option, Err}
 use Rattle.std.specs.Io.KnownBytes.{Appends, Consumes}
 use Rattle.streams.specs.Counts.{CountRose}
 use Rattle.http_client.specs.Incoming.{CountsReads, Reads}
@@ -12,9 +12,16 @@ use Rattle.replicator.specs.declared.fault.PeerFault.TheVariants as fault
 use Rattle.replicator_http.specs.declared.state.State.{State}
 use Rattle.replicator_http.specs.declared.state.State.TheVariants as state
 
+-- What requests say of a replication: the host that they name, and whether it skips documents that can't be brought, as
+-- the checkpoints that it writes say then.
+pub record Terms : Type 0 where
+  pub host : List ℕ
+  pub skips : Bool
+
 -- The bytes that are left to be read and those that were written, where they are known, and how many reads and writes
 -- have failed; the bytes that have come and were not taken; the requests that were written ahead of their turn, whose
--- responses are still to come, the next first; how the connection goes on; and how many calls have failed.
+-- responses are still to come, the next first; how the connection goes on; how many calls have failed; and what
+-- requests say of the replication.
 pub record Connection : Type 0 where
   pub left : Option (List ℕ)
   pub failed_reads : ℕ
@@ -24,11 +31,13 @@ pub record Connection : Type 0 where
   pub ahead : List (List ℕ)
   pub state : State
   pub failed_calls : ℕ
+  pub terms : Terms
 
--- a connection on which nothing has been asked, by what is left, the failed reads, what was taken and the failed writes
-abbrev pub fresh_connection : Option (List ℕ) → ℕ → Option (List ℕ) → ℕ → Connection
-fresh_connection left failed_reads taken failed_writes =
-    record { left = left; failed_reads = failed_reads; taken = taken; failed_writes = failed_writes; come = []; ahead = []; state = state.Open; failed_calls = 0 }
+-- a connection on which nothing has been asked, by the terms, what is left, the failed reads, what was taken and the failed
+-- writes
+abbrev pub fresh_connection : Terms → Option (List ℕ) → ℕ → Option (List ℕ) → ℕ → Connection
+fresh_connection terms left failed_reads taken failed_writes =
+    record { left = left; failed_reads = failed_reads; taken = taken; failed_writes = failed_writes; come = []; ahead = []; state = state.Open; failed_calls = 0; terms = terms }
 
 -- what became of a request
 -- RFC 9110, 3.4 "Messages"
@@ -66,6 +75,7 @@ pub record IsCut (request : List ℕ) (old new : Connection) : Type 0 where
   pub failed_reads : new.failed_reads ≡ old.failed_reads
   pub come : new.come ≡ old.come
   pub given_up : new.state ≡ state.Failed
+  pub terms : new.terms ≡ old.terms
 
 -- the request was written, where none is ahead, or it is the next of those that were written ahead
 abbrev pub IsSent : List ℕ → Connection → Connection → Type 0
@@ -81,6 +91,7 @@ pub record IsWritten (request come : List ℕ) (old new : Connection) : Type 0 w
   pub failed_writes : new.failed_writes ≡ old.failed_writes
   pub read : (piece : List ℕ) × (come ≡ old.come ++ piece) × Consumes old.left new.left piece
   pub needed : IsUnfinished old.come ⊎ ((come ≡ old.come) × (new.left ≡ old.left))
+  pub terms : new.terms ≡ old.terms
 
 -- the bytes that have come are no whole response, and stay
 pub record IsUnanswered (request come : List ℕ) (why : ResponseFault) (old new : Connection) : Type 0 where

@@ -7,18 +7,18 @@ use Rattle.replicator.specs.Call.{Call, Changes, Diff, OpenRevs, Bulk, LocalGet,
 use Rattle.replicator.specs.declared.fault.PeerFault.TheVariants as fault
 use Rattle.replicator_http.specs.Ahead.{AfterEvents}
 use Rattle.replicator_http.specs.Asked.{fault_of}
-use Rattle.replicator_http.specs.Connection.{Connection, Exchange, Unmade, GivenUp, Cut, Unanswered, Answered, Exchanges}
+use Rattle.replicator_http.specs.Connection.{Connection, Terms, Exchange, Unmade, GivenUp, Cut, Unanswered, Answered, Exchanges}
 use Rattle.replicator_http.specs.Told.{Answers, Told, bulk_told, checkpoint_told, counter_told, differences_told, opened_told, page_told}
 
--- the request of a call
+-- the request of a call on these terms
 -- CouchDB: "CouchDB Replication Protocol", "Replication Protocol Algorithm"
-abbrev pub request_of : Call → List ℕ
-request_of (Changes ids since limit answer) = changes_request_of ids since limit
-request_of (Diff asked answer) = diff_request asked
-request_of (OpenRevs id revs answer) = open_revs_request SEGMENT id revs
-request_of (Bulk documents answer) = bulk_request documents
-request_of (LocalGet id answer) = local_get_request SEGMENT id
-request_of (LocalPut id named last_seq answer) = local_put_request SEGMENT id named last_seq
+abbrev pub request_of : Terms → Call → List ℕ
+request_of terms (Changes ids since limit answer) = changes_request_of terms.host ids since limit
+request_of terms (Diff asked answer) = diff_request terms.host asked
+request_of terms (OpenRevs id revs answer) = open_revs_request terms.host SEGMENT id revs
+request_of terms (Bulk documents answer) = bulk_request terms.host documents
+request_of terms (LocalGet id answer) = local_get_request terms.host SEGMENT id
+request_of terms (LocalPut id named last_seq answer) = local_put_request terms.host terms.skips SEGMENT id named last_seq
 
 -- the answer after an exchange: what the response reports, or why there is none
 abbrev pub IsAnswerTo : {A : Type 0} → Exchange → (Response → Told A) → Told A → Type 0
@@ -39,7 +39,7 @@ Tells exchange (LocalPut id named last_seq answer) = IsAnswerTo exchange counter
 
 -- the call's request is exchanged, and reports the answer
 abbrev pub Exchanged : Call → Connection → Connection → Type 0
-Exchanged call old new = (exchange : Exchange) × Exchanges (request_of call) old exchange new × Tells exchange call
+Exchanged call old new = (exchange : Exchange) × Exchanges (request_of old.terms call) old exchange new × Tells exchange call
 
 -- By a call the connection goes from one state to the next: its request is exchanged for a response, which reports the
 -- answer. Before, requests for revisions may have been written ahead, and the responses to those that aren't asked dropped.

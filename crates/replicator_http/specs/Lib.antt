@@ -4,6 +4,7 @@ pub mod Asked
 pub mod Told
 pub mod Ahead
 pub mod Goes
+pub mod Poll
 pub mod Passed
 pub mod Requests
 pub mod Members

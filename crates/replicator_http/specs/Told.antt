@@ -31,6 +31,15 @@ is_missing status = status == 404
 abbrev pub is_conflict : ℕ → Bool
 is_conflict status = status == 409
 
+-- RFC 9110, 15.6.4 "503 Service Unavailable"
+abbrev pub is_unavailable : ℕ → Bool
+is_unavailable status = status == 503
+
+-- why a status that says of no call that it was carried out leaves it without an answer: the end can't serve it now, which
+-- is a failure, or the answer is none
+abbrev pub fault_by : ℕ → PeerFault
+fault_by status = if is_unavailable status then fault.Failed else fault.Unreadable
+
 -- what the checks of an answer find, where they refuse nothing
 abbrev pub readable : {A : Type 0} → Checked A → Told A
 readable (Ok x) = Ok x
@@ -38,7 +47,7 @@ readable (Err reason) = Err fault.Unreadable
 
 -- what a body reports under a status that is taken
 abbrev pub told : {A : Type 0} → (List ℕ → Checked A) → Response → Told A
-told read response = if is_taken response.status then readable (read response.body) else Err fault.Unreadable
+told read response = if is_taken response.status then readable (read response.body) else Err (fault_by response.status)
 
 -- the changes
 -- CouchDB: GET /{db}/_changes

@@ -120,10 +120,16 @@ impl Ahead {
         self.requests.len() <= MAX_REQUESTS / 2 && self.bytes <= MAX_BYTES / 2
     }
 
-    /// Adds requests for the first of these revisions that aren't asked for yet, as many as there are room and
-    /// memory for, and their text behind the other.
-    pub(crate) fn add(&mut self, alloc: Global, wanted: &[(DocId, RevId)], text: &mut Vec<u8>)
-        ensures adds { (more : List (List ℕ)) × (self.new ≡ self.old ++ more) × All AsksRevisions more
+    /// Adds requests to a host for the first of these revisions that aren't asked for yet, as many as there are
+    /// room and memory for, and their text behind the other.
+    pub(crate) fn add(
+        &mut self,
+        alloc: Global,
+        host: &str,
+        wanted: &[(DocId, RevId)],
+        text: &mut Vec<u8>,
+    )
+        ensures adds { (more : List (List ℕ)) × (self.new ≡ self.old ++ more) × All (AsksRevisions host.now) more
             × (text.new.items ≡ text.old.items ++ concat more) }
         ensures within { IsWithin self.new }
     {
@@ -132,7 +138,7 @@ impl Ahead {
             let Some(rest) = wanted.get(at..) else {
                 return;
             };
-            match self.add_next(alloc, rest, text) {
+            match self.add_next(alloc, host, rest, text) {
                 Ok(revisions) => at = at.saturating_add(revisions),
                 Err(_) => return,
             }
@@ -154,10 +160,11 @@ impl Ahead {
     fn add_next(
         &mut self,
         alloc: Global,
+        host: &str,
         wanted: &[(DocId, RevId)],
         text: &mut Vec<u8>,
     ) -> Result<usize, AllocError>
-        ensures adds { OnOk result ((request : List ℕ) × (self.new ≡ self.old ++ request ∷ []) × AsksRevisions request
+        ensures adds { OnOk result ((request : List ℕ) × (self.new ≡ self.old ++ request ∷ []) × AsksRevisions host.now request
             × (text.new.items ≡ text.old.items ++ request)) }
         ensures err { OnErr result ((self.new ≡ self.old) × (text.new.items ≡ text.old.items)) }
         ensures within { OnOk result (IsWithin self.new) }
@@ -166,7 +173,7 @@ impl Ahead {
             return Err(AllocError);
         };
         let revs = next_revs(alloc, &first.0, wanted)?;
-        let request = open_revs_request(alloc, &first.0, &revs)?;
+        let request = open_revs_request(alloc, host, &first.0, &revs)?;
         self.push(request, revs.len(), text)?;
         Ok(revs.len())
     }

@@ -8,6 +8,7 @@ ghost use Rattle.replicator_http.specs.Connection.{IsCut};
 ghost use Rattle.replicator_http.specs.declared.state.State.TheVariants as state;
 
 use crate::peer::HttpPeer;
+use crate::requests::Apart;
 use crate::state::State;
 use document_id::DocId;
 use http_client::ResponseSpans;
@@ -26,6 +27,51 @@ impl<R: Source, W: Sink> HttpPeer<R, W> {
     {
         self.make_way(request);
         self.ask_now(request)
+    }
+
+    /// Writes a request, its body behind its head, and reads until a whole response has come, unless the
+    /// connection is given up. The responses to requests that were written ahead are dropped.
+    pub(crate) fn ask_apart(&mut self, request: &Apart) -> Result<ResponseSpans, PeerFault>
+        ensures come { IfOk result (λ spans. AfterEvents self.old (λ mid. HasCome request.now mid self.new spans)) }
+        ensures fault { IfErr result (λ why. AfterEvents self.old (λ mid. Fails request.now mid self.new why)) }
+        ensures failures { CountsFailed self.old.failed_calls self.new.failed_calls result }
+    {
+        let len = self.ahead_len();
+        self.drop_ahead(len);
+        self.ask_apart_now(request)
+    }
+
+    /// Writes a request, its body behind its head, where none is ahead, and reads until a whole response has
+    /// come, unless the connection is given up.
+    fn ask_apart_now(&mut self, request: &Apart) -> Result<ResponseSpans, PeerFault>
+        requires { self.old.state ≡ state.Open → self.old.ahead ≡ [] }
+        ensures come { IfOk result (HasCome request.now self.old self.new) }
+        ensures fault { IfErr result (Fails request.now self.old self.new) }
+        ensures failures { CountsFailed self.old.failed_calls self.new.failed_calls result }
+    {
+        match self.state() {
+            State::Open => self.exchange_apart(request),
+            State::Failed => Err(self.fail()),
+            State::Unreadable => Err(PeerFault::Unreadable),
+        }
+    }
+
+    /// Writes a request, its body behind its head, and reads until a whole response has come. The connection is
+    /// given up where none has.
+    fn exchange_apart(&mut self, request: &Apart) -> Result<ResponseSpans, PeerFault>
+        requires is_open { self.old.state ≡ state.Open }
+        requires none { self.old.ahead ≡ [] }
+        ensures come { IfOk result (HasCome request.now self.old self.new) }
+        ensures fault { IfErr result (Fails request.now self.old self.new) }
+        ensures failures { CountsFailed self.old.failed_calls self.new.failed_calls result }
+    {
+        let Ok(()) = self.write_apart(request) else {
+            return Err(self.fail());
+        };
+        match self.read() {
+            Ok(spans) => Ok(spans),
+            Err(fault) => Err(self.fault(fault)),
+        }
     }
 
     /// Drops the responses to all requests that were written ahead, unless this is the next of them.

@@ -10,10 +10,12 @@ mod answers;
 mod asks;
 mod laws;
 mod peer;
+mod poll;
 mod requests;
 mod state;
 mod told;
 
 pub use laws::{answers_are_in_order, answers_are_of_the_input, bulk_is_as_measured};
 pub use peer::HttpPeer;
+pub use poll::wait_for_changes;
 pub use state::State;

@@ -1,5 +1,5 @@
 //! A database that is reached over a connection.
-ghost use Rattle.std.specs.Prelude.{◌≡◌, ℕ, ◌≤◌, List, ◌++◌, All, drop, length, Err, OnErr, OnOk, IsTrue};
+ghost use Rattle.std.specs.Prelude.{◌≡◌, ℕ, ◌≤◌, List, ◌++◌, All, drop, length, string_bytes, Err, OnErr, OnOk, IsTrue};
 ghost use Rattle.std.specs.List.{concat};
 ghost use Rattle.http_client.specs.Front.{IsResponseAt, response_at};
 ghost use Rattle.replicator.specs.Call.{CountsFailed};
@@ -13,8 +13,8 @@ ghost use Rattle.replicator_http.specs.declared.state.State.TheVariants as state
 
 use crate::ahead::Ahead;
 use crate::requests::{
-    bulk_request, changes_request, diff_request, filtered_changes_request, local_get_request,
-    local_put_request, open_revs_request,
+    Apart, bulk_request, changes_request, diff_request, filtered_changes_request,
+    local_get_request, local_put_request, open_revs_request,
 };
 use crate::state::State;
 use crate::told::{
@@ -28,7 +28,7 @@ use replicator::{Checkpoint, Opened, Peer, PeerFault};
 use revision_id::RevId;
 use std::alloc::Global;
 use std::marker::Model;
-use streams::{Failed, Sink, Source, write_all};
+use streams::{Failed, Sink, Source, write_all, write_both};
 
 /// A database that is reached over a connection: its requests go to a sink, and its responses come
 /// from a source. They answer the requests in their order, so bytes that come behind a response belong
@@ -36,6 +36,9 @@ use streams::{Failed, Sink, Source, write_all};
 ///
 /// Requests for revisions that the worker said it asks for next are written ahead, at most a hundred and
 /// 16,384 bytes of them. Where something else is asked, the responses to them are read and dropped first.
+///
+/// A call that is answered with status 503, since the other end can't serve it now, is [`PeerFault::Failed`]; the
+/// connection goes on.
 ///
 /// The connection is given up where a request was not written whole, or its response was not read. From
 /// then on nothing is written and nothing read, and each call that has the memory for its request is
@@ -48,6 +51,8 @@ pub struct HttpPeer<R: Source, W: Sink> {
     ahead: Ahead,
     state: State,
     failures: u64,
+    host: String,
+    skips: bool,
 }
 
 impl<R: Source + Drop, W: Sink + Drop> Drop for HttpPeer<R, W> {
@@ -59,11 +64,14 @@ impl<R: Source + Drop, W: Sink + Drop> Drop for HttpPeer<R, W> {
             ahead: _,
             state: _,
             failures: _,
+            host: _,
+            skips: _,
         } = self;
     }
 }
 
 impl<R: Source, W: Sink> Model for HttpPeer<R, W> {
+    ghost use Rattle.std.specs.Prelude.{string_bytes};
     ghost use Rattle.replicator_http.specs.Connection.{Connection};
 
     ghost Value = { Connection };
@@ -77,13 +85,15 @@ impl<R: Source, W: Sink> Model for HttpPeer<R, W> {
       ahead = p.ahead;
       state = p.state;
       failed_calls = p.failures;
+      terms = record { host = string_bytes p.host; skips = p.skips };
     } };
 }
 
 impl<R: Source, W: Sink> HttpPeer<R, W> {
-    /// A peer over a connection on which nothing has been asked.
-    pub fn new(alloc: Global, reader: R, writer: W) -> HttpPeer<R, W>
-        ensures { result ≡ fresh_connection (R.left reader) (R.failed_reads reader) (W.taken writer) (W.failed_writes writer) }
+    /// A peer of this host, over a connection on which nothing has been asked. The checkpoints that it writes say
+    /// so where the replication skips documents that can't be brought.
+    pub fn new(alloc: Global, host: String, skips: bool, reader: R, writer: W) -> HttpPeer<R, W>
+        ensures { result ≡ fresh_connection (record { host = string_bytes host; skips = skips }) (R.left reader) (R.failed_reads reader) (W.taken writer) (W.failed_writes writer) }
     {
         HttpPeer {
             reader,
@@ -92,6 +102,8 @@ impl<R: Source, W: Sink> HttpPeer<R, W> {
             ahead: Ahead::new(alloc),
             state: State::Open,
             failures: 0,
+            host,
+            skips,
         }
     }
 
@@ -109,12 +121,28 @@ impl<R: Source, W: Sink> HttpPeer<R, W> {
             ahead: _,
             state: _,
             failures: _,
+            host: _,
+            skips: _,
         } = self;
         (reader, writer)
     }
 
+    /// The host that requests name.
+    pub fn host(&self) -> &str
+        ensures { result.now ≡ self.now.terms.host }
+    {
+        self.host.as_str()
+    }
+
+    /// Whether checkpoints say that documents are skipped.
+    pub fn skips(&self) -> bool
+        ensures { result ≡ self.now.terms.skips }
+    {
+        self.skips
+    }
+
     /// How the connection goes on.
-    pub(crate) fn state(&self) -> State
+    pub fn state(&self) -> State
         ensures { result ≡ self.now.state }
     {
         self.state
@@ -146,15 +174,15 @@ impl<R: Source, W: Sink> HttpPeer<R, W> {
         self.ahead.pop();
     }
 
-    /// Adds requests for the first of these revisions that aren't asked for yet to those that are ahead, and
+    /// Adds requests to the host for the first of these revisions that aren't asked for yet to those that are ahead, and
     /// answers their text, which is to be written.
     pub(crate) fn add_ahead(&mut self, alloc: Global, wanted: &[(DocId, RevId)]) -> Vec<u8>
         ensures adds { (more : List (List ℕ)) × (self.new ≡ record self.old { ahead = self.old.ahead ++ more })
-            × All AsksRevisions more × (result.items ≡ concat more) }
+            × All (AsksRevisions self.old.terms.host) more × (result.items ≡ concat more) }
         ensures within { IsWithin self.new.ahead }
     {
         let mut text = Vec::new(alloc);
-        self.ahead.add(alloc, wanted, &mut text);
+        self.ahead.add(alloc, self.host.as_str(), wanted, &mut text);
         text
     }
 
@@ -166,6 +194,21 @@ impl<R: Source, W: Sink> HttpPeer<R, W> {
         ensures failures { self.new.failed_calls ≡ self.old.failed_calls }
     {
         let Ok(()) = write_all(&mut self.writer, bytes) else {
+            self.state = State::Failed;
+            return Err(Failed);
+        };
+        Ok(())
+    }
+
+    /// Writes a request, its body behind its head. The connection is given up where it isn't written whole.
+    pub(crate) fn write_apart(&mut self, request: &Apart) -> Result<(), Failed>
+        requires { self.old.state ≡ state.Open }
+        ensures written { OnOk result (HasWritten request.now self.old self.new) }
+        ensures cut { OnErr result (IsCut request.now self.old self.new) }
+        ensures failures { self.new.failed_calls ≡ self.old.failed_calls }
+    {
+        let (head, body) = (request.head.as_str(), request.body.as_str());
+        let Ok(()) = write_both(&mut self.writer, head, body) else {
             self.state = State::Failed;
             return Err(Failed);
         };
@@ -225,6 +268,27 @@ impl<R: Source, W: Sink> HttpPeer<R, W> {
     {
         self.incoming.take(response.taken());
     }
+
+    /// Takes the response away, of which this was told, and counts a failure where it says so.
+    fn take_told<T>(
+        &mut self,
+        response: ResponseSpans,
+        told: Result<T, PeerFault>,
+    ) -> Result<T, PeerFault>
+        requires { IsResponseAt self.old.come response }
+        ensures told { result ≡ told }
+        ensures rest { self.new ≡ record (after self.old response) { failed_calls = self.new.failed_calls } }
+        ensures failures { CountsFailed self.old.failed_calls self.new.failed_calls result }
+    {
+        self.take(response);
+        match told {
+            Ok(read) => Ok(read),
+            Err(PeerFault::Failed) => Err(self.fail()),
+            Err(PeerFault::Unreadable) => Err(PeerFault::Unreadable),
+            Err(PeerFault::Memory) => Err(PeerFault::Memory),
+            Err(PeerFault::Refused) => Err(PeerFault::Refused),
+        }
+    }
 }
 
 /// How a connection goes on after a response that was not read.
@@ -243,11 +307,10 @@ impl<R: Source, W: Sink> Peer for HttpPeer<R, W> {
     ghost failed_calls = { λ p. p.failed_calls };
 
     fn changes(&mut self, alloc: Global, since: u64, limit: u64) -> Result<ChangesPage, PeerFault> {
-        let request = changes_request(alloc, since, limit)?;
+        let request = changes_request(alloc, self.host(), since, limit)?;
         let response = self.ask(request.as_str())?;
         let page = page_told(alloc, response.status, self.body(response));
-        self.take(response);
-        page
+        self.take_told(response, page)
     }
 
     /// One request has the whole list. A server that takes no body so large refuses it, which is
@@ -259,19 +322,17 @@ impl<R: Source, W: Sink> Peer for HttpPeer<R, W> {
         since: u64,
         limit: u64,
     ) -> Result<ChangesPage, PeerFault> {
-        let request = filtered_changes_request(alloc, ids, since, limit)?;
+        let request = filtered_changes_request(alloc, self.host(), ids, since, limit)?;
         let response = self.ask(request.as_str())?;
         let page = page_told(alloc, response.status, self.body(response));
-        self.take(response);
-        page
+        self.take_told(response, page)
     }
 
     fn diff(&mut self, alloc: Global, asked: &NamedRevisions) -> Result<Differences, PeerFault> {
-        let request = diff_request(alloc, asked)?;
+        let request = diff_request(alloc, self.host(), asked)?;
         let response = self.ask(request.as_str())?;
         let differences = differences_told(alloc, response.status, self.body(response));
-        self.take(response);
-        differences
+        self.take_told(response, differences)
     }
 
     fn expect(&mut self, alloc: Global, wanted: &[(DocId, RevId)]) {
@@ -286,27 +347,24 @@ impl<R: Source, W: Sink> Peer for HttpPeer<R, W> {
         id: &DocId,
         revs: &[RevId],
     ) -> Result<Opened, PeerFault> {
-        let request = open_revs_request(alloc, id, revs)?;
+        let request = open_revs_request(alloc, self.host(), id, revs)?;
         let response = self.ask(request.as_str())?;
         let opened = opened_told(alloc, response.status, self.body(response));
-        self.take(response);
-        opened
+        self.take_told(response, opened)
     }
 
     fn bulk(&mut self, alloc: Global, documents: &[Merge]) -> Result<(), PeerFault> {
-        let request = bulk_request(alloc, documents)?;
-        let response = self.ask(request.as_str())?;
+        let request = bulk_request(alloc, self.host(), documents)?;
+        let response = self.ask_apart(&request)?;
         let taken = bulk_told(alloc, response.status, self.body(response));
-        self.take(response);
-        taken
+        self.take_told(response, taken)
     }
 
     fn local_get(&mut self, alloc: Global, id: &DocId) -> Result<Option<Checkpoint>, PeerFault> {
-        let request = local_get_request(alloc, id)?;
+        let request = local_get_request(alloc, self.host(), id)?;
         let response = self.ask(request.as_str())?;
         let checkpoint = checkpoint_told(alloc, response.status, self.body(response));
-        self.take(response);
-        checkpoint
+        self.take_told(response, checkpoint)
     }
 
     fn local_put(
@@ -316,11 +374,10 @@ impl<R: Source, W: Sink> Peer for HttpPeer<R, W> {
         named: Option<u32>,
         last_seq: u64,
     ) -> Result<u32, PeerFault> {
-        let request = local_put_request(alloc, id, named, last_seq)?;
+        let request = local_put_request(alloc, self.host(), self.skips(), id, named, last_seq)?;
         let response = self.ask(request.as_str())?;
         let counter = counter_told(alloc, response.status, self.body(response));
-        self.take(response);
-        counter
+        self.take_told(response, counter)
     }
 
     fn failures(&self) -> u64 {

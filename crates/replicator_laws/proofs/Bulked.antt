@@ -1,5 +1,5 @@
 -- A bulk of documents, as it is taken.
-use Rattle.std.proofs.Common.{◌≡◌, ◌≤◌, false, List, [], ◌∷◌, length, map, suc, Some, Ok, refl, ap, ◌∙◌, arith, All}
+use Rattle.std.proofs.Common.{◌≡◌, ◌≤◌, false, List, ℕ, [], ◌∷◌, length, map, suc, Some, Ok, refl, ap, ◌∙◌, arith, All}
 use Rattle.std.specs.Prelude.{codes, not}
 use Rattle.std.proofs.lemmas.Bool.{or_from}
 use Rattle.std.proofs.lemmas.List.Elements.{All-head, All-tail}
@@ -26,7 +26,7 @@ use Rattle.http_request.specs.declared.asked.Asked.TheVariants as asked
 use Rattle.http_request.specs.declared.asked.Form.TheVariants as form
 use Rattle.replicator_http.specs.Requests.{bulk_data, bulk_request}
 use Rattle.replicator_laws.specs.Calls.{IsPlainMerge, IsTakenAs}
-use Rattle.replicator_laws.specs.Framing.{request_with}
+use Rattle.replicator_laws.specs.Framing.{IsHost, request_with}
 use Rattle.replicator_laws.proofs.Decided.{found, taken}
 use Rattle.replicator_laws.proofs.Differing.{is_post}
 use Rattle.replicator_laws.proofs.Lists.{each_found, map-same}
@@ -80,11 +80,11 @@ documents_read ms h few_enough =
 
 -- ---- the whole
 
-pub bulk_taken : (ms : List Merge) → length ms ≤ max_edits → All IsPlainMerge ms → length (compact_text (bulk_data ms)) ≤ body_limit
-    → IsTakenAs (bulk_request ms) (asked.Command form.Whole (Merges ms))
-bulk_taken ms few_enough h fits =
+pub bulk_taken : (host : List ℕ) → IsHost host → (ms : List Merge) → length ms ≤ max_edits → All IsPlainMerge ms → length (compact_text (bulk_data ms)) ≤ body_limit
+    → IsTakenAs (bulk_request host ms) (asked.Command form.Whole (Merges ms))
+bulk_taken host is_host ms few_enough h fits =
     let body = compact_text (bulk_data ms) in
     let request = request_with (codes "POST") (codes "/db/_bulk_docs") body in
-    taken (codes "POST") (codes "/db/_bulk_docs") body _ is_post is_bulk_target fits
+    taken host (codes "POST") (codes "/db/_bulk_docs") body _ is_host is_post is_bulk_target fits
     (found request (codes "/db/_bulk_docs") route.BulkDocs method.Post (path_alone (codes "/db/_bulk_docs") (none_of 63 (codes "/db/_bulk_docs") refl)) bulk_route refl
     ∙ ap (λ command. decided (and_then command (λ command. Ok (asked.Command form.Whole command)))) (documents_read ms h few_enough))

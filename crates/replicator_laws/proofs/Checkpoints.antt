@@ -1,5 +1,5 @@
 -- The write of a checkpoint, as it is taken.
-use Rattle.std.proofs.Common.{◌≡◌, ℕ, ◌^◌, ◌<◌, ◌≤◌, Bool, false, List, [], ◌∷◌, ◌++◌, length, get_or, decimal, Option, Some, None, Ok, IfSome, IsUtf8, refl, ap, ◌∙◌, arith, lit<, lit≤, length-append}
+use Rattle.std.proofs.Common.{◌≡◌, ℕ, ◌^◌, ◌<◌, ◌≤◌, Bool, true, false, List, [], ◌∷◌, ◌++◌, length, get_or, decimal, Option, Some, None, Ok, IfSome, IsUtf8, refl, ap, ◌∙◌, arith, lit<, lit≤, length-append}
 use Rattle.std.specs.Prelude.{codes, ◌==◌, if◌then◌else◌, option_and_then}
 use Rattle.std.proofs.lemmas.Bool.{ne_eqb, lt-ltb, le-leb}
 use Rattle.std.proofs.lemmas.Fmt.{first_decimal, IsAscii-decimal, length-decimal-le}
@@ -35,15 +35,15 @@ use Rattle.document_json.proofs.JsonTexts.{json_of-value}
 use Rattle.document_json.proofs.Strings.{quoted-unescaped}
 use Rattle.document_json.proofs.TextLengths.{number_unescaped}
 use Rattle.history_json.proofs.InProfile.{sound_named}
-use Rattle.history_json.proofs.Sound.{Sound, sound_none, sound_number, sound_object, sound_string, sound_text}
+use Rattle.history_json.proofs.Sound.{Sound, SoundMembers, sound_boolean, sound_none, sound_number, sound_object, sound_string, sound_text}
 use Rattle.http_request.specs.Identity.{path_id}
 use Rattle.http_request.specs.Rejections.{decided}
 use Rattle.http_request.specs.declared.asked.Asked.{Asked}
 use Rattle.http_request.specs.declared.asked.Asked.TheVariants as asked
 use Rattle.http_request.specs.declared.asked.Form.TheVariants as form
-use Rattle.replicator_http.specs.Requests.{checkpoint_data, local_put_request}
+use Rattle.replicator_http.specs.Requests.{checkpoint_data, local_put_request, skip_last}
 use Rattle.replicator_laws.specs.Calls.{IsPlainId, IsTakenAs, checkpoint_body}
-use Rattle.replicator_laws.specs.Framing.{IsMethod, request_with}
+use Rattle.replicator_laws.specs.Framing.{IsHost, IsMethod, request_with}
 use Rattle.replicator_laws.proofs.Bytes.{KeepsUnreserved}
 use Rattle.replicator_laws.proofs.Decided.{found, id_behind, taken}
 use Rattle.replicator_laws.proofs.Paths.{is_one_segment}
@@ -81,19 +81,24 @@ counter_utf8 counter h =
     let high = h.1 in
     IsUtf8-append (codes "0-") (decimal counter) (IsUtf8-are_ascii (codes "0-") refl) (IsUtf8-from_ascii (decimal counter) (IsAscii-decimal counter (omega arith)))
 
-sound : (named : Option ℕ) (last_seq : ℕ) → IfSome named IsCounter → last_seq ≤ last_purge → Sound 1 (checkpoint_data named last_seq)
-sound None last_seq h le =
-    sound_object 0 _ (sound_named 0 (codes "last_seq") (json.number (unsigned last_seq)) no_members refl refl (sound_number 0 last_seq le) (sound_none 0))
-sound (Some counter) last_seq h le =
-    sound_object 0 _
-    (sound_named 0 (codes "_rev") (string (counter_text counter)) _ refl refl (sound_string 0 (counter_text counter) (counter_utf8 counter h))
-    (sound_named 0 (codes "last_seq") (json.number (unsigned last_seq)) no_members refl refl (sound_number 0 last_seq le) (sound_none 0)))
+sound_skip : (skips : Bool) → SoundMembers 0 (skip_last skips)
+sound_skip false = sound_none 0
+sound_skip true = sound_named 0 (codes "skip") (json.boolean true) no_members refl refl (sound_boolean 0 true) (sound_none 0)
 
-body_read : (named : Option ℕ) (last_seq : ℕ) → IfSome named IsCounter → last_seq ≤ last_purge
-    → json_of (compact_text (checkpoint_data named last_seq)) ≡ Ok (checkpoint_data named last_seq)
-body_read named last_seq h le =
-    let s = sound named last_seq h le in
-    json_of-value (checkpoint_data named last_seq) (compact_text (checkpoint_data named last_seq)) (sound_text 1 (checkpoint_data named last_seq) (omega arith) s) s.whole (omega (arith, s.nests))
+sound_last : (last_seq : ℕ) (skips : Bool) → last_seq ≤ last_purge → SoundMembers 0 (checkpoint_body last_seq skips)
+sound_last last_seq false le = sound_named 0 (codes "last_seq") (json.number (unsigned last_seq)) _ refl refl (sound_number 0 last_seq le) (sound_skip false)
+sound_last last_seq true le = sound_named 0 (codes "last_seq") (json.number (unsigned last_seq)) _ refl refl (sound_number 0 last_seq le) (sound_skip true)
+
+sound : (named : Option ℕ) (last_seq : ℕ) (skips : Bool) → IfSome named IsCounter → last_seq ≤ last_purge → Sound 1 (checkpoint_data named last_seq skips)
+sound None last_seq skips h le = sound_object 0 _ (sound_last last_seq skips le)
+sound (Some counter) last_seq skips h le =
+    sound_object 0 _ (sound_named 0 (codes "_rev") (string (counter_text counter)) _ refl refl (sound_string 0 (counter_text counter) (counter_utf8 counter h)) (sound_last last_seq skips le))
+
+body_read : (named : Option ℕ) (last_seq : ℕ) (skips : Bool) → IfSome named IsCounter → last_seq ≤ last_purge
+    → json_of (compact_text (checkpoint_data named last_seq skips)) ≡ Ok (checkpoint_data named last_seq skips)
+body_read named last_seq skips h le =
+    let s = sound named last_seq skips h le in
+    json_of-value (checkpoint_data named last_seq skips) (compact_text (checkpoint_data named last_seq skips)) (sound_text 1 (checkpoint_data named last_seq skips) (omega arith) s) s.whole (omega (arith, s.nests))
 
 -- what is written by a value
 abbrev writes : Id → Checked Data → Checked Command
@@ -103,51 +108,66 @@ writes id checked =
     Ok (PutLocal id over (Some parts.body))))
 
 -- and by a number
-abbrev over : Id → ℕ → Option ℕ → Checked Command
-over id last_seq counter =
+abbrev over : Id → ℕ → Bool → Option ℕ → Checked Command
+over id last_seq skips counter =
     and_then (and_then (and_then (or_refused counter reason.Revision) (λ k. Ok (Some k))) (λ own. named_once (◌==◌) None own)) (λ named.
-    Ok (PutLocal id named (Some (checkpoint_body last_seq))))
+    Ok (PutLocal id named (Some (checkpoint_body last_seq skips))))
 
-written : (id : Id) (named : Option ℕ) (last_seq : ℕ) → IfSome named IsCounter → writes id (Ok (checkpoint_data named last_seq)) ≡ Ok (PutLocal id named (Some (checkpoint_body last_seq)))
-written id None last_seq h = refl
-written id (Some counter) last_seq h = two id counter last_seq ∙ ap (over id last_seq) (counter_read counter h)
+written : (id : Id) (named : Option ℕ) (last_seq : ℕ) (skips : Bool) → IfSome named IsCounter → writes id (Ok (checkpoint_data named last_seq skips)) ≡ Ok (PutLocal id named (Some (checkpoint_body last_seq skips)))
+written id None last_seq false h = refl
+written id None last_seq true h = refl
+written id (Some counter) last_seq skips h = two id counter last_seq skips ∙ ap (over id last_seq skips) (counter_read counter h)
   where
-    two : (id : Id) (counter last_seq : ℕ) → writes id (Ok (checkpoint_data (Some counter) last_seq)) ≡ over id last_seq (counter_named (counter_text counter))
-    two id counter last_seq = refl
+    two : (id : Id) (counter last_seq : ℕ) (skips : Bool) → writes id (Ok (checkpoint_data (Some counter) last_seq skips)) ≡ over id last_seq skips (counter_named (counter_text counter))
+    two id counter last_seq false = refl
+    two id counter last_seq true = refl
 
-pub edited : (id : Id) (named : Option ℕ) (last_seq : ℕ) → IfSome named IsCounter → last_seq ≤ last_purge
-    → local_edit_of id None (compact_text (checkpoint_data named last_seq)) ≡ Ok (PutLocal id named (Some (checkpoint_body last_seq)))
-edited id named last_seq h le = ap (writes id) (body_read named last_seq h le) ∙ written id named last_seq h
+pub edited : (id : Id) (named : Option ℕ) (last_seq : ℕ) (skips : Bool) → IfSome named IsCounter → last_seq ≤ last_purge
+    → local_edit_of id None (compact_text (checkpoint_data named last_seq skips)) ≡ Ok (PutLocal id named (Some (checkpoint_body last_seq skips)))
+edited id named last_seq skips h le = ap (writes id) (body_read named last_seq skips h le) ∙ written id named last_seq skips h
 
 -- ---- its length
 
-text_first : (last_seq : ℕ) → compact_text (checkpoint_data None last_seq) ≡ codes "{\"last_seq\":" ++ (decimal last_seq ++ codes "}")
-unfolding serde_json_on_literals
-text_first last_seq = refl
+-- what is behind the number
+abbrev last_text : Bool → List ℕ
+last_text false = codes "}"
+last_text true = codes ",\"skip\":true}"
 
-text_over : (counter last_seq : ℕ) → compact_text (checkpoint_data (Some counter) last_seq)
-    ≡ codes "{\"_rev\":" ++ (compact_text (string (counter_text counter)) ++ (codes ",\"last_seq\":" ++ (decimal last_seq ++ codes "}")))
+text_first : (last_seq : ℕ) (skips : Bool) → compact_text (checkpoint_data None last_seq skips) ≡ codes "{\"last_seq\":" ++ (decimal last_seq ++ last_text skips)
 unfolding serde_json_on_literals
-text_over counter last_seq = refl
+text_first last_seq false = refl
+text_first last_seq true = refl
 
-short : (named : Option ℕ) (last_seq : ℕ) → IfSome named IsCounter → last_seq ≤ last_purge → length (compact_text (checkpoint_data named last_seq)) ≤ body_limit
-short None last_seq h le =
+text_over : (counter last_seq : ℕ) (skips : Bool) → compact_text (checkpoint_data (Some counter) last_seq skips)
+    ≡ codes "{\"_rev\":" ++ (compact_text (string (counter_text counter)) ++ (codes ",\"last_seq\":" ++ (decimal last_seq ++ last_text skips)))
+unfolding serde_json_on_literals
+text_over counter last_seq false = refl
+text_over counter last_seq true = refl
+
+last_short : (skips : Bool) → length (last_text skips) ≤ 13
+last_short false = lit≤ tt
+last_short true = lit≤ tt
+
+short : (named : Option ℕ) (last_seq : ℕ) (skips : Bool) → IfSome named IsCounter → last_seq ≤ last_purge → length (compact_text (checkpoint_data named last_seq skips)) ≤ body_limit
+short None last_seq skips h le =
     let digits = length-decimal-le 20 last_seq (lit< tt) (omega arith) (omega arith) in
-    let size = length-append (decimal last_seq) (codes "}") in
-    let whole = ap length (text_first last_seq) in
-    omega (arith, digits, size, whole)
-short (Some counter) last_seq h le =
+    let last = last_short skips in
+    let size = length-append (decimal last_seq) (last_text skips) in
+    let whole = ap length (text_first last_seq skips) in
+    omega (arith, digits, last, size, whole)
+short (Some counter) last_seq skips h le =
     let high = h.1 in
     let small : counter < 2 ^ 64 = omega arith in
     let digits = length-decimal-le 20 last_seq (lit< tt) (omega arith) (omega arith) in
     let number = length-decimal-le 10 counter (lit< tt) (omega arith) small in
-    let size = length-append (decimal last_seq) (codes "}") in
-    let behind = codes ",\"last_seq\":" ++ (decimal last_seq ++ codes "}") in
+    let last = last_short skips in
+    let size = length-append (decimal last_seq) (last_text skips) in
+    let behind = codes ",\"last_seq\":" ++ (decimal last_seq ++ last_text skips) in
     let first = length-append (compact_text (string (counter_text counter))) behind in
     let text = length-append (counter_text counter) (34 ∷ []) in
     let quotes = ap length (quoted-unescaped (counter_text counter) (number_unescaped counter small)) in
-    let whole = ap length (text_over counter last_seq) in
-    omega (arith, digits, number, size, first, text, quotes, whole)
+    let whole = ap length (text_over counter last_seq skips) in
+    omega (arith, digits, number, last, size, first, text, quotes, whole)
 
 -- ---- the whole
 
@@ -158,16 +178,16 @@ puts body id rev = and_then id (λ id. and_then (local_edit_of id rev body) (λ 
 no_rev : (target : List ℕ) → query_of target ≡ [] → parameter (codes "rev") (parameters_of (query_of target)) ≡ None
 no_rev target none = ap (λ query. parameter (codes "rev") (parameters_of query)) none ∙ ap (parameter (codes "rev")) (read_pairs [] (All-nil AreTexts))
 
-pub local_put_taken : KeepsUnreserved → (id : Id) (named : Option ℕ) (last_seq : ℕ) → IsPlainId id → IfSome named IsCounter → last_seq ≤ last_purge
-    → IsTakenAs (local_put_request SEGMENT id named last_seq) (asked.Command form.Put (PutLocal id named (Some (checkpoint_body last_seq))))
-local_put_taken keeps id named last_seq h counter le =
+pub local_put_taken : KeepsUnreserved → (host : List ℕ) (skips : Bool) → IsHost host → (id : Id) (named : Option ℕ) (last_seq : ℕ) → IsPlainId id → IfSome named IsCounter → last_seq ≤ last_purge
+    → IsTakenAs (local_put_request host skips SEGMENT id named last_seq) (asked.Command form.Put (PutLocal id named (Some (checkpoint_body last_seq skips))))
+local_put_taken keeps host skips is_host id named last_seq h counter le =
     let target = local_target SEGMENT id in
     let segment = percent_encode SEGMENT id in
-    let body = compact_text (checkpoint_data named last_seq) in
+    let body = compact_text (checkpoint_data named last_seq skips) in
     let request = request_with (codes "PUT") target body in
     let at = local_path keeps id h.is_id.text in
-    taken (codes "PUT") target body _ is_put (is_local_target keeps id h.is_id.text h.is_id.short) (short named last_seq counter le)
+    taken host (codes "PUT") target body _ is_host is_put (is_local_target keeps id h.is_id.text h.is_id.short) (short named last_seq skips counter le)
     (found request (codes "/db/_local/" ++ segment) route.Local method.Put at (local_route segment (is_one_segment keeps id h.is_id.not_empty)) refl
     ∙ ap (λ i. decided (puts body i (parameter (codes "rev") (parameters_of (query_of target))))) (ap path_id at ∙ id_behind keeps (codes "/db/_local") id h)
     ∙ ap (λ rev. decided (puts body (Ok id) rev)) (no_rev target (local_query keeps id h.is_id.text))
-    ∙ ap (λ command. decided (and_then command (λ command. Ok (asked.Command form.Put command)))) (edited id named last_seq counter le))
+    ∙ ap (λ command. decided (and_then command (λ command. Ok (asked.Command form.Put command)))) (edited id named last_seq skips counter le))

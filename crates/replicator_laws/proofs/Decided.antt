@@ -19,7 +19,7 @@ use Rattle.http_request.specs.Identity.{path_id}
 use Rattle.http_request.specs.Rejections.{Decided}
 use Rattle.http_request.specs.declared.asked.Asked.{Asked}
 use Rattle.replicator_laws.specs.Calls.{IsPlainId, IsTakenAs}
-use Rattle.replicator_laws.specs.Framing.{IsMethod, IsTarget, request_with}
+use Rattle.replicator_laws.specs.Framing.{IsHost, IsMethod, IsTarget, request_with}
 use Rattle.replicator_laws.proofs.Bytes.{KeepsUnreserved}
 use Rattle.replicator_laws.proofs.Heads.{framed}
 use Rattle.replicator_laws.proofs.Paths.{last-behind, no_slash, segment-text}
@@ -49,7 +49,7 @@ id_behind keeps front id h =
     ∙ named id h
 
 -- the text of a request is taken as what the request asks
-pub taken : (method target body : List ℕ) (asked : Asked) → IsMethod method → IsTarget target → length body ≤ body_limit
-    → decide (request_with method target body) ≡ Ok asked → IsTakenAs (request_text method target body) asked
-taken method target body asked is_method is_target fits decided =
-    (request_with method target body, framed method target body is_method is_target fits, refl, decided)
+pub taken : (host method target body : List ℕ) (asked : Asked) → IsHost host → IsMethod method → IsTarget target → length body ≤ body_limit
+    → decide (request_with method target body) ≡ Ok asked → IsTakenAs (request_text host method target body) asked
+taken host method target body asked is_host is_method is_target fits decided =
+    (request_with method target body, framed host method target body is_host is_method is_target fits, refl, decided)

@@ -1,5 +1,5 @@
 -- The question which revisions are missing, as it is taken.
-use Rattle.std.proofs.Common.{◌≡◌, ◌≤◌, List, [], ◌∷◌, length, map, Ok, refl, ap, ◌∙◌, arith, All, lit<, lit≤}
+use Rattle.std.proofs.Common.{◌≡◌, ◌≤◌, List, ℕ, [], ◌∷◌, length, map, Ok, refl, ap, ◌∙◌, arith, All, lit<, lit≤}
 use Rattle.std.specs.Prelude.{codes}
 use Rattle.std.proofs.lemmas.List.Elements.{All-weaker}
 use Rattle.std.proofs.lemmas.List.Sums.{AllPass-from_list_all}
@@ -31,7 +31,7 @@ use Rattle.http_request.specs.Rejections.{decided}
 use Rattle.http_request.specs.declared.asked.Asked.TheVariants as asked
 use Rattle.replicator_http.specs.Requests.{asked_data, diff_request}
 use Rattle.replicator_laws.specs.Calls.{IsTakenAs, NamesPlain}
-use Rattle.replicator_laws.specs.Framing.{IsMethod, request_with}
+use Rattle.replicator_laws.specs.Framing.{IsHost, IsMethod, request_with}
 use Rattle.replicator_laws.proofs.Decided.{found, named, taken}
 use Rattle.replicator_laws.proofs.Lists.{each_found, listed, map-same, revs_read}
 use Rattle.replicator_laws.proofs.Paths.{none_of, path_alone}
@@ -91,11 +91,11 @@ revisions_read asks h =
 
 -- ---- the whole
 
-pub diff_taken : (asks : Map names (List Rev)) → All NamesPlain (entries asks) → length (compact_text (asked_data asks)) ≤ body_limit
-    → IsTakenAs (diff_request asks) (asked.Query (RevsDiff asks))
-diff_taken asks h fits =
+pub diff_taken : (host : List ℕ) → IsHost host → (asks : Map names (List Rev)) → All NamesPlain (entries asks) → length (compact_text (asked_data asks)) ≤ body_limit
+    → IsTakenAs (diff_request host asks) (asked.Query (RevsDiff asks))
+diff_taken host is_host asks h fits =
     let body = compact_text (asked_data asks) in
     let request = request_with (codes "POST") (codes "/db/_revs_diff") body in
-    taken (codes "POST") (codes "/db/_revs_diff") body _ is_post is_diff_target fits
+    taken host (codes "POST") (codes "/db/_revs_diff") body _ is_host is_post is_diff_target fits
     (found request (codes "/db/_revs_diff") route.RevsDiff method.Post (path_alone (codes "/db/_revs_diff") (none_of 63 (codes "/db/_revs_diff") refl)) diff_route refl
     ∙ ap (λ named. decided (and_then named (λ named. Ok (asked.Query (RevsDiff named))))) (revisions_read asks h))

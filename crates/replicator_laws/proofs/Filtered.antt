@@ -41,7 +41,7 @@ use Rattle.http_request.specs.declared.changes.Feed.TheVariants.{Normal}
 use Rattle.http_request.specs.declared.changes.Since.TheVariants.{Now, Number}
 use Rattle.replicator_http.specs.Requests.{doc_ids_data, filtered_changes_request}
 use Rattle.replicator_laws.specs.Calls.{IsTakenAs}
-use Rattle.replicator_laws.specs.Framing.{IsTarget, request_with}
+use Rattle.replicator_laws.specs.Framing.{IsHost, IsTarget, request_with}
 use Rattle.replicator_laws.proofs.Bytes.{IsInk, target_of}
 use Rattle.replicator_laws.proofs.Decided.{found, taken}
 use Rattle.replicator_laws.proofs.Differing.{is_post}
@@ -170,14 +170,14 @@ changes_asked : (since limit : ℕ) (body : List ℕ) → changes_of method.Post
     ≡ asks (bytes_eq (codes "now") (decimal since)) (number (decimal limit)) (number (decimal since)) (doc_ids_of body)
 changes_asked since limit body = refl
 
-pub filtered_taken : (ids : List Id) (since limit : ℕ) → since < 10 ^ 18 → limit < 10 ^ 18 → AreIds ids → length (compact_text (doc_ids_data ids)) ≤ body_limit
-    → IsTakenAs (filtered_changes_request ids since limit) (asked.Changes (record { since = Number since; limit = Some limit; style = AllDocs; feed = Normal; ids = Some ids }))
-filtered_taken ids since limit p q are fits =
+pub filtered_taken : (host : List ℕ) → IsHost host → (ids : List Id) (since limit : ℕ) → since < 10 ^ 18 → limit < 10 ^ 18 → AreIds ids → length (compact_text (doc_ids_data ids)) ≤ body_limit
+    → IsTakenAs (filtered_changes_request host ids since limit) (asked.Changes (record { since = Number since; limit = Some limit; style = AllDocs; feed = Normal; ids = Some ids }))
+filtered_taken host is_host ids since limit p q are fits =
     let p64 : since < 2 ^ 64 = omega arith in
     let q64 : limit < 2 ^ 64 = omega arith in
     let body = compact_text (doc_ids_data ids) in
     let request = request_with (codes "POST") (filtered_changes_target since limit) body in
-    taken (codes "POST") (filtered_changes_target since limit) body _ is_post (is_target since limit p64 q64) fits
+    taken host (codes "POST") (filtered_changes_target since limit) body _ is_host is_post (is_target since limit p64 q64) fits
     (found request (codes "/db/_changes") route.Changes method.Post (path_is since limit) changes_route refl
     ∙ ap (λ parameters. decided (changes_of method.Post parameters body)) (parameters_read since limit p64 q64)
     ∙ ap decided (changes_asked since limit body)

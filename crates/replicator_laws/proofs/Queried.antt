@@ -42,7 +42,7 @@ use Rattle.http_request.specs.declared.changes.Feed.TheVariants.{Normal}
 use Rattle.http_request.specs.declared.changes.Since.TheVariants.{Now, Number}
 use Rattle.replicator_http.specs.Requests.{changes_request, local_get_request, open_revs_request}
 use Rattle.replicator_laws.specs.Calls.{IsPlainId, IsTakenAs, with_paths}
-use Rattle.replicator_laws.specs.Framing.{IsMethod, request_with}
+use Rattle.replicator_laws.specs.Framing.{IsHost, IsMethod, request_with}
 use Rattle.replicator_laws.proofs.Bytes.{KeepsUnreserved}
 use Rattle.replicator_laws.proofs.Decided.{found, id_behind, taken}
 use Rattle.replicator_laws.proofs.Heads.{digits}
@@ -86,13 +86,13 @@ asks now limit since =
 changes_asked : (since limit : ℕ) → changes_of method.Get (changes_pairs since limit) [] ≡ asks (bytes_eq (codes "now") (decimal since)) (number (decimal limit)) (number (decimal since))
 changes_asked since limit = refl
 
-pub changes_taken : (since limit : ℕ) → since < 10 ^ 18 → limit < 10 ^ 18
-    → IsTakenAs (changes_request since limit) (asked.Changes (record { since = Number since; limit = Some limit; style = AllDocs; feed = Normal; ids = None }))
-changes_taken since limit p q =
+pub changes_taken : (host : List ℕ) → IsHost host → (since limit : ℕ) → since < 10 ^ 18 → limit < 10 ^ 18
+    → IsTakenAs (changes_request host since limit) (asked.Changes (record { since = Number since; limit = Some limit; style = AllDocs; feed = Normal; ids = None }))
+changes_taken host is_host since limit p q =
     let p64 : since < 2 ^ 64 = omega arith in
     let q64 : limit < 2 ^ 64 = omega arith in
     let request = request_with (codes "GET") (changes_target since limit) [] in
-    taken (codes "GET") (changes_target since limit) [] _ is_get (is_changes_target since limit p64 q64) (lit≤ tt)
+    taken host (codes "GET") (changes_target since limit) [] _ is_host is_get (is_changes_target since limit p64 q64) (lit≤ tt)
     (found request (codes "/db/_changes") route.Changes method.Get (changes_path since limit) changes_route refl
     ∙ ap (λ parameters. decided (changes_of method.Get parameters [])) (changes_read since limit p64 q64)
     ∙ ap decided (changes_asked since limit)
@@ -102,13 +102,13 @@ changes_taken since limit p q =
 
 -- ---- a checkpoint
 
-pub local_get_taken : KeepsUnreserved → (id : Id) → IsPlainId id → IsTakenAs (local_get_request SEGMENT id) (asked.Query (GetLocal id))
-local_get_taken keeps id h =
+pub local_get_taken : KeepsUnreserved → (host : List ℕ) → IsHost host → (id : Id) → IsPlainId id → IsTakenAs (local_get_request host SEGMENT id) (asked.Query (GetLocal id))
+local_get_taken keeps host is_host id h =
     let target = local_target SEGMENT id in
     let segment = percent_encode SEGMENT id in
     let request = request_with (codes "GET") target [] in
     let at = local_path keeps id h.is_id.text in
-    taken (codes "GET") target [] _ is_get (is_local_target keeps id h.is_id.text h.is_id.short) (lit≤ tt)
+    taken host (codes "GET") target [] _ is_host is_get (is_local_target keeps id h.is_id.text h.is_id.short) (lit≤ tt)
     (found request (codes "/db/_local/" ++ segment) route.Local method.Get at (local_route segment (is_one_segment keeps id h.is_id.not_empty)) refl
     ∙ ap (λ c. decided (and_then c (λ i. Ok (asked.Query (GetLocal i))))) (ap path_id at ∙ id_behind keeps (codes "/db/_local") id h))
 
@@ -130,10 +130,10 @@ gets id parameters =
     and_then (options_of parameters) (λ options.
     opened_or_got id options parameters (parameter (codes "open_revs") parameters)))
 
-pub open_revs_taken : KeepsUnreserved → (id : Id) (revs : List Rev) → IsPlainId id → All IsRev revs → length revs ≤ 100
-    → IsTakenAs (open_revs_request SEGMENT id revs) (asked.Query (OpenRevs id (Some revs) with_paths))
-open_revs_taken keeps [] revs h are few = let some = h.is_id.not_empty in absurd (omega arith)
-open_revs_taken keeps (c ∷ cs) revs h are few =
+pub open_revs_taken : KeepsUnreserved → (host : List ℕ) → IsHost host → (id : Id) (revs : List Rev) → IsPlainId id → All IsRev revs → length revs ≤ 100
+    → IsTakenAs (open_revs_request host SEGMENT id revs) (asked.Query (OpenRevs id (Some revs) with_paths))
+open_revs_taken keeps host is_host [] revs h are few = let some = h.is_id.not_empty in absurd (omega arith)
+open_revs_taken keeps host is_host (c ∷ cs) revs h are few =
     let id : Id = c ∷ cs in
     let list = compact_text (revs_data revs) in
     let text = list_text revs are in
@@ -143,7 +143,7 @@ open_revs_taken keeps (c ∷ cs) revs h are few =
     let at = opened_path keeps id list h.is_id.text text in
     let long = length-list revs are in
     let other : c ≢ 95 = λ e. absurd (true≢false (sym (eq-eqb c 95 e) ∙ h.plain)) in
-    taken (codes "GET") target [] _ is_get (is_opened_target keeps id list h.is_id.text text h.is_id.short (omega (arith, long, few))) (lit≤ tt)
+    taken host (codes "GET") target [] _ is_host is_get (is_opened_target keeps id list h.is_id.text text h.is_id.short (omega (arith, long, few))) (lit≤ tt)
     (found request (codes "/db/" ++ segment) route.Document method.Get at (id_route c cs other (is_one_segment keeps id h.is_id.not_empty)) refl
     ∙ ap (λ i. decided (gets i (parameters_of (query_of target)))) (ap path_id at ∙ id_behind keeps (codes "/db") id h)
     ∙ ap (λ parameters. decided (gets (Ok id) parameters)) (opened_read keeps id list h.is_id.text text)

@@ -1,6 +1,6 @@
 -- As what a server takes the calls of a replication.
-use Rattle.std.specs.Prelude.{◌≡◌, ℕ, ◌^◌, ◌<◌, ◌≤◌, true, false, List, [], length, All, Some, None, Ok, IfSome, codes}
-use Rattle.serde_json.specs.Data.{unsigned, number, no_members, member}
+use Rattle.std.specs.Prelude.{◌≡◌, ℕ, Bool, ◌^◌, ◌<◌, ◌≤◌, true, false, List, [], length, All, Some, None, Ok, IfSome, codes}
+use Rattle.serde_json.specs.Data.{unsigned, number, member}
 use Rattle.serde_json.specs.Written.{compact_text}
 use Rattle.http_framing.specs.Body.{body_limit}
 use Rattle.http_framing.specs.Request.{Request, BeginsWithRequest}
@@ -19,7 +19,8 @@ use Rattle.http_request.specs.declared.asked.Asked.TheVariants as asked
 use Rattle.http_request.specs.declared.asked.Form.TheVariants as form
 use Rattle.http_request.specs.declared.changes.Feed.TheVariants.{Normal}
 use Rattle.http_request.specs.declared.changes.Since.TheVariants.{Number}
-use Rattle.replicator_http.specs.Requests.{asked_data, bulk_data, doc_ids_data}
+use Rattle.replicator_http.specs.Connection.{Terms}
+use Rattle.replicator_http.specs.Requests.{asked_data, bulk_data, doc_ids_data, skip_last}
 use Rattle.replicator.specs.Call.{Call, Changes, Diff, OpenRevs, Bulk, LocalGet, LocalPut}
 use Rattle.replicator.specs.Wanted.{max_revs}
 
@@ -36,21 +37,21 @@ IsTakenAs bytes asks =
 abbrev pub with_paths : Options
 with_paths = record { latest = true; revs = true; revs_info = false; conflicts = false; deleted_conflicts = false }
 
--- `{"last_seq":n}`
+-- `{"last_seq":n}`, and where documents are skipped `{"last_seq":n,"skip":true}`
 -- CouchDB: "CouchDB Replication Protocol", "Record Replication Checkpoint"
-abbrev pub checkpoint_body : ℕ → Body
-checkpoint_body last_seq = member (codes "last_seq") (number (unsigned last_seq)) no_members
+abbrev pub checkpoint_body : ℕ → Bool → Body
+checkpoint_body last_seq skips = member (codes "last_seq") (number (unsigned last_seq)) (skip_last skips)
 
--- the query or the command that a call stands for
+-- the query or the command that a call on these terms stands for
 -- CouchDB: "CouchDB Replication Protocol", "Replication Protocol Algorithm"
-abbrev pub asked_by : Call → Asked
-asked_by (Changes ids since limit answer) =
+abbrev pub asked_by : Terms → Call → Asked
+asked_by terms (Changes ids since limit answer) =
     asked.Changes (record { since = Number since; limit = Some limit; style = AllDocs; feed = Normal; ids = ids })
-asked_by (Diff named answer) = asked.Query (RevsDiff named)
-asked_by (OpenRevs id revs answer) = asked.Query (query.OpenRevs id (Some revs) with_paths)
-asked_by (Bulk documents answer) = asked.Command form.Whole (Merges documents)
-asked_by (LocalGet id answer) = asked.Query (GetLocal id)
-asked_by (LocalPut id named last_seq answer) = asked.Command form.Put (PutLocal id named (Some (checkpoint_body last_seq)))
+asked_by terms (Diff named answer) = asked.Query (RevsDiff named)
+asked_by terms (OpenRevs id revs answer) = asked.Query (query.OpenRevs id (Some revs) with_paths)
+asked_by terms (Bulk documents answer) = asked.Command form.Whole (Merges documents)
+asked_by terms (LocalGet id answer) = asked.Query (GetLocal id)
+asked_by terms (LocalPut id named last_seq answer) = asked.Command form.Put (PutLocal id named (Some (checkpoint_body last_seq terms.skips)))
 
 -- ---- which calls can be taken
 

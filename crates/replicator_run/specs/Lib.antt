@@ -1,4 +1,7 @@
 pub mod Counted
+pub mod CheckpointId
+pub mod Reopened
 pub mod Report
 pub mod Large
+pub mod Skipped
 pub mod Asked

@@ -1,5 +1,5 @@
 -- What is said of a whole replication.
-use Rattle.std.specs.Prelude.{◌≡◌, ℕ, ◌^◌, ◌-◌, List, Option, nat_lt, if◌then◌else◌, Result, Ok, Err, codes}
+use Rattle.std.specs.Prelude.{◌≡◌, ℕ, ◌^◌, ◌-◌, Bool, List, Option, nat_lt, if◌then◌else◌, Result, Ok, Err, codes}
 use Rattle.model.specs.Command.{Id}
 use Rattle.replicator.specs.declared.fault.PeerFault.{PeerFault}
 use Rattle.replicator.specs.declared.fault.PeerFault.TheVariants as fault
@@ -8,7 +8,8 @@ use Rattle.replicator.specs.declared.progress.Progress.TheVariants as progress
 use Rattle.replicator.specs.Call.{Call}
 use Rattle.replicator.specs.Run.{IsRun}
 use Rattle.replicator.specs.Stage.{Known, Unread}
-use Rattle.replicator_run.specs.Counted.{Counts, uncounted}
+use Rattle.replicator_run.specs.Counted.{and_more, Counted, Counts, uncounted}
+use Rattle.replicator_run.specs.Skipped.{GoesSkipping}
 use Rattle.replicator_run.specs.declared.report.Report.{Report}
 
 -- the most changes that are asked for at once
@@ -23,14 +24,25 @@ most_steps = 2 ^ 64 - 1
 abbrev pub fresh : Id → Option (List Id) → Known
 fresh id ids = record { job = record { id = id; batch = batch; ids = ids }; stage = Unread }
 
--- The run of one worker between two ends, from the beginning on: the documents that the source gave and those of the
--- bulks that the target took are counted, how it ended is said, and the calls of each end that failed.
-pub record Replicates {S T : Type 0} (source_goes : S → Call → S → Type 0) (target_goes : T → Call → T → Type 0) (source_failures : S → ℕ) (target_failures : T → ℕ) (id : Id) (ids : Option (List Id)) (source : S) (target : T) (report : Report) : Type 0 where
+-- the report of a run that ended so, between ends that come to this
+abbrev pub report_of : {S T : Type 0} → (S → ℕ) → (T → ℕ) → Result Progress PeerFault → Counted S → Counted T → Report
+report_of source_failures target_failures ended source target = record {
+  documents_read = source.passed;
+  documents_written = target.passed;
+  ended = ended;
+  source_failures = source_failures source.end;
+  target_failures = target_failures target.end;
+}
+
+-- The run of one worker between two ends, of which documents are counted and may be skipped, from the beginning on: the
+-- documents that the source gave and those of the bulks that the target took are counted, how it ended is said, and the
+-- calls of each end that failed.
+pub record RunsBetween {S T : Type 0} (skips : Bool) (source_goes : S → Call → S → Type 0) (target_goes : T → Call → T → Type 0) (source_failures : S → ℕ) (target_failures : T → ℕ) (id : Id) (ids : Option (List Id)) (source : Counted S) (target : Counted T) (report : Report) : Type 0 where
   pub worker : Known
   pub source_after : S
   pub target_after : T
-  pub run : IsRun (Counts source_goes) (Counts target_goes)
-      (record { worker = fresh id ids; source = uncounted source; target = uncounted target })
+  pub run : IsRun (GoesSkipping (Counts source_goes) skips) (GoesSkipping (Counts target_goes) skips)
+      (record { worker = fresh id ids; source = source; target = target })
       most_steps report.ended
       (record {
         worker = worker;
@@ -39,6 +51,11 @@ pub record Replicates {S T : Type 0} (source_goes : S → Call → S → Type 0)
       })
   pub source_failed : report.source_failures ≡ source_failures source_after
   pub target_failed : report.target_failures ≡ target_failures target_after
+
+-- the run of one worker between two ends that no document has passed
+abbrev pub Replicates : {S T : Type 0} → Bool → (S → Call → S → Type 0) → (T → Call → T → Type 0) → (S → ℕ) → (T → ℕ) → Id → Option (List Id) → S → T → Report → Type 0
+Replicates skips source_goes target_goes source_failures target_failures id ids source target report =
+    RunsBetween skips source_goes target_goes source_failures target_failures id ids (uncounted source) (uncounted target) report
 
 -- 0 where all changes came to the target, 3 where an answer can't be read or a write was refused, else 1
 abbrev pub exit_status : Result Progress PeerFault → ℕ
@@ -59,3 +76,13 @@ ending source_failures (Err fault.Failed) = if nat_lt 0 source_failures then cod
 ending source_failures (Err fault.Memory) = codes "out of memory"
 ending source_failures (Err fault.Unreadable) = codes "an answer can't be read"
 ending source_failures (Err fault.Refused) = codes "a write was refused"
+
+-- what two runs did, one behind the other, up to the last count: it ended as the second
+abbrev pub both : Report → Report → Report
+both first second = record {
+  documents_read = and_more first.documents_read second.documents_read;
+  documents_written = and_more first.documents_written second.documents_written;
+  ended = second.ended;
+  source_failures = second.source_failures;
+  target_failures = second.target_failures;
+}

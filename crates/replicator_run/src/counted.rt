@@ -5,8 +5,9 @@ ghost use Rattle.replicator_run.specs.Counted.{Counts, and_more};
 
 use crate::asked::{Asked, End};
 use crate::large::large_in;
+use crate::many::MAX_OF_MORE;
 use crate::watch::Watch;
-use commands::{Merge, NamedRevisions};
+use commands::{AskedRevisions, Merge, NamedRevisions};
 use document_id::{DocId, DocIds};
 use queries::{ChangesPage, Differences};
 use replicator::{Checkpoint, Opened, Peer, PeerFault};
@@ -14,9 +15,9 @@ use revision_id::RevId;
 use std::alloc::Global;
 use std::marker::Model;
 
-/// An end, and how many documents it gave or took. It reports what is asked of it, where it has written
-/// its checkpoint, where it ends before the number after which changes are asked for, and of a document that
-/// no bulk can hold.
+/// An end, and how many documents it gave or took. It reports what is asked of it and what has passed, where it ends
+/// before the number after which changes are asked for, and of a document that no bulk can hold, or whose leaves no
+/// request can.
 #[derive(Drop)]
 pub(crate) struct Counted<P, W> {
     peer: P,
@@ -59,6 +60,7 @@ impl<P: Peer, W: Watch> Counted<P, W> {
         ensures passed { self.new.passed ≡ and_more self.old.passed documents }
     {
         self.passed = self.passed.saturating_add(documents as u64);
+        self.watch.passed(self.name, self.passed);
     }
 }
 
@@ -83,11 +85,12 @@ fn documents_in(revision: &Result<Merge, RevId>) -> usize
     }
 }
 
-/// Reports where the changes end before the number after which they were asked for.
-fn tell_end<W: Watch>(watch: &W, since: u64, last_seq: u64) {
-    if last_seq < since {
-        watch.past_end(since, last_seq);
+/// Reports a page of changes, and where they end before the number after which they were asked for.
+fn tell_page<W: Watch>(watch: &W, since: u64, page: &ChangesPage) {
+    if page.last_seq < since {
+        watch.past_end(since, page.last_seq);
     }
+    watch.changes(page.last_seq, page.pending);
 }
 
 /// Reports of a document that no bulk can hold, where the answer to its bulk can't be read.
@@ -101,6 +104,29 @@ fn tell_large<W: Watch>(watch: &W, alloc: Global, documents: &[Merge], fault: Pe
     watch.large_document(id, len);
 }
 
+/// Reports of the document with the most leaves, where the answer about so many of them can't be read that one
+/// request may not hold them.
+fn tell_many<W: Watch>(watch: &W, asked: &[AskedRevisions], fault: PeerFault) {
+    let PeerFault::Unreadable = fault else {
+        return;
+    };
+    let Some(first) = asked.first() else {
+        return;
+    };
+    let mut most = first;
+    let mut all: usize = 0;
+    for document in asked {
+        let leaves = document.revisions.len();
+        all = all.saturating_add(leaves);
+        if leaves > most.revisions.len() {
+            most = document;
+        }
+    }
+    if all > MAX_OF_MORE {
+        watch.many_leaves(&most.id, most.revisions.len(), all);
+    }
+}
+
 impl<P: Peer, W: Watch> Peer for Counted<P, W> {
     ghost goes = { Counts P.goes };
 
@@ -110,7 +136,7 @@ impl<P: Peer, W: Watch> Peer for Counted<P, W> {
         self.watch.asks(self.name, Asked::Changes);
         match self.peer.changes(alloc, since, limit) {
             Ok(page) => {
-                tell_end(&self.watch, since, page.last_seq);
+                tell_page(&self.watch, since, &page);
                 Ok(page)
             }
             Err(fault) => Err(fault),
@@ -127,7 +153,7 @@ impl<P: Peer, W: Watch> Peer for Counted<P, W> {
         self.watch.asks(self.name, Asked::Changes);
         match self.peer.changes_of(alloc, ids, since, limit) {
             Ok(page) => {
-                tell_end(&self.watch, since, page.last_seq);
+                tell_page(&self.watch, since, &page);
                 Ok(page)
             }
             Err(fault) => Err(fault),
@@ -136,10 +162,17 @@ impl<P: Peer, W: Watch> Peer for Counted<P, W> {
 
     fn diff(&mut self, alloc: Global, asked: &NamedRevisions) -> Result<Differences, PeerFault> {
         self.watch.asks(self.name, Asked::Differences);
-        self.peer.diff(alloc, asked)
+        match self.peer.diff(alloc, asked) {
+            Ok(differences) => Ok(differences),
+            Err(fault) => {
+                tell_many(&self.watch, asked.documents(), fault);
+                Err(fault)
+            }
+        }
     }
 
     fn expect(&mut self, alloc: Global, wanted: &[(DocId, RevId)]) {
+        self.watch.asks(self.name, Asked::Revisions);
         self.peer.expect(alloc, wanted);
     }
 
@@ -186,13 +219,7 @@ impl<P: Peer, W: Watch> Peer for Counted<P, W> {
         last_seq: u64,
     ) -> Result<u32, PeerFault> {
         self.watch.asks(self.name, Asked::NewCheckpoint);
-        match self.peer.local_put(alloc, id, named, last_seq) {
-            Ok(counter) => {
-                self.watch.checkpoint(last_seq, self.passed);
-                Ok(counter)
-            }
-            Err(fault) => Err(fault),
-        }
+        self.peer.local_put(alloc, id, named, last_seq)
     }
 
     fn failures(&self) -> u64 {

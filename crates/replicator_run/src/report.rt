@@ -1,6 +1,7 @@
 //! What is said of a replication.
-ghost use Rattle.std.specs.Prelude.{◌≡◌};
-ghost use Rattle.replicator_run.specs.Report.{ending, exit_status};
+ghost use Rattle.std.specs.Prelude.{◌≡◌, ◌↔◌, Err, IsTrue};
+ghost use Rattle.replicator.specs.declared.fault.PeerFault.TheVariants.{Failed};
+ghost use Rattle.replicator_run.specs.Report.{both, ending, exit_status};
 
 use replicator::{PeerFault, Progress};
 
@@ -30,6 +31,28 @@ impl Report {
             Ok(Progress::Going | Progress::Checkpoint(_)) => 1,
             Err(PeerFault::Failed | PeerFault::Memory) => 1,
             Err(PeerFault::Unreadable | PeerFault::Refused) => 3,
+        }
+    }
+
+    /// Whether it ended since an end failed.
+    pub fn has_failed(&self) -> bool
+        ensures { IsTrue result ↔ (self.now.ended ≡ Err Failed) }
+    {
+        matches!(self.ended, Err(PeerFault::Failed))
+    }
+
+    /// What two replications did, of which the other came behind this one: how it ended is how the second did.
+    pub fn then(&self, next: &Report) -> Report
+        ensures { result ≡ both self.now next.now }
+    {
+        Report {
+            documents_read: self.documents_read.saturating_add(next.documents_read),
+            documents_written: self
+                .documents_written
+                .saturating_add(next.documents_written),
+            ended: next.ended,
+            source_failures: next.source_failures,
+            target_failures: next.target_failures,
         }
     }
 

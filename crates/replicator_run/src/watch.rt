@@ -8,36 +8,26 @@ pub trait Watch {
     /// This is asked of an end next.
     fn asks(&self, end: End, asked: Asked);
 
-    /// Both ends have a checkpoint at this update number of the source, which has given so many
-    /// documents.
-    fn checkpoint(&self, last_seq: u64, documents_read: u64);
+    /// The source gave changes up to this number, and says how many are behind them.
+    fn changes(&self, last_seq: u64, pending: u64);
+
+    /// So many documents have passed an end: the source gave them, or the target took them.
+    fn passed(&self, end: End, documents: u64);
 
     /// The target gave no answer that can be read to a bulk of this document alone, whose text has so
     /// many bytes, more than a bulk can hold.
     fn large_document(&self, id: &DocId, len: usize);
 
+    /// The target gave no answer that can be read about the leaves of changes, which are so many that one
+    /// request may not hold them; this document has the most of them.
+    fn many_leaves(&self, id: &DocId, leaves: usize, all: usize);
+
+    /// A document is skipped, since no bulk can hold its text, which has so many bytes.
+    fn skipped_document(&self, id: &DocId, len: usize);
+
+    /// A document is skipped, since it has so many leaves, more than one request can hold.
+    fn skipped_leaves(&self, id: &DocId, leaves: usize);
+
     /// Changes were asked for after this number, and the source ends before it, at the other one.
     fn past_end(&self, since: u64, last_seq: u64);
-}
-
-/// Reports what keeps the target from going on. The source reports the checkpoints.
-#[derive(Clone, Copy, Drop)]
-pub(crate) struct OfTarget<W> {
-    pub(crate) watch: W,
-}
-
-impl<W: Watch> Watch for OfTarget<W> {
-    fn asks(&self, end: End, asked: Asked) {
-        self.watch.asks(end, asked);
-    }
-
-    fn checkpoint(&self, _last_seq: u64, _documents_read: u64) {}
-
-    fn large_document(&self, id: &DocId, len: usize) {
-        self.watch.large_document(id, len);
-    }
-
-    fn past_end(&self, since: u64, last_seq: u64) {
-        self.watch.past_end(since, last_seq);
-    }
 }

@@ -41,7 +41,8 @@ fn make_calls(
         taken: Vec::new(alloc),
         script: writing,
     });
-    let mut peer = HttpPeer::new(alloc, reader, writer);
+    let host = String::from_str(alloc, "db")?;
+    let mut peer = HttpPeer::new(alloc, host, false, reader, writer);
     let mut text = String::new(alloc);
     for call in calls {
         push_call(alloc, &mut text, &mut peer, call)?;

@@ -6,18 +6,20 @@ ghost use Rattle.serde_json.specs.Written.{compact_text};
 ghost use Rattle.document_json.specs.Written.{merge_data};
 ghost use Rattle.replicator_http.specs.Requests.{bulk_data, bulk_request};
 
+use crate::requests::apart::Apart;
 use api_json::append_list;
 use commands::Merge;
 use document_json::merge_text;
-use http_client::request_text;
+use http_client::request_head;
 use std::alloc::{AllocError, Global};
 
 /// Asks to graft documents with their paths.
-pub fn bulk_request(alloc: Global, documents: &[Merge]) -> Result<String, AllocError>
-    ensures request { IfOk result (λ text. string_bytes text ≡ bulk_request documents.now) }
+pub fn bulk_request(alloc: Global, host: &str, documents: &[Merge]) -> Result<Apart, AllocError>
+    ensures request { IfOk result (λ request. request ≡ bulk_request host.now documents.now) }
 {
     let body = bulk_body(alloc, documents)?;
-    request_text(alloc, "POST", "/db/_bulk_docs", body.as_str())
+    let head = request_head(alloc, host, "POST", "/db/_bulk_docs", body.as_str().len())?;
+    Ok(Apart { head, body })
 }
 
 /// The documents, which are no new edits.

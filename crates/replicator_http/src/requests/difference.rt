@@ -8,9 +8,9 @@ use http_client::request_text;
 use std::alloc::{AllocError, Global};
 
 /// Asks which of these revisions are not known.
-pub fn diff_request(alloc: Global, asked: &NamedRevisions) -> Result<String, AllocError>
-    ensures request { IfOk result (λ text. string_bytes text ≡ diff_request asked.now) }
+pub fn diff_request(alloc: Global, host: &str, asked: &NamedRevisions) -> Result<String, AllocError>
+    ensures request { IfOk result (λ text. string_bytes text ≡ diff_request host.now asked.now) }
 {
     let body = append_named_revisions(alloc, String::new(alloc), asked.documents())?;
-    request_text(alloc, "POST", "/db/_revs_diff", body.as_str())
+    request_text(alloc, host, "POST", "/db/_revs_diff", body.as_str())
 }

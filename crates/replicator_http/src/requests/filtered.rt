@@ -16,20 +16,21 @@ use std::alloc::{AllocError, Global};
 /// it.
 pub fn filtered_changes_request(
     alloc: Global,
+    host: &str,
     ids: &DocIds,
     since: u64,
     limit: u64,
 ) -> Result<String, AllocError>
     ensures request { IfOk result (λ text. string_bytes text
-        ≡ filtered_changes_request ids.now since limit) }
+        ≡ filtered_changes_request host.now ids.now since limit) }
 {
     let target = filtered_changes_target(alloc, since, limit)?;
     let body = doc_ids_body(alloc, ids)?;
-    request_text(alloc, "POST", target.as_str(), body.as_str())
+    request_text(alloc, host, "POST", target.as_str(), body.as_str())
 }
 
 /// The documents that are asked for.
-fn doc_ids_body(alloc: Global, ids: &DocIds) -> Result<String, AllocError>
+pub(crate) fn doc_ids_body(alloc: Global, ids: &DocIds) -> Result<String, AllocError>
     ensures { IfOk result (λ text. string_bytes text ≡ compact_text (doc_ids_data ids.now)) }
 {
     let listed = listed(alloc, ids)?;

@@ -13,21 +13,31 @@ use serde_json::Value;
 use std::alloc::{AllocError, Global};
 
 /// Asks for the changes above a number, at most `limit` rows, with all leaves of each document.
-pub fn changes_request(alloc: Global, since: u64, limit: u64) -> Result<String, AllocError>
-    ensures request { IfOk result (λ text. string_bytes text ≡ changes_request since limit) }
+pub fn changes_request(
+    alloc: Global,
+    host: &str,
+    since: u64,
+    limit: u64,
+) -> Result<String, AllocError>
+    ensures request { IfOk result (λ text. string_bytes text ≡ changes_request host.now since limit) }
 {
     let target = changes_target(alloc, since, limit)?;
-    request_text(alloc, "GET", target.as_str(), "")
+    request_text(alloc, host, "GET", target.as_str(), "")
 }
 
 /// Asks for revisions of a document, or for the newest in their place, each with its ancestors.
-pub fn open_revs_request(alloc: Global, id: &DocId, revs: &[RevId]) -> Result<String, AllocError>
+pub fn open_revs_request(
+    alloc: Global,
+    host: &str,
+    id: &DocId,
+    revs: &[RevId],
+) -> Result<String, AllocError>
     ensures request { IfOk result (λ text. string_bytes text
-        ≡ open_revs_request SEGMENT id.now revs.now) }
+        ≡ open_revs_request host.now SEGMENT id.now revs.now) }
 {
     let list = revs_text(alloc, revs)?;
     let target = open_revs_target(alloc, id.as_str(), list.as_str())?;
-    request_text(alloc, "GET", target.as_str(), "")
+    request_text(alloc, host, "GET", target.as_str(), "")
 }
 
 /// The list of the texts of revisions.

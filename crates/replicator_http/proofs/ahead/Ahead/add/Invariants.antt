@@ -5,6 +5,6 @@ use Rattle.replicator_http.proofs.ahead.Ahead.add.Given as goal
 
 abbrev pub invariant-loop-asked : goal.invariant-loop-asked
 invariant-loop-asked l = record {
-  adds : Added l.fn.self l.self l.fn.text.items l.text.items;
+  adds : Added l.fn.host l.fn.self l.self l.fn.text.items l.text.items;
   within : IsWithin l.self;
 }

@@ -1,4 +1,4 @@
-use Rattle.std.proofs.Common.{◌≡◌, ◌+◌, ◌-◌, ◌<◌, ◌≤◌, ◌∷◌, ◌++◌, [], ◌∙◌, length, ap, sym, rules}
+use Rattle.std.proofs.Common.{◌≡◌, ◌-◌, ◌<◌, ◌≤◌, ◌∷◌, ◌++◌, [], ◌∙◌, length, ap, sym, rules}
 use Rattle.std.specs.Prelude.{string_bytes}
 use Rattle.replicator_http.proofs.Queues.{pushed}
 use Rattle.replicator_http.proofs.ahead.Ahead.push.Goals as goal

@@ -1,4 +1,4 @@
-use Rattle.std.proofs.Common.{subst, refl, Ok, Err}
+use Rattle.std.proofs.Common.{string_bytes, subst, refl, Ok, Err}
 use Rattle.replicator_http.specs.Asked.{Reads}
 use Rattle.replicator_http.specs.Connection.{Connection}
 use Rattle.replicator_http.proofs.Calls.{not_needed}
@@ -16,6 +16,7 @@ returns-in-Ok-clause-reads g c =
       ahead = inside.ahead;
       state = inside.state;
       failed_calls = inside.failures;
+      terms = record { host = string_bytes inside.host; skips = inside.skips };
     } in
     subst (λ (k : Connection). Reads k new (Ok c.in-Ok.spans)) c.self.view_is (record {
       read = c.in-Ok.ensures.read;
@@ -26,6 +27,7 @@ returns-in-Ok-clause-reads g c =
       failed_writes = refl;
       ahead = refl;
       state = refl;
+      terms = refl;
     })
 
 pub returns-in-Err-clause-reads : goal.returns-in-Err-clause-reads
@@ -40,6 +42,7 @@ returns-in-Err-clause-reads g c =
       ahead = inside.ahead;
       state = c.state_after-self-inside.result;
       failed_calls = inside.failures;
+      terms = record { host = string_bytes inside.host; skips = inside.skips };
     } in
     subst (λ (k : Connection). Reads k new (Err c.in-Err.fault)) c.self.view_is (record {
       read = c.in-Err.ensures.read;
@@ -50,4 +53,5 @@ returns-in-Err-clause-reads g c =
       failed_writes = refl;
       ahead = refl;
       state = c.state_after-self-inside.ensures;
+      terms = refl;
     })

@@ -1,14 +1,17 @@
-use Rattle.std.proofs.Common.{◌∙◌}
+use Rattle.std.proofs.Common.{◌∙◌, ap, List, ℕ}
+use Rattle.replicator_http.specs.Requests.{bulk_request}
 use Rattle.replicator_http.specs.Told.{bulk_told}
 use Rattle.replicator_http.proofs.Calls.{answered, failed}
 use Rattle.replicator_http.proofs.peer.HttpPeerPeer.bulk.Goals as goal
 
 pub returns-in_err-response-clause-goes : goal.returns-in_err-response-clause-goes
 returns-in_err-response-clause-goes g c =
-    failed bulk_told c.as_str.result.now _ c.args.self.now c.ask.new.self c.in_err-response.field-0.0 c.from_residual-in_err-response.result
-    (c.as_str.ensures.value ∙ c.in_ok-request.ensures.request) c.from_residual-in_err-response.ensures.1 c.in_err-response.ensures.fault
+    let by_host : List ℕ → List ℕ = λ host. bulk_request host c.args.documents.now in
+    failed bulk_told c.in_ok-request.request (λ terms. by_host terms.host) c.args.self.now c.ask_apart.new.self c.in_err-response.field-0.0 c.from_residual-in_err-response.result
+    (c.in_ok-request.ensures.request ∙ ap by_host c.host.ensures) c.from_residual-in_err-response.ensures.1 c.in_err-response.ensures.fault
 
 pub returns-clause-goes : goal.returns-clause-goes
 returns-clause-goes g c =
-    answered bulk_told c.as_str.result.now _ c.args.self.now c.ask.new.self c.take.new.self c.in_ok-response.response c.body.result.now c.bulk_told-taken.result
-    (c.as_str.ensures.value ∙ c.in_ok-request.ensures.request) c.in_ok-response.ensures.come c.take.ensures c.body.ensures c.bulk_told-taken.ensures.told
+    let by_host : List ℕ → List ℕ = λ host. bulk_request host c.args.documents.now in
+    answered bulk_told c.in_ok-request.request (λ terms. by_host terms.host) c.args.self.now c.ask_apart.new.self c.take_told.new.self c.in_ok-response.response c.body.result.now c.bulk_told-taken.result c.take_told.result
+    (c.in_ok-request.ensures.request ∙ ap by_host c.host.ensures) c.in_ok-response.ensures.come c.take_told.ensures.rest c.body.ensures c.take_told.ensures.told c.bulk_told-taken.ensures.told

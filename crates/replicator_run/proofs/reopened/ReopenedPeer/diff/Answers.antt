@@ -1,0 +1,13 @@
+use Rattle.std.proofs.Common.{ap, sym}
+use Rattle.replicator.specs.Call.{Diff}
+use Rattle.replicator_run.proofs.Again.{asked_twice}
+use Rattle.replicator_run.proofs.reopened.ReopenedPeer.diff.Goals as goal
+
+pub returns-clause-goes : goal.returns-clause-goes
+returns-clause-goes g c =
+    let told = Diff c.args.asked.now in
+    asked_twice _ c.args.self.now c.diff-answer.new.self c.diff-again.new.self c.reopen.new.self _ c.counted-2.new.self
+    (told c.diff-answer.result) (told c.diff-again.result) (told c.counted-2.result)
+    c.self.view_is tt c.diff-answer.ensures.goes (ap told (c.has_failed.ensures.0 c.if-not-has_failed.false))
+    (c.reopen.ensures.opened c.if-not-reopen.false) c.self-2.view_is c.diff-again.ensures.goes c.counted-2.ensures.connection
+    (ap told (sym c.counted-2.ensures.answer))
