@@ -4,7 +4,8 @@
 
 Each folder of `crates` has a line, and each line a folder. A crate depends on crates whose lines come before its own, and a group
 on no group after it. What an audit and a journal depend on is small: below `replay` there are at most 24 crates, and below it and
-`journal` none of threads or HTTP.
+`journal` none of threads or HTTP. HTTP and threads meet late: below the theorem on connections there are at most 20 crates, none
+of storage or threads, and above `updater_state` at most 7 of the product.
 """
 import os
 import sys
@@ -14,6 +15,9 @@ from lib.crates import all_below, every, groups
 from lib.programs import CRATES, arguments
 
 MOST_BELOW_REPLAY = 24
+THEOREM = "http_turns"  # the crate of the theorem on connections
+MOST_BELOW_THEOREM = 20
+MOST_ABOVE_UPDATER = 7
 SERVING = ("sockets", "request_log")  # crates of HTTP whose names don't say it
 
 
@@ -48,6 +52,18 @@ def check_audit(checks, lines):
         checks.check(not reached[name] & serving, "%s depends on %s", name, sorted(reached[name] & serving))
 
 
+def check_seam(checks, lines):
+    """HTTP doesn't depend on how a database is stored or shared, and few crates depend on the updater."""
+    reached = all_below({name: line.below for name, line in lines.items()})
+    below = reached[THEOREM]
+    checks.check(len(below) <= MOST_BELOW_THEOREM, "%d crates are below %s: %s", len(below), THEOREM, sorted(below))
+    stored = {*groups()["storage"], *groups()["concurrency"]}
+    for name in (THEOREM, "http_workers", "durable_calls", "session_peer"):
+        checks.check(not reached[name] & stored, "%s depends on %s", name, sorted(reached[name] & stored))
+    above = {name for name, line in lines.items() if "updater_state" in reached[name] and not line.is_aside}
+    checks.check(len(above) <= MOST_ABOVE_UPDATER, "%d crates are above updater_state: %s", len(above), sorted(above))
+
+
 def main():
     arguments(__doc__).parse_args()
     checks, lines = Checks(100), every()
@@ -55,6 +71,7 @@ def main():
     check_order(checks, lines)
     check_groups(checks, lines)
     check_audit(checks, lines)
+    check_seam(checks, lines)
     return checks.report()
 
 

@@ -2,13 +2,13 @@
 use Rattle.std.proofs.Common.{◌≡◌, ℕ, false, Ok, Err, inl, inr, refl, ap, ◌∙◌, arith}
 use Rattle.std.specs.Prelude.{Result, ⊤}
 use Rattle.model.specs.Command.{Command}
-use Rattle.http_response.specs.declared.no_service.Unavailable.TheVariants as unavailable
-use Rattle.http_handlers.specs.Calls.{Learns, LeavesNone, Looks}
-use Rattle.http_handlers.specs.Deeds.{Refreshed, Wrote}
-use Rattle.http_handlers.specs.Known.{Known}
-use Rattle.http_handlers.specs.declared.calls.CallFault.{CallFault}
-use Rattle.http_handlers.specs.declared.calls.CallFault.TheVariants as fault
-use Rattle.http_handlers.proofs.Histories.{looks_only}
+use Rattle.session_api.specs.declared.fault.Unavailable.TheVariants as unavailable
+use Rattle.session_api.specs.Learns.{Learns, LeavesNone, Looks}
+use Rattle.session_api.specs.SessionCall.{Refreshed, Wrote}
+use Rattle.session_api.specs.Known.{Known}
+use Rattle.session_api.specs.declared.fault.CallFault.{CallFault}
+use Rattle.session_api.specs.declared.fault.CallFault.TheVariants as fault
+use Rattle.session_api.proofs.Histories.{looks_only}
 use Rattle.durable_calls.specs.Kept.{journal_fault, refused_by}
 
 module _ (old new : Known) (command : Command) where

@@ -4,13 +4,13 @@ use Rattle.std.specs.Prelude.{Result, nat_lt}
 use Rattle.std.specs.List.{FoldsTo}
 use Rattle.std.proofs.lemmas.Fn.{FoldsTo-push}
 use Rattle.model.specs.History.{IsLegal, base_of}
-use Rattle.http_response.specs.declared.no_service.Unavailable.TheVariants as unavailable
-use Rattle.http_handlers.specs.Calls.{Learns, Looks, RefusesWait}
-use Rattle.http_handlers.specs.Deeds.{Deed, Waited}
-use Rattle.http_handlers.specs.Known.{Known, update_seq_of}
-use Rattle.http_handlers.specs.declared.calls.CallFault.{CallFault}
-use Rattle.http_handlers.specs.declared.calls.CallFault.TheVariants as fault
-use Rattle.http_handlers.proofs.Histories.{looks_itself, looks_then}
+use Rattle.session_api.specs.declared.fault.Unavailable.TheVariants as unavailable
+use Rattle.session_api.specs.Learns.{Learns, Looks, RefusesWait}
+use Rattle.session_api.specs.SessionCall.{SessionCall, Waited}
+use Rattle.session_api.specs.Known.{Known, update_seq_of}
+use Rattle.session_api.specs.declared.fault.CallFault.{CallFault}
+use Rattle.session_api.specs.declared.fault.CallFault.TheVariants as fault
+use Rattle.session_api.proofs.Histories.{looks_itself, looks_then}
 use Rattle.durable_calls.specs.Kept.{WaitsInVain, WaitsKept}
 
 -- a look stays lost, or not
@@ -28,10 +28,10 @@ refused_before old here same (fault.Unavailable unavailable.Overrun) refused = r
 refused_before old here same (fault.Unavailable unavailable.Entry) kept = sym same ∙ kept
 refused_before old here same (fault.Unavailable unavailable.Journal) refused = refused
 
-module _ {S : Type 0} (goes : S → Deed → S → Type 0) (known : S → Known) (seq : ℕ) where
+module _ {S : Type 0} (goes : S → SessionCall → S → Type 0) (known : S → Known) (seq : ℕ) where
   -- so many turns in which nothing came, and what is known then
   pub record Passed (n : ℕ) (old here : S) : Type 0 where
-    pub passed : List Deed
+    pub passed : List SessionCall
     pub runs : FoldsTo (WaitsInVain goes seq) old passed here
     pub count : length passed ≡ n
     pub looks : Looks (known old) (known here)
@@ -62,7 +62,7 @@ module _ {S : Type 0} (goes : S → Deed → S → Type 0) (known : S → Known)
   lost_stays : (n : ℕ) (old here new : S) → Passed n old here → (known old).lost ≡ true → ((known here).lost ≡ true → known new ≡ known here) → known new ≡ known old
   lost_stays zero old here new p lost stays = by_none p.passed p.runs p.count
     where
-      by_none : (passed : List Deed) → FoldsTo (WaitsInVain goes seq) old passed here → length passed ≡ 0 → known new ≡ known old
+      by_none : (passed : List SessionCall) → FoldsTo (WaitsInVain goes seq) old passed here → length passed ≡ 0 → known new ≡ known old
       by_none [] runs none = stays (same_lost (known old) (known here) p.looks ∙ lost) ∙ ap known (sym runs)
       by_none (d ∷ ds) runs some = absurd (omega (arith, some))
   lost_stays (suc n) old here new p lost stays = let not : (known old).lost ≡ false = p.kept (omega arith) in absurd (cc (lost, not))

@@ -2,11 +2,11 @@
 use Rattle.std.specs.Prelude.{◌≡◌, ◌≢◌, ◌⊎◌, ℕ, ◌<◌, ◌≤◌, max, Bool, true, false, List, length, Result, Ok, Err, IfOk, ⊤}
 use Rattle.std.specs.List.{FoldsTo}
 use Rattle.model.specs.Command.{Command}
-use Rattle.http_response.specs.declared.no_service.Unavailable.TheVariants as unavailable
-use Rattle.http_handlers.specs.Deeds.{Deed, Refreshed, Wrote, Waited}
-use Rattle.http_handlers.specs.Known.{Known, update_seq_of}
-use Rattle.http_handlers.specs.declared.calls.CallFault.{CallFault}
-use Rattle.http_handlers.specs.declared.calls.CallFault.TheVariants as fault
+use Rattle.session_api.specs.declared.fault.Unavailable.TheVariants as unavailable
+use Rattle.session_api.specs.SessionCall.{SessionCall, Refreshed, Wrote, Waited}
+use Rattle.session_api.specs.Known.{Known, update_seq_of}
+use Rattle.session_api.specs.declared.fault.CallFault.{CallFault}
+use Rattle.session_api.specs.declared.fault.CallFault.TheVariants as fault
 
 -- the entries up to the place, of which there are some, are among those up to a place of which this is known
 abbrev pub IsPast : (ℕ → Type 0) → ℕ → Type 0
@@ -36,13 +36,13 @@ refused_by (Err (fault.Unavailable unavailable.Entry)) = journal_fault
 refused_by (Err (fault.Unavailable unavailable.Journal)) = journal_fault
 
 -- a turn of a wait in which nothing came
-abbrev pub WaitsInVain : {S : Type 0} → (S → Deed → S → Type 0) → ℕ → S → Deed → S → Type 0
-WaitsInVain goes seq old deed new = (deed ≡ Waited seq 1 (Ok false)) × goes old deed new
+abbrev pub WaitsInVain : {S : Type 0} → (S → SessionCall → S → Type 0) → ℕ → S → SessionCall → S → Type 0
+WaitsInVain goes seq old call new = (call ≡ Waited seq 1 (Ok false)) × goes old call new
 
 -- by what a session does
-module _ {S : Type 0} (goes : S → Deed → S → Type 0) where
+module _ {S : Type 0} (goes : S → SessionCall → S → Type 0) where
   -- Why a wait ends: there were enough turns, the epoch ends since its history is full, or one more turn has another answer.
-  abbrev pub EndsWait : ℕ → ℕ → List Deed → S → Result Bool CallFault → S → Type 0
+  abbrev pub EndsWait : ℕ → ℕ → List SessionCall → S → Result Bool CallFault → S → Type 0
   EndsWait seq turns passed here answer new =
       ((length passed ≡ max turns 1) × (new ≡ here) × (answer ≡ Ok false))
       ⊎ ((0 < length passed) × (new ≡ here) × (answer ≡ Err (fault.Unavailable unavailable.Full)))
@@ -50,7 +50,7 @@ module _ {S : Type 0} (goes : S → Deed → S → Type 0) where
 
   -- it waits turn by turn
   pub record WaitsKept (seq turns : ℕ) (old : S) (answer : Result Bool CallFault) (new : S) : Type 0 where
-    pub passed : List Deed
+    pub passed : List SessionCall
     pub here : S
     pub runs : FoldsTo (WaitsInVain goes seq) old passed here
     pub ends : EndsWait seq turns passed here answer new
@@ -72,7 +72,7 @@ module _ {S : Type 0} (known : S → Known) (is_appended is_kept is_limit : ℕ 
   ShowsUnless has_failed awaits s = Shows awaits s ⊎ has_failed
 
 -- the same, by what a session does too, and what is known once the journal has failed
-module _ {S : Type 0} (goes : S → Deed → S → Type 0) (known : S → Known) (is_appended is_kept is_limit : ℕ → Type 0) (has_failed : Type 0) where
+module _ {S : Type 0} (goes : S → SessionCall → S → Type 0) (known : S → Known) (is_appended is_kept is_limit : ℕ → Type 0) (has_failed : Type 0) where
   -- the journal had failed before, and it only looked
   abbrev pub RefusesKept : S → Result ℕ CallFault → S → Type 0
   RefusesKept old answer new = has_failed × ((looked : Result ⊤ CallFault) × goes old (Refreshed looked) new × (answer ≡ Err (refused_by looked)))
@@ -83,7 +83,7 @@ module _ {S : Type 0} (goes : S → Deed → S → Type 0) (known : S → Known)
       (wrote : Result ℕ CallFault) × goes old (Wrote command wrote) new × IsKeptAs known is_appended is_kept is_limit awaits new wrote answer
 
   -- by this call with this answer it goes from one state to another, and whether it awaits what is kept stays
-  abbrev pub GoesKept : S × Bool → Deed → S × Bool → Type 0
+  abbrev pub GoesKept : S × Bool → SessionCall → S × Bool → Type 0
   GoesKept old (Refreshed answer) new =
       goes old.0 (Refreshed answer) new.0
       × IfOk answer (λ _. ShowsUnless known is_appended is_kept is_limit has_failed old.1 new.0)

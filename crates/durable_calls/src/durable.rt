@@ -1,19 +1,20 @@
 //! A session that answers only what a journal has.
 ghost use Rattle.std.specs.Prelude.{◌≡◌, ⊤, Ok, Err, Result, IfOk};
 ghost use Rattle.model.specs.Command as model;
-ghost use Rattle.http_handlers.specs.Calls.{Learns};
-ghost use Rattle.http_handlers.specs.Deeds as deed;
-ghost use Rattle.http_handlers.specs.declared.calls.CallFault as declared;
+ghost use Rattle.session_api.specs.Learns.{Learns};
+ghost use Rattle.session_api.specs.SessionCall as call;
+ghost use Rattle.session_api.specs.declared.fault.CallFault as declared;
 ghost use Rattle.durable_calls.specs.Kept.{GoesKept, IsKeptAs, Shows, ShowsUnless, WaitsKept, refused_by};
 ghost use Rattle.durable_calls.specs.declared.kept_place.NotShown.TheVariants as not_shown;
 
 use crate::keeping::Keeping;
 use crate::kept_place::{KeptPlace, NotShown};
 use crate::passes::Passes;
-use commands::Command;
-use http_handlers::{CallFault, Calls, Viewer};
-use http_response::Unavailable;
-use snapshots::Version;
+use commands::{Command, Entry};
+use document_id::DocIds;
+use queries::{Answer, Query, Row};
+use session_api::{CallFault, Calls, Following, Unavailable, Viewer};
+use std::alloc::{AllocError, Global};
 use std::marker::Model;
 use std::sync::Wait;
 
@@ -94,7 +95,7 @@ impl<'p, S: Viewer, N: Keeping, P: Passes<R>, R: Wait> Durable<'p, S, N, P, R> {
         ensures shown { IfOk result (λ _. Shows S.known N.is_appended N.is_kept N.is_limit self.now.1 self.now.0) }
         ensures failed { result ≡ Err not_shown.Failed → N.has_failed }
     {
-        let number = self.session.version().database().documents().update_seq();
+        let number = self.session.update_seq();
         let place = self.session.place();
         self.place
             .wait_for(self.rt, self.passes, place, number, self.awaits)
@@ -114,7 +115,7 @@ impl<'p, S: Viewer, N: Keeping, P: Passes<R>, R: Wait> Durable<'p, S, N, P, R> {
     }
 
     /// What is answered to a write whose entry has this place.
-    fn answer(&self, place: u64) -> Result<u64, CallFault>
+    fn answer_kept(&self, place: u64) -> Result<u64, CallFault>
         ensures kept { IsKeptAs S.known N.is_appended N.is_kept N.is_limit self.now.1 self.now.0 (Ok place) result }
     {
         match self.wait_to_show() {
@@ -125,8 +126,8 @@ impl<'p, S: Viewer, N: Keeping, P: Passes<R>, R: Wait> Durable<'p, S, N, P, R> {
 
     /// Why nothing is written once the journal has failed: a session that is lost says so.
     fn refuse(&mut self) -> CallFault
-        ensures refused { (looked : Result ⊤ declared.CallFault) × S.goes self.old.0 (deed.Refreshed looked) self.new.0
-            × Learns (S.known self.old.0) (deed.Refreshed looked) (S.known self.new.0)
+        ensures refused { (looked : Result ⊤ declared.CallFault) × S.goes self.old.0 (call.Refreshed looked) self.new.0
+            × Learns (S.known self.old.0) (call.Refreshed looked) (S.known self.new.0)
             × (result ≡ refused_by looked) }
         ensures same { self.new.1 ≡ self.old.1 }
     {
@@ -142,14 +143,35 @@ impl<'p, S: Viewer, N: Keeping, P: Passes<R>, R: Wait> Durable<'p, S, N, P, R> {
 impl<'p, S: Viewer, N: Keeping, P: Passes<R>, R: Wait> Viewer for Durable<'p, S, N, P, R> {
     ghost known = { λ d. S.known d.0 };
 
-    ghost goes = { λ old deed new. GoesKept S.goes S.known N.is_appended N.is_kept N.is_limit N.has_failed old deed new };
+    ghost goes = { λ old call new. GoesKept S.goes S.known N.is_appended N.is_kept N.is_limit N.has_failed old call new };
 
     fn place(&self) -> u64 {
         self.session.place()
     }
 
-    fn version(&self) -> &Version {
-        self.session.version()
+    fn entry(&self, place: u64) -> Option<&Entry> {
+        self.session.entry(place)
+    }
+
+    fn answer(&self, alloc: Global, query: &Query) -> Result<Answer, AllocError> {
+        self.session.answer(alloc, query)
+    }
+
+    fn update_seq(&self) -> u64 {
+        self.session.update_seq()
+    }
+
+    fn count_changes(&self, since: u64, ids: &Option<DocIds>) -> u64 {
+        self.session.count_changes(since, ids)
+    }
+
+    fn next_rows(
+        &self,
+        alloc: Global,
+        following: &mut Following,
+        limit: u64,
+    ) -> Result<Vec<Row>, AllocError> {
+        self.session.next_rows(alloc, following, limit)
     }
 
     /// It waits until what it sees may be shown.
@@ -167,7 +189,7 @@ impl<'p, X: Wait, S: Calls<X>, N: Keeping, P: Passes<R>, R: Wait> Calls<X>
             return Err(self.refuse());
         }
         match self.session.write(context, command) {
-            Ok(place) => self.answer(place),
+            Ok(place) => self.answer_kept(place),
             Err(fault) => {
                 if fault == CallFault::Unavailable(Unavailable::Full) {
                     self.place.ask();
@@ -194,7 +216,7 @@ fn wait_by_turns<X: Wait, S: Calls<X>, N: Keeping>(
     turns: u64,
 ) -> Result<bool, CallFault>
     ensures waits { WaitsKept S.goes seq turns session.old result session.new }
-    ensures learns { Learns (S.known session.old) (deed.Waited seq turns result) (S.known session.new) }
+    ensures learns { Learns (S.known session.old) (call.Waited seq turns result) (S.known session.new) }
 {
     let _recalled = session.place();
     for _turn in 0..turns.max(1) {

@@ -1,9 +1,9 @@
 -- What the sessions of a server come to.
-use Rattle.std.proofs.Common.{◌≡◌, ℕ, ◌<◌, ◌-◌, List, length, map, take, drop, ◌++◌, [], ◌∷◌, Option, None, Some, sym, refl, ◌∙◌, ap, subst, arith, slice_index_or}
+use Rattle.std.proofs.Common.{◌≡◌, ℕ, ◌<◌, ◌≤◌, ◌-◌, List, length, map, take, drop, ◌++◌, [], ◌∷◌, Option, None, Some, sym, refl, ◌∙◌, ap, subst, arith, slice_index_or}
 use Rattle.std.specs.Prelude.{IfNone}
 use Rattle.std.specs.List.{range_with_len}
 use Rattle.std.proofs.lemmas.Option.{none-some}
-use Rattle.std.proofs.lemmas.List.{take-append-le, take_all}
+use Rattle.std.proofs.lemmas.List.{length-take, take-append-le, take_all}
 use Rattle.std.proofs.lemmas.List.FromFn.{get_or-map-range_with_len, length-map-range_with_len}
 use Rattle.model.specs.Database.{Database}
 use Rattle.model.specs.World.{Config}
@@ -11,9 +11,9 @@ use Rattle.streams.specs.Streams.{Streams}
 use Rattle.http_connection.specs.declared.outcome.Ended.{Ended}
 use Rattle.sessions.specs.Known.{Known as KnownOfThreads, fresh}
 use Rattle.history_lock.specs.Ending.{Ending, Ends}
-use Rattle.http_handlers.specs.Listening.{ServesAll}
-use Rattle.http_handlers.specs.Connection.{IsConnection}
-use Rattle.http_handlers.specs.Sessions.{Goes, known_of as known_of_session}
+use Rattle.http_workers.specs.Worker.{ServesAll}
+use Rattle.http_turns.specs.Connection.{IsConnection}
+use Rattle.session_calls.specs.Sessions.{Goes, known_of as known_of_session}
 use Rattle.http_front.specs.Opening.{GoesBy, known_of}
 use Rattle.http_front.specs.Once.{ServesDatabase, once_turns}
 use Rattle.http_front.specs.Server.{ServesSessions}
@@ -58,6 +58,10 @@ pub serves_closed : (base : Option Database) (config : Config) (turns connection
 serves_closed base config turns connections len items lent new closed opened is long kept serves ends =
     let all : take len (new ++ drop (length new) items) ≡ new = take-append-le len new (drop (length new) items) (omega (arith, long, kept)) ∙ take_all len new (omega (arith, long, kept)) in
     serves_sessions base config turns connections lent new closed (is ∙ opened) kept serves (subst (λ (after : List KnownOfThreads). Ends base after closed) all ends)
+
+-- no more of them come back than were lent
+pub lent_back : (items after : List KnownOfThreads) (len most : ℕ) → len ≡ length items → length items ≤ most → length (take len after) ≤ most
+lent_back items after len most long within = omega (arith, length-take len after)
 
 -- the same where a name gives the numbers
 pub serves_named : (base : Option Database) (config told : Config) (sessions queue turns connections len : ℕ) (items lent new : List KnownOfThreads) (closed : Ending)

@@ -8,7 +8,7 @@ use Rattle.http_connection.specs.declared.outcome.Ended.{Ended}
 use Rattle.http_connection.specs.declared.outcome.Cause.{Cause}
 use Rattle.http_connection.specs.declared.outcome.Cause.TheVariants as cause
 use Rattle.sessions.specs.Known.{Known as KnownOfThreads, fresh}
-use Rattle.http_handlers.specs.Connection.{IsConnection}
+use Rattle.http_turns.specs.Connection.{IsConnection}
 use Rattle.http_front.specs.Opening.{GoesBy, known_of, program_config}
 
 -- the exit status

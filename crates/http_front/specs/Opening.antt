@@ -3,9 +3,9 @@ use Rattle.std.specs.Prelude.{ℕ, Option}
 use Rattle.model.specs.Database.{Database}
 use Rattle.model.specs.World.{Config}
 use Rattle.sessions.specs.Known.{Known as KnownOfThreads}
-use Rattle.http_handlers.specs.Deeds.{Deed}
-use Rattle.http_handlers.specs.Known.{Known}
-use Rattle.http_handlers.specs.Sessions.{Goes, known_of as known_of_session}
+use Rattle.session_api.specs.SessionCall.{SessionCall}
+use Rattle.session_api.specs.Known.{Known}
+use Rattle.session_calls.specs.Sessions.{Goes, known_of as known_of_session}
 
 -- the numbers of a database with so many sessions, whose history may have so many entries
 abbrev pub server_config : ℕ → ℕ → Config
@@ -22,5 +22,5 @@ module _ (base : Option Database) (config : Config) where
   known_of k = known_of_session base config config.sessions config.queue k
 
   -- by this call with this answer a session goes from what it knew to what it knows
-  abbrev pub GoesBy : KnownOfThreads → Deed → KnownOfThreads → Type 0
-  GoesBy old deed new = Goes base config config.sessions config.queue old deed new
+  abbrev pub GoesBy : KnownOfThreads → SessionCall → KnownOfThreads → Type 0
+  GoesBy old call new = Goes base config config.sessions config.queue old call new

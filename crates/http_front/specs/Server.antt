@@ -4,7 +4,7 @@ use Rattle.model.specs.Database.{Database}
 use Rattle.model.specs.World.{Config}
 use Rattle.history_lock.specs.Ending.{Ending, Ends}
 use Rattle.sessions.specs.Known.{Known as KnownOfThreads, fresh}
-use Rattle.http_handlers.specs.Listening.{ServesAll}
+use Rattle.http_workers.specs.Worker.{ServesAll}
 use Rattle.http_front.specs.Opening.{GoesBy, known_of, server_config}
 
 -- how often a wait for changes looks

@@ -7,7 +7,7 @@ ghost use Rattle.http_front.specs.Dumping.{DumpsOnce, WritesDump};
 
 use crate::dumps::dump;
 use crate::nowhere::Nowhere;
-use crate::once::{exit_status, serve_opened};
+use crate::once::{exit_status, serve_one};
 use crate::opening::{MAX_PLACES, NOT_OPENED, server_config};
 use history_lock::{Closed, Opened};
 use std::alloc::Global;
@@ -55,7 +55,7 @@ fn dump_opened<J: Opening, T: Wait + Drop, R: Source, W: Sink, A: AllocGlobal + 
         result }
 {
     let mut nowhere = Nowhere;
-    let Some((ended, closed)) = serve_opened::<J, T, R, Nowhere, A>(
+    let Some((ended, closed)) = serve_one::<J, T, R, Nowhere, A>(
         reader,
         &mut nowhere,
         rt,

@@ -9,13 +9,15 @@ mod dumps;
 mod nowhere;
 mod once;
 mod opening;
+mod running;
 mod server;
 
 pub use dumping::run_dump;
 pub use dumps::dump;
-pub use http_handlers::{
-    CallFault, Calls, Lines, Pace, Setting, Terms, Viewer, Watch, Workers, listen, serve,
-};
+pub use http_turns::{Setting, serve};
+pub use http_workers::{Lines, Pace, Terms, Watch, Workers, listen};
 pub use once::run_once;
 pub use opening::{MAX_PLACES, server_config};
+pub use running::Running;
 pub use server::{SERVER_TURNS, run_server};
+pub use session_api::{CallFault, Calls, Viewer};

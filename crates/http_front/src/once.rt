@@ -7,14 +7,16 @@ ghost use Rattle.http_front.specs.Once.{ServesDatabase, ServesOnce, exit_status}
 ghost use Rattle.http_front.specs.Opening.{program_config};
 
 use crate::opening::{MAX_PLACES, NOT_OPENED, server_config};
-use history_lock::{Closed, Opened, open};
+use crate::running::Running;
+use history_lock::{Closed, Opened};
 use http_connection::{Cause, Ended};
-use http_handlers::{Setting, serve};
+use http_turns::serve;
+use session_api::Viewer;
 use std::marker::Brand;
 use std::sync::Wait;
 use std::time::Clock;
 use streams::{Sink, Source};
-use updater_state::{NoGate, Opening};
+use updater_state::Opening;
 
 /// Nobody else changes the database, so a wait for changes looks once.
 const TURNS: u64 = 1;
@@ -63,9 +65,8 @@ fn once_opened<J: Opening, T: Wait + Drop, R: Source, W: Sink, A: AllocGlobal + 
         (streams_of (R.left reader.new) (R.failed_reads reader.new) (W.taken writer.new) (W.failed_writes writer.new))
         result }
 {
-    let Some((ended, _closed)) = serve_opened::<J, T, R, W, A>(
-        reader, writer, rt, writer_rt, opened,
-    ) else {
+    let Some((ended, _closed)) = serve_one::<J, T, R, W, A>(reader, writer, rt, writer_rt, opened)
+    else {
         return NOT_OPENED;
     };
     exit_status(ended.cause)
@@ -74,7 +75,7 @@ fn once_opened<J: Opening, T: Wait + Drop, R: Source, W: Sink, A: AllocGlobal + 
 /// Serves a database of one session, whose writer keeps a runtime of its own, to one connection, and
 /// closes it. Nothing where it was not opened, or memory for the routes was refused: then nothing was
 /// read.
-pub(crate) fn serve_opened<
+pub(crate) fn serve_one<
     J: Opening,
     T: Wait + Drop,
     R: Source,
@@ -96,17 +97,20 @@ pub(crate) fn serve_opened<
     ensures same_reader { IfNone result (reader.new ≡ reader.old) }
     ensures same_writer { IfNone result (writer.new ≡ writer.old) }
 {
-    let Ok((master, mut sessions)) = open::<T, J, NoGate>(writer_rt, opened, NoGate) else {
-        return None;
-    };
-    let Ok(setting) = Setting::new(rt.alloc(), rt, TURNS) else {
+    let Some((running, mut sessions)) = Running::<T, J, A>::start(
+        rt.alloc(),
+        writer_rt,
+        opened,
+        rt,
+        TURNS,
+    ) else {
         return None;
     };
     let Some(mut session) = sessions.pop() else {
         return None;
     };
-    let ended = serve(rt.alloc(), reader, writer, &mut session, &setting);
+    let ended = serve(rt.alloc(), reader, writer, &mut session, &running.setting);
     let _recalled = session.place();
     sessions.push_reserved(session);
-    Some((ended, master.close(sessions, rt)))
+    Some((ended, running.end(sessions, rt)))
 }

@@ -5,15 +5,16 @@ ghost use Rattle.http_front.specs.Opening.{server_config};
 ghost use Rattle.http_front.specs.Server.{ServesListener, ServesSessions, server_status, server_turns};
 
 use crate::opening::{NOT_OPENED, server_config};
+use crate::running::Running;
 use commands::Config;
-use history_lock::{Opened, open};
-use http_handlers::{Setting, Terms, Watch, Workers, listen};
+use history_lock::Opened;
+use http_workers::{Terms, Watch, Workers, listen};
 use std::marker::Brand;
 use std::net::TcpListener;
 use std::sync::Wait;
 use std::thread::Threads;
 use std::time::Clock;
-use updater_state::{NoGate, Opening};
+use updater_state::Opening;
 
 /// So often a wait for changes looks, which is about two minutes.
 pub const SERVER_TURNS: u64 = 100_000;
@@ -69,13 +70,13 @@ fn serve_empty<A: AllocGlobal + Threads + Wait + Clock + Sync, V: Watch + Sync>(
     let Ok(opened) = Opened::new(rt.alloc(), config) else {
         return false;
     };
-    serve_opened::<Brand, &A, A, V>(listener, config, terms, workers, rt, rt, opened)
+    serve_all::<Brand, &A, A, V>(listener, config, terms, workers, rt, rt, opened)
 }
 
 /// Serves a database that was opened with these numbers, whose writer keeps a runtime of its own, and answers whether
 /// it was opened.
 #[tactic(auto, unfolding(crate::specs::Server::server_turns))]
-fn serve_opened<
+fn serve_all<
     J: Opening + Send + Sync,
     R: Wait + Drop + Send,
     A: AllocGlobal + Threads + Wait + Clock + Sync,
@@ -93,10 +94,13 @@ fn serve_opened<
     requires config { opened.config ≡ config }
     ensures { IsTrue result → ServesSessions J.base config server_turns terms.connections }
 {
-    let Ok((master, mut sessions)) = open::<R, J, NoGate>(writer_rt, opened, NoGate) else {
-        return false;
-    };
-    let Ok(setting) = Setting::new(rt.alloc(), rt, SERVER_TURNS) else {
+    let Some((running, mut sessions)) = Running::<R, J, A>::start(
+        rt.alloc(),
+        writer_rt,
+        opened,
+        rt,
+        SERVER_TURNS,
+    ) else {
         return false;
     };
     listen(
@@ -105,9 +109,9 @@ fn serve_opened<
         sessions.as_mut_slice(),
         terms,
         None,
-        &setting,
+        &running.setting,
         workers,
     );
-    let _closed = master.close(sessions, rt);
+    let _closed = running.end(sessions, rt);
     true
 }

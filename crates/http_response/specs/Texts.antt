@@ -16,8 +16,8 @@ use Rattle.http_response.specs.declared.connection.Connection.{Connection}
 use Rattle.http_response.specs.declared.connection.Connection.TheVariants as connection
 use Rattle.http_response.specs.declared.memory.MemoryFor.{MemoryFor}
 use Rattle.http_response.specs.declared.memory.MemoryFor.TheVariants as memory_for
-use Rattle.http_response.specs.declared.no_service.Unavailable.{Unavailable}
-use Rattle.http_response.specs.declared.no_service.Unavailable.TheVariants as unavailable
+use Rattle.session_api.specs.declared.fault.Unavailable.{Unavailable}
+use Rattle.session_api.specs.declared.fault.Unavailable.TheVariants as unavailable
 
 -- ---- what is said without a call of the database
 

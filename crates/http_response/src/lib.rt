@@ -29,7 +29,7 @@ pub use feed::{FEED_HEAD_ROOM, FEED_LAST_ROOM, feed_head, feed_last};
 pub use fixed::{refused, welcome};
 pub use measured::long_len;
 pub use memory::{MemoryFor, no_memory};
-pub use no_service::{Unavailable, service_unavailable};
+pub use no_service::service_unavailable;
 pub use pieces::{Cut, PIECE, Pieces};
 pub use replied::reply;
 pub use response::Response;

@@ -6,27 +6,7 @@ use crate::body::BodyText;
 use crate::connection::Connection;
 use crate::response::Response;
 use crate::status::StatusCode;
-
-/// Why a call has no answer, though memory was there. It left no entry, but for [`Unavailable::Lost`] and
-/// [`Unavailable::Journal`].
-#[derive(Clone, Copy, Debug, PartialEq, Eq)]
-pub enum Unavailable {
-    /// The queue of commands was full.
-    Busy,
-    /// The session is lost: the call that lost it may have an entry, and each later call is answered so.
-    Lost,
-    /// The history has as many entries as it has room for.
-    Full,
-    /// A compaction did not catch up with the edits.
-    Behind,
-    /// More was purged beside a compaction than the log of purges keeps.
-    Overrun,
-    /// The session could not enter what is published, or a share of it was refused.
-    Entry,
-    /// The journal of the history failed: an entry of the call, if there is one, may be lost when the server
-    /// ends.
-    Journal,
-}
+use session_api::Unavailable;
 
 /// The response to a call that has no answer.
 #[tactic(auto, unfolding(crate::specs::Texts::unavailable_text))]

@@ -5,8 +5,8 @@ use mathlib.Core.List.{IsPrefix}
 use Rattle.model.specs.Command.{Entry}
 use Rattle.model.specs.Database.{Database}
 use Rattle.model.specs.History.{Chronicle, Extends}
-use Rattle.http_handlers.specs.Calls.{Looks}
-use Rattle.http_handlers.specs.Known.{Known, history_of}
+use Rattle.session_api.specs.Learns.{Looks}
+use Rattle.session_api.specs.Known.{Known, history_of}
 use Rattle.journal.specs.Appending.{lines_above}
 use Rattle.journal.specs.Held.{BeginsDump}
 use Rattle.journal.specs.Kept.{Kept}

@@ -5,10 +5,10 @@ use Rattle.std.proofs.lemmas.List.{append-nil, nil_from_length}
 use Rattle.model.specs.Command.{Entry}
 use Rattle.model.specs.Database.{Database}
 use Rattle.model.specs.History.{Chronicle, IsLegal, base_of, now, successor}
-use Rattle.http_handlers.specs.Calls.{Learns, Looks}
-use Rattle.http_handlers.specs.Deeds.{Refreshed}
-use Rattle.http_handlers.specs.Known.{Known, history_of}
-use Rattle.http_handlers.specs.declared.calls.CallFault.{CallFault}
+use Rattle.session_api.specs.Learns.{Learns, Looks}
+use Rattle.session_api.specs.SessionCall.{Refreshed}
+use Rattle.session_api.specs.Known.{Known, history_of}
+use Rattle.session_api.specs.declared.fault.CallFault.{CallFault}
 use Rattle.journal.specs.Kept.{Kept}
 use Rattle.replay_cli.specs.Successors.{raise}
 use Rattle.journal.specs.Held.{AreDump, BeginsDump, HoldsDump}

@@ -11,10 +11,10 @@ use Rattle.model.specs.World.{Config}
 use Rattle.sessions.specs.Known.{Known as KnownOfThreads, fresh, seen}
 use Rattle.history_lock.specs.Ending.{Ending, Ends}
 use Rattle.history_lock.specs.Successors.{last_database}
-use Rattle.http_handlers.specs.Deeds.{Deed}
-use Rattle.http_handlers.specs.Known.{Known}
-use Rattle.http_handlers.specs.Listening.{ServesSome}
-use Rattle.http_handlers.specs.Sessions.{Goes, known_of as known_of_session}
+use Rattle.session_api.specs.SessionCall.{SessionCall}
+use Rattle.session_api.specs.Known.{Known}
+use Rattle.http_workers.specs.Worker.{ServesSome}
+use Rattle.session_calls.specs.Sessions.{Goes, known_of as known_of_session}
 use Rattle.durable_calls.specs.Kept.{GoesKept}
 use Rattle.journal_front.specs.Server.{ServesDurably, ServesKept}
 
@@ -23,7 +23,7 @@ module _ (base : Option Database) (is_appended is_kept is_limit : ℕ → Type 0
   -- sessions served, by these numbers
   abbrev pub ServesAs : Bool → ℕ → ℕ → Config → ℕ → ℕ → List KnownOfThreads → List KnownOfThreads → Type 0
   ServesAs waits turns connections config sessions queue before after =
-      ServesDurably (λ (o : KnownOfThreads) (d : Deed) (n : KnownOfThreads). Goes base config sessions queue o d n) (λ (k : KnownOfThreads). known_of_session base config sessions queue k)
+      ServesDurably (λ (o : KnownOfThreads) (d : SessionCall) (n : KnownOfThreads). Goes base config sessions queue o d n) (λ (k : KnownOfThreads). known_of_session base config sessions queue k)
       is_appended is_kept is_limit has_failed waits turns connections before after
 
   -- what is said by the numbers of a name holds by those that the database was opened with
@@ -58,9 +58,9 @@ module _ (base : Option Database) (is_appended is_kept is_limit : ℕ → Type 0
           each = λ i d within.
               let less : i < length opened - 1 = omega (arith, within, served.count, rest_count) in
               let here : i < length (take (length opened - 1) opened) = omega (arith, within, served.count) in
-              subst (λ (k : KnownOfThreads). ServesSome (λ (old : KnownOfThreads × Bool) (deed : Deed) (new : KnownOfThreads × Bool).
-              GoesKept (λ (o : KnownOfThreads) (e : Deed) (n : KnownOfThreads). Goes base told told.sessions told.queue o e n) (λ (o : KnownOfThreads). known_of_session base told told.sessions told.queue o)
-              is_appended is_kept is_limit has_failed old deed new)
+              subst (λ (k : KnownOfThreads). ServesSome (λ (old : KnownOfThreads × Bool) (call : SessionCall) (new : KnownOfThreads × Bool).
+              GoesKept (λ (o : KnownOfThreads) (e : SessionCall) (n : KnownOfThreads). Goes base told told.sessions told.queue o e n) (λ (o : KnownOfThreads). known_of_session base told told.sessions told.queue o)
+              is_appended is_kept is_limit has_failed old call new)
               (λ (k : KnownOfThreads × Bool). known_of_session base told told.sessions told.queue k.0) turns connections (k, waits) (slice_index_or served.finals i d)) (rest_at i d.0 less) (served.each i d here);
           ends = subst (λ (ks : List KnownOfThreads). Ends base (ks ++ keeper ∷ []) end) served.after_is ends;
         }
@@ -99,11 +99,11 @@ next_over over next (Some e) last here places seen_places all begun (same, from)
     subst (λ (n : Option _). IfSome (option_map over n) (λ base. base ≡ Some (successor here))) from begun ∙ ap (λ (d : Database). Some (successor d)) (sym (all same))
 
 -- sessions that answer what a journal has, and await or not that it is kept, served
-module _ {S : Type 0} (goes : S → Deed → S → Type 0) (known : S → Known) (is_appended is_kept is_limit : ℕ → Type 0) (has_failed : Type 0) where
+module _ {S : Type 0} (goes : S → SessionCall → S → Type 0) (known : S → Known) (is_appended is_kept is_limit : ℕ → Type 0) (has_failed : Type 0) where
   pub served_durably : (waits told : Bool) (turns connections : ℕ) (before after : List S) (durable finals : List (S × Bool))
       → told ≡ waits → durable ≡ map (λ (s : S). (s, told)) before → length finals ≡ length durable
       → ((i : ℕ) (d : S × Bool) → i < length durable
-      → ServesSome (λ (old : S × Bool) (deed : Deed) (new : S × Bool). GoesKept goes known is_appended is_kept is_limit has_failed old deed new) (λ (k : S × Bool). known k.0) turns connections
+      → ServesSome (λ (old : S × Bool) (call : SessionCall) (new : S × Bool). GoesKept goes known is_appended is_kept is_limit has_failed old call new) (λ (k : S × Bool). known k.0) turns connections
       (slice_index_or durable i d) (slice_index_or finals i d))
       → after ≡ map (λ (k : S × Bool). k.0) finals → ServesDurably goes known is_appended is_kept is_limit has_failed waits turns connections before after
   served_durably waits told turns connections before after durable finals told_is durable_is same serves after_is =
@@ -116,7 +116,7 @@ module _ {S : Type 0} (goes : S → Deed → S → Type 0) (known : S → Known)
         each = λ i d within.
             let at : slice_index_or durable i d ≡ (slice_index_or before i d.0, waits) =
             ap (λ (ks : List (S × Bool)). slice_index_or ks i d) each_is ∙ get_or-map (λ (s : S). (s, waits)) before i d.0 d within in
-            subst (λ (k : S × Bool). ServesSome (λ (old : S × Bool) (deed : Deed) (new : S × Bool). GoesKept goes known is_appended is_kept is_limit has_failed old deed new) (λ (k : S × Bool). known k.0) turns connections
+            subst (λ (k : S × Bool). ServesSome (λ (old : S × Bool) (call : SessionCall) (new : S × Bool). GoesKept goes known is_appended is_kept is_limit has_failed old call new) (λ (k : S × Bool). known k.0) turns connections
             k (slice_index_or finals i d)) at (serves i d (omega (arith, within, long)));
       }
 

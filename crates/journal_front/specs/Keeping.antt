@@ -3,7 +3,7 @@ use Rattle.std.specs.Prelude.{◌≡◌, ◌⊎◌, ℕ, ◌+◌, ◌≤◌, tru
 use Rattle.model.specs.Database.{Database}
 use Rattle.model.specs.History.{Chronicle, IsLegal, Extends, base_of, now, successor}
 use Rattle.replay_cli.specs.Successors.{raise}
-use Rattle.http_handlers.specs.Known.{Known, history_of}
+use Rattle.session_api.specs.Known.{Known, history_of}
 use Rattle.journal.specs.Kept.{Kept}
 use Rattle.journal.specs.Held.{BeginsDump, HoldsDump}
 

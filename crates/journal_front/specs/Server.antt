@@ -7,10 +7,10 @@ use Rattle.model.specs.World.{Config}
 use Rattle.history_lock.specs.Ending.{Ending, Ends}
 use Rattle.history_lock.specs.Successors.{last_database}
 use Rattle.sessions.specs.Known.{Known as KnownOfThreads, fresh}
-use Rattle.http_handlers.specs.Deeds.{Deed}
-use Rattle.http_handlers.specs.Known.{Known}
-use Rattle.http_handlers.specs.Listening.{ServesSome}
-use Rattle.http_handlers.specs.Sessions.{Goes, known_of as known_of_session}
+use Rattle.session_api.specs.SessionCall.{SessionCall}
+use Rattle.session_api.specs.Known.{Known}
+use Rattle.http_workers.specs.Worker.{ServesSome}
+use Rattle.session_calls.specs.Sessions.{Goes, known_of as known_of_session}
 use Rattle.durable_calls.specs.Kept.{GoesKept}
 use Rattle.journal.specs.Held.{BeginsDump, HoldsDump}
 use Rattle.journal.specs.Kept.{Kept}
@@ -42,24 +42,24 @@ is_due policy.Never last came = false
 
 -- By what a session does and knows, where this is known of the places up to which a journal has entries, of the limits of its
 -- numbers, and once the journal has failed.
-module _ {S : Type 0} (goes : S → Deed → S → Type 0) (known : S → Known) (is_appended is_kept is_limit : ℕ → Type 0) (has_failed : Type 0) where
+module _ {S : Type 0} (goes : S → SessionCall → S → Type 0) (known : S → Known) (is_appended is_kept is_limit : ℕ → Type 0) (has_failed : Type 0) where
   -- sessions served connections, each of which answered what the journal has, and awaited or not that it is kept
   pub record ServesDurably (waits : Bool) (turns connections : ℕ) (before after : List S) : Type 0 where
     pub finals : List (S × Bool)
     pub after_is : after ≡ map (λ (k : S × Bool). k.0) finals
     pub count : length finals ≡ length before
     pub each : (i : ℕ) (d : S × Bool) → i < length before
-        → ServesSome (λ old deed new. GoesKept goes known is_appended is_kept is_limit has_failed old deed new) (λ (k : S × Bool). known k.0) turns connections
+        → ServesSome (λ old call new. GoesKept goes known is_appended is_kept is_limit has_failed old call new) (λ (k : S × Bool). known k.0) turns connections
         (slice_index_or before i d.0, waits) (slice_index_or finals i d)
 
 -- Of a database over this base that was opened with these numbers, where this is known of the places up to which its journal has
 -- entries, of the limits of its numbers, and once the journal has failed.
 module _ (base : Option Database) (config : Config) (is_appended is_kept is_limit : ℕ → Type 0) (has_failed : Type 0) where
   -- by this call with this answer a session goes from one state to another
-  abbrev pub GoesBy : KnownOfThreads × Bool → Deed → KnownOfThreads × Bool → Type 0
-  GoesBy old deed new =
+  abbrev pub GoesBy : KnownOfThreads × Bool → SessionCall → KnownOfThreads × Bool → Type 0
+  GoesBy old call new =
       GoesKept (λ o d n. Goes base config config.sessions config.queue o d n) (λ k. known_of_session base config config.sessions config.queue k)
-      is_appended is_kept is_limit has_failed old deed new
+      is_appended is_kept is_limit has_failed old call new
 
   -- what a connection sees of what a session knows
   abbrev pub known_of : KnownOfThreads × Bool → Known

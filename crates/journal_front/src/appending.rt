@@ -1,16 +1,16 @@
 //! What a pass of a journal does.
 ghost use Rattle.std.specs.Prelude.{◌≡◌, ◌≤◌, ◌+◌, ℕ, true, Err, OnOk};
 ghost use Rattle.model.specs.History.{now};
-ghost use Rattle.http_handlers.specs.Known.{history_of};
+ghost use Rattle.session_api.specs.Known.{history_of};
 ghost use Rattle.journal.specs.Held.{BeginsDump};
 ghost use Rattle.journal.specs.declared.fault.JournalFault.TheVariants as fault;
 ghost use Rattle.replay_cli.specs.Successors.{raise};
 ghost use Rattle.journal_front.specs.Keeping.{HoldsAll, IsBehind, IsKeptIn, IsLimitIn};
 
 use durable_calls::{Keeping, KeptPlace};
-use http_handlers::Viewer;
 use journal::{Appended, Journal, JournalFault};
 use replay_cli::RAISE;
+use session_calls::SeesVersion;
 use snapshots::Version;
 use std::alloc::Global;
 
@@ -21,7 +21,7 @@ use std::alloc::Global;
 ///
 /// [`JournalFault::Memory`] where what is new could not be had, or memory was refused. [`JournalFault::Failed`] where the journal
 /// is broken.
-pub(crate) fn pass<K: Viewer, F: Appended, N: Keeping>(
+pub(crate) fn pass<K: SeesVersion, F: Appended, N: Keeping>(
     alloc: Global,
     session: &mut K,
     journal: &mut Journal<F>,
@@ -46,7 +46,7 @@ pub(crate) fn pass<K: Viewer, F: Appended, N: Keeping>(
 }
 
 /// Appends in one write what the session sees and the journal doesn't have, and says so.
-fn append_new<K: Viewer, F: Appended, N: Keeping>(
+fn append_new<K: SeesVersion, F: Appended, N: Keeping>(
     alloc: Global,
     session: &mut K,
     journal: &mut Journal<F>,
@@ -66,7 +66,7 @@ fn append_new<K: Viewer, F: Appended, N: Keeping>(
 }
 
 /// Appends in one write what the session sees and the journal doesn't have.
-fn append_seen<K: Viewer, F: Appended>(
+fn append_seen<K: SeesVersion, F: Appended>(
     alloc: Global,
     session: &mut K,
     journal: &mut Journal<F>,
@@ -88,7 +88,7 @@ fn append_seen<K: Viewer, F: Appended>(
 
 /// Makes durable all that was appended, and says up to which place it is, and up to which number updates may be shown. Where
 /// nothing was appended since the last sync, nothing is done.
-pub(crate) fn sync_all<K: Viewer, F: Appended, N: Keeping>(
+pub(crate) fn sync_all<K: SeesVersion, F: Appended, N: Keeping>(
     session: &K,
     journal: &mut Journal<F>,
     place: &KeptPlace<N>,

@@ -1,18 +1,18 @@
 //! How a broken journal is written anew.
 ghost use Rattle.std.specs.Prelude.{◌≡◌, ℕ, true, None, IfSome};
-ghost use Rattle.http_handlers.specs.Known.{history_of};
+ghost use Rattle.session_api.specs.Known.{history_of};
 ghost use Rattle.journal.specs.Held.{BeginsDump};
 ghost use Rattle.journal_front.specs.Keeping.{HoldsAll, IsKeptIn, IsLimitIn};
 
 use crate::appending::limit_of;
 use crate::epochs::Epochs;
 use durable_calls::{Keeping, KeptPlace};
-use http_handlers::Viewer;
 use journal::{Appended, Journal};
+use session_calls::SeesVersion;
 
 /// Writes a broken journal anew, with all that the session sees, synced, and says up to which place it is, and up to which number
 /// updates may be shown. It answers nothing where the disk refuses it, or what is new could not be had.
-pub(crate) fn rewrite<K: Viewer, F: Appended, N: Keeping, E: Epochs<F>>(
+pub(crate) fn rewrite<K: SeesVersion, F: Appended, N: Keeping, E: Epochs<F>>(
     session: &mut K,
     broken: &Journal<F>,
     place: &KeptPlace<N>,

@@ -9,22 +9,22 @@ use crate::mending::rewrite;
 use crate::notices::Notices;
 use crate::service::Service;
 use durable_calls::{Keeping, KeptPlace, Pass, Passes};
-use http_handlers::Viewer;
 use journal::{Appended, Journal, JournalFault};
+use session_calls::SeesVersion;
 use std::alloc::Global;
 use std::marker::{Model, PhantomData};
 use std::sync::{Mutex, Wait};
 
 /// What lies under a pen: the journal of an epoch, the session that sees what is to be appended to it, and the next epoch once it has
 /// begun. Contracts see the session and the journal.
-pub(crate) struct Round<K: Viewer, F: Appended, N: Keeping, L: Notices<F>, E: Epochs<F>> {
+pub(crate) struct Round<K: SeesVersion, F: Appended, N: Keeping, L: Notices<F>, E: Epochs<F>> {
     session: K,
     journal: Journal<F>,
     next: Option<Epoch<F>>,
     of: PhantomData<(N, L, E)>,
 }
 
-impl<K: Viewer + Drop, F: Appended, N: Keeping, L: Notices<F>, E: Epochs<F>> Drop
+impl<K: SeesVersion + Drop, F: Appended, N: Keeping, L: Notices<F>, E: Epochs<F>> Drop
     for Round<K, F, N, L, E> {
     fn drop(self) {
         let Round {
@@ -36,7 +36,7 @@ impl<K: Viewer + Drop, F: Appended, N: Keeping, L: Notices<F>, E: Epochs<F>> Dro
     }
 }
 
-impl<K: Viewer, F: Appended, N: Keeping, L: Notices<F>, E: Epochs<F>> Model
+impl<K: SeesVersion, F: Appended, N: Keeping, L: Notices<F>, E: Epochs<F>> Model
     for Round<K, F, N, L, E> {
     ghost use Rattle.std.specs.Prelude.{option_map};
     ghost use Rattle.journal.specs.Kept.{Kept};
@@ -62,7 +62,7 @@ pub(crate) struct Left<K, F: Appended> {
     pub(crate) next: Option<Epoch<F>>,
 }
 
-impl<K: Viewer, F: Appended, N: Keeping, L: Notices<F>, E: Epochs<F>> Round<K, F, N, L, E> {
+impl<K: SeesVersion, F: Appended, N: Keeping, L: Notices<F>, E: Epochs<F>> Round<K, F, N, L, E> {
     /// Over a journal that is the dump of a beginning of what the session has seen.
     pub(crate) fn new(session: K, journal: Journal<F>) -> Round<K, F, N, L, E>
         requires named { Names F.said F.told L.reported N.is_appended N.is_kept N.is_limit N.has_failed (K.known session).base }
@@ -190,14 +190,14 @@ impl<K: Viewer, F: Appended, N: Keeping, L: Notices<F>, E: Epochs<F>> Round<K, F
 }
 
 /// The pen of a journal. Whoever has it makes a pass, the others wait for its end.
-pub(crate) struct Pen<'s, K: Viewer, F: Appended, N: Keeping, L: Notices<F>, E: Epochs<F>> {
+pub(crate) struct Pen<'s, K: SeesVersion, F: Appended, N: Keeping, L: Notices<F>, E: Epochs<F>> {
     alloc: Global,
     round: Mutex<Round<K, F, N, L, E>>,
     place: &'s KeptPlace<N>,
     notices: &'s L,
 }
 
-impl<K: Viewer + Drop, F: Appended, N: Keeping, L: Notices<F>, E: Epochs<F>> Drop
+impl<K: SeesVersion + Drop, F: Appended, N: Keeping, L: Notices<F>, E: Epochs<F>> Drop
     for Pen<'_, K, F, N, L, E> {
     fn drop(self) {
         let Pen {
@@ -209,7 +209,14 @@ impl<K: Viewer + Drop, F: Appended, N: Keeping, L: Notices<F>, E: Epochs<F>> Dro
     }
 }
 
-impl<'s, K: Viewer, F: Appended, N: Keeping, L: Notices<F>, E: Epochs<F>> Pen<'s, K, F, N, L, E> {
+impl<'s, K: SeesVersion, F: Appended, N: Keeping, L: Notices<F>, E: Epochs<F>> Pen<
+    's,
+    K,
+    F,
+    N,
+    L,
+    E,
+> {
     /// Over what lies under it. What it does is said by this place.
     pub(crate) fn new(
         alloc: Global,
@@ -237,7 +244,7 @@ impl<'s, K: Viewer, F: Appended, N: Keeping, L: Notices<F>, E: Epochs<F>> Pen<'s
     }
 }
 
-impl<'s, R: Wait, K: Viewer, F: Appended, N: Keeping, L: Notices<F>, E: Epochs<F>> Upkeep<
+impl<'s, R: Wait, K: SeesVersion, F: Appended, N: Keeping, L: Notices<F>, E: Epochs<F>> Upkeep<
     R,
     F,
     N,
@@ -265,7 +272,7 @@ impl<'s, R: Wait, K: Viewer, F: Appended, N: Keeping, L: Notices<F>, E: Epochs<F
     }
 }
 
-impl<X, K: Viewer, F: Appended, N: Keeping, L: Notices<F>, E: Epochs<F>> Passes<X>
+impl<X, K: SeesVersion, F: Appended, N: Keeping, L: Notices<F>, E: Epochs<F>> Passes<X>
     for Pen<'_, K, F, N, L, E> {
     fn try_pass(&self, _context: &X, syncs: bool) -> Pass {
         let Some(mut round) = self.round.try_lock() else {

@@ -15,15 +15,16 @@ use crate::pen::Round;
 use crate::service::Service;
 use crate::serving::serve_kept;
 use durable_calls::{Keeping, KeptPlace};
-use history_lock::{Opened, open};
-use http_front::server_config;
-use http_handlers::{Viewer, Watch, Workers};
+use history_lock::Opened;
+use http_front::{Running, SERVER_TURNS, server_config};
+use http_workers::{Watch, Workers};
 use journal::{Appended, Journal};
+use session_api::Viewer;
 use std::marker::Brand;
 use std::sync::Wait;
 use std::thread::Threads;
 use std::time::Clock;
-use updater_state::{NoGate, Opening};
+use updater_state::Opening;
 
 /// Serves a database, each worker with a session of its own, while a journal keeps its history. When the history is full the
 /// next epoch begins: what the workers have begun is answered, their connections end, and clients come again.
@@ -85,14 +86,14 @@ fn serve_epoch<
     let Ok(opened) = Opened::over(rt.alloc(), config, version) else {
         return None;
     };
-    serve_opened::<Brand, Brand, &A, A, F, L, E>(
+    serve_running::<Brand, Brand, &A, A, F, L, E>(
         service, workers, opened, journal, limit, epochs, rt, rt,
     )
 }
 
 /// Serves an opened database, whose writer keeps a runtime of its own, and closes it. At first numbers up to `limit` may be
 /// shown, which is that of the base.
-fn serve_opened<
+fn serve_running<
     J: Opening + Send + Sync,
     N: Keeping + Send + Sync,
     R: Wait + Drop + Send,
@@ -119,7 +120,13 @@ fn serve_opened<
         server_turns service.now.terms.connections J.base left.0
         (option_map (λ next. next.version.base) left.1)) }
 {
-    let Ok((master, mut sessions)) = open::<R, J, NoGate>(writer_rt, opened, NoGate) else {
+    let Some((running, mut sessions)) = Running::<R, J, A>::start(
+        rt.alloc(),
+        writer_rt,
+        opened,
+        rt,
+        SERVER_TURNS,
+    ) else {
         return None;
     };
     let Some(keeper) = sessions.pop() else {
@@ -127,10 +134,17 @@ fn serve_opened<
     };
     let round = Round::new(keeper, journal);
     let place = KeptPlace::new(limit);
-    let Some((sessions, left)) = serve_kept::<A, _, N, F, L, E>(
-        service, workers, sessions, round, &place, epochs, rt,
+    let Some((sessions, left)) = serve_kept::<A, _, _, N, F, L, E>(
+        service,
+        workers,
+        &running.setting,
+        sessions,
+        round,
+        &place,
+        epochs,
+        rt,
     ) else {
         return None;
     };
-    close_kept::<R, J, N, A, F, L>(service, master, sessions, left, rt)
+    close_kept::<R, J, N, A, F, L>(service, running, sessions, left, rt)
 }

@@ -1,7 +1,7 @@
 //! How a database is served whose history a journal keeps.
 
 use crate::policy::SyncPolicy;
-use http_handlers::Terms;
+use http_workers::Terms;
 use std::net::TcpListener;
 
 /// How a database is served whose history a journal keeps.

@@ -1,7 +1,6 @@
 //! Workers that serve connections, and beside them the keeper of the journal.
 ghost use Rattle.std.specs.Prelude.{◌≡◌, ◌<◌, ◌≤◌, ◌+◌, ℕ, [], length, option_map, slice_index_or, vec_capacity, IfSome};
-ghost use Rattle.http_front.specs.Server.{server_turns};
-ghost use Rattle.http_handlers.specs.Listening.{ServesSome};
+ghost use Rattle.http_workers.specs.Worker.{ServesSome};
 ghost use Rattle.journal_front.specs.Keeping.{IsRound};
 ghost use Rattle.journal_front.specs.Server.{ServesDurably, awaits};
 
@@ -12,9 +11,11 @@ use crate::pen::{Left, Pen, Round};
 use crate::service::Service;
 use crate::waiting::{all_durable, all_inner};
 use durable_calls::{Keeping, KeptPlace};
-use http_front::SERVER_TURNS;
-use http_handlers::{Calls, Setting, Watch, Workers, listen};
+use http_turns::Setting;
+use http_workers::{Watch, Workers, listen};
 use journal::Appended;
+use session_api::Calls;
+use session_calls::SeesVersion;
 use std::sync::Wait;
 use std::thread;
 use std::thread::Threads;
@@ -28,42 +29,7 @@ const KEEPER_SECONDS: u64 = 10;
 pub(crate) fn serve_kept<
     A: AllocGlobal + Threads + Wait + Clock + Sync,
     S: Calls<A> + Send + Drop,
-    N: Keeping + Send + Sync,
-    F: Appended + Send,
-    L: Notices<F> + Watch + Sync + Send,
-    E: Epochs<F> + Send,
->(
-    service: &Service<'_, L>,
-    workers: &Workers<'_, L>,
-    sessions: Vec<S>,
-    round: Round<S, F, N, L, E>,
-    place: &KeptPlace<N>,
-    epochs: &mut E,
-    rt: &A,
-) -> Option<(Vec<S>, Left<S, F>)>
-    ensures served { IfSome result (λ served. ServesDurably S.goes S.known N.is_appended N.is_kept N.is_limit N.has_failed
-        (awaits service.now.policy) server_turns service.now.terms.connections sessions.items served.0.items) }
-    ensures room { IfSome result (λ served. length served.0.items + 1 ≤ vec_capacity served.0) }
-    ensures round { IfSome result (λ served. IsRound N.has_failed (S.known served.1.session) served.1.journal
-        (option_map (λ next. next.version.base) served.1.next)) }
-{
-    let alloc = rt.alloc();
-    let Ok(room) = Vec::with_capacity(alloc, sessions.len() + 1) else {
-        return None;
-    };
-    let Ok(setting) = Setting::new(alloc, rt, SERVER_TURNS) else {
-        return None;
-    };
-    serve_by_pen::<A, S, N, F, L, E>(
-        service, workers, &setting, sessions, round, place, room, epochs, rt,
-    )
-}
-
-/// Serves connections by sessions that answer what the journal under a pen has, until no more entries come. It answers the
-/// sessions in `room`, and what then lies under the pen. It answers nothing where memory was refused.
-fn serve_by_pen<
-    A: AllocGlobal + Threads + Wait + Clock + Sync,
-    S: Calls<A> + Send + Drop,
+    K: SeesVersion + Send + Drop,
     N: Keeping + Send + Sync,
     F: Appended + Send,
     L: Notices<F> + Watch + Sync + Send,
@@ -73,17 +39,52 @@ fn serve_by_pen<
     workers: &Workers<'_, L>,
     setting: &Setting<'_, A>,
     sessions: Vec<S>,
-    round: Round<S, F, N, L, E>,
+    round: Round<K, F, N, L, E>,
+    place: &KeptPlace<N>,
+    epochs: &mut E,
+    rt: &A,
+) -> Option<(Vec<S>, Left<K, F>)>
+    ensures served { IfSome result (λ served. ServesDurably S.goes S.known N.is_appended N.is_kept N.is_limit N.has_failed
+        (awaits service.now.policy) setting.now service.now.terms.connections sessions.items served.0.items) }
+    ensures room { IfSome result (λ served. length served.0.items + 1 ≤ vec_capacity served.0) }
+    ensures round { IfSome result (λ served. IsRound N.has_failed (K.known served.1.session) served.1.journal
+        (option_map (λ next. next.version.base) served.1.next)) }
+{
+    let alloc = rt.alloc();
+    let Ok(room) = Vec::with_capacity(alloc, sessions.len() + 1) else {
+        return None;
+    };
+    serve_by_pen::<A, S, K, N, F, L, E>(
+        service, workers, setting, sessions, round, place, room, epochs, rt,
+    )
+}
+
+/// Serves connections by sessions that answer what the journal under a pen has, until no more entries come. It answers the
+/// sessions in `room`, and what then lies under the pen. It answers nothing where memory was refused.
+fn serve_by_pen<
+    A: AllocGlobal + Threads + Wait + Clock + Sync,
+    S: Calls<A> + Send + Drop,
+    K: SeesVersion + Send + Drop,
+    N: Keeping + Send + Sync,
+    F: Appended + Send,
+    L: Notices<F> + Watch + Sync + Send,
+    E: Epochs<F> + Send,
+>(
+    service: &Service<'_, L>,
+    workers: &Workers<'_, L>,
+    setting: &Setting<'_, A>,
+    sessions: Vec<S>,
+    round: Round<K, F, N, L, E>,
     place: &KeptPlace<N>,
     room: Vec<S>,
     epochs: &mut E,
     rt: &A,
-) -> Option<(Vec<S>, Left<S, F>)>
+) -> Option<(Vec<S>, Left<K, F>)>
     requires room { (room.items ≡ []) × (length sessions.items + 1 ≤ vec_capacity room) }
     ensures served { IfSome result (λ served. ServesDurably S.goes S.known N.is_appended N.is_kept N.is_limit N.has_failed
         (awaits service.now.policy) setting.now service.now.terms.connections sessions.items served.0.items) }
     ensures room { IfSome result (λ served. length served.0.items + 1 ≤ vec_capacity served.0) }
-    ensures round { IfSome result (λ served. IsRound N.has_failed (S.known served.1.session) served.1.journal
+    ensures round { IfSome result (λ served. IsRound N.has_failed (K.known served.1.session) served.1.journal
         (option_map (λ next. next.version.base) served.1.next)) }
 {
     let alloc = rt.alloc();

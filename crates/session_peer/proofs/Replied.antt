@@ -1,12 +1,12 @@
 -- Commands that were written, with what was replied.
 use Rattle.std.proofs.Common.{◌≡◌, ℕ, Ok, sym, subst}
 use Rattle.model.specs.Command.{Command, Entry, Reply}
-use Rattle.http_handlers.specs.Deeds.{Deed, Wrote}
-use Rattle.http_handlers.specs.Doing.{Makes}
-use Rattle.http_handlers.specs.Known.{Known, HasEntryAt}
+use Rattle.session_api.specs.SessionCall.{SessionCall, Wrote}
+use Rattle.session_api.specs.Learns.{Makes}
+use Rattle.session_api.specs.Known.{Known, HasEntryAt}
 use Rattle.session_peer.specs.Goes.{Writes}
 
-module _ {S : Type 0} (goes : S → Deed → S → Type 0) (known : S → Known) where
+module _ {S : Type 0} (goes : S → SessionCall → S → Type 0) (known : S → Known) where
   -- the session has the entry
   pub has_entry : (old new : S) (command : Command) (place : ℕ) → Makes goes known old (Wrote command (Ok place)) new
       → (entry : Entry) × HasEntryAt (known new) place entry

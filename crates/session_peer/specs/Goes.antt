@@ -12,11 +12,11 @@ use Rattle.replicator.specs.Call as call
 use Rattle.replicator.specs.declared.checkpoint.Checkpoint.{Checkpoint}
 use Rattle.replicator.specs.declared.fault.PeerFault.{PeerFault}
 use Rattle.replicator.specs.declared.fault.PeerFault.TheVariants as fault
-use Rattle.http_handlers.specs.declared.calls.CallFault.{CallFault}
-use Rattle.http_handlers.specs.declared.calls.CallFault.TheVariants as refused
-use Rattle.http_handlers.specs.Deeds.{Deed, Refreshed, Wrote}
-use Rattle.http_handlers.specs.Doing.{Makes}
-use Rattle.http_handlers.specs.Known.{Known, history_of}
+use Rattle.session_api.specs.declared.fault.CallFault.{CallFault}
+use Rattle.session_api.specs.declared.fault.CallFault.TheVariants as refused
+use Rattle.session_api.specs.SessionCall.{SessionCall, Refreshed, Wrote}
+use Rattle.session_api.specs.Learns.{Makes}
+use Rattle.session_api.specs.Known.{Known, history_of}
 use Rattle.session_peer.specs.Checkpoints.{checkpoint_in, past_numbers}
 use Rattle.session_peer.specs.Commands.{are_taken, counter_in, put_checkpoint}
 use Rattle.session_peer.specs.Shown.{all_brought, with_paths}
@@ -28,7 +28,7 @@ fault_of refused.Memory = fault.Memory
 fault_of (refused.Unavailable reason) = fault.Failed
 
 -- by what a session does, and what it knows
-module _ {S : Type 0} (goes : S → Deed → S → Type 0) (known : S → Known) where
+module _ {S : Type 0} (goes : S → SessionCall → S → Type 0) (known : S → Known) where
   -- the session looks, and the query has this answer over all that it has then seen
   pub record Reads (old : S) (query : Query) (answer : Answer) (new : S) : Type 0 where
     pub looked : Makes goes known old (Refreshed (Ok tt)) new

@@ -1,23 +1,22 @@
 //! A session as one end of a replication.
 ghost use Rattle.std.specs.Prelude.{◌≡◌, ⊤, Ok, Err, IfOk, IfErr, OnOk};
 ghost use Rattle.model.specs.Command as model;
-ghost use Rattle.http_handlers.specs.Deeds as deed;
-ghost use Rattle.http_handlers.specs.Doing.{Makes};
-ghost use Rattle.http_handlers.specs.Known.{HasEntryAt};
+ghost use Rattle.session_api.specs.SessionCall as session_call;
+ghost use Rattle.session_api.specs.Learns.{Makes};
+ghost use Rattle.session_api.specs.Known.{HasEntryAt};
 ghost use Rattle.replicator.specs.Call.{CountsFailed};
 ghost use Rattle.session_peer.specs.Goes.{Goes, LookFails, WriteFails, fault_of};
 
 use crate::checkpoints::checkpoint_of;
 use crate::shown::revisions;
 use crate::written::{are_taken, bulk_of, counter_in, put_of};
-use changes_feed::{changes, changes_among, local_get, revs_diff};
 use commands::{Command, Merge, NamedRevisions, Reply};
 use document_id::{DocId, DocIds};
-use http_handlers::{CallFault, Calls, Viewer};
 use model::Style;
 use queries::{ChangesPage, Differences};
 use replicator::{Checkpoint, Opened, Peer, PeerFault};
 use revision_id::RevId;
+use session_api::{CallFault, Replica, Viewer};
 use std::alloc::Global;
 use std::marker::Model;
 
@@ -69,7 +68,7 @@ impl<'c, X, S: Viewer> SessionPeer<'c, X, S> {
     /// Sees what is there now.
     fn look(&mut self) -> Result<(), PeerFault>
         ensures looked { OnOk result
-            (Makes S.goes S.known self.old.session (deed.Refreshed (Ok tt)) self.new.session) }
+            (Makes S.goes S.known self.old.session (session_call.Refreshed (Ok tt)) self.new.session) }
         ensures fault { IfErr result (λ f.
             LookFails S.goes S.known self.old.session f self.new.session) }
         ensures failures { CountsFailed self.old.failures self.new.failures result }
@@ -102,18 +101,18 @@ impl<'c, X, S: Viewer> SessionPeer<'c, X, S> {
             → result.now ≡ entry.reply }
     {
         let _recalled = self.session.place();
-        let Some(entry) = self.session.version().entry(place) else {
+        let Some(entry) = self.session.entry(place) else {
             unreachable!()
         };
         &entry.reply
     }
 }
 
-impl<'c, X, S: Calls<X>> SessionPeer<'c, X, S> {
+impl<'c, X, S: Replica<X>> SessionPeer<'c, X, S> {
     /// Writes a command, and answers the place of its entry.
     fn write(&mut self, command: Command) -> Result<u64, PeerFault>
         ensures written { IfOk result (λ place. Makes S.goes S.known self.old.session
-            (deed.Wrote command (Ok place)) self.new.session) }
+            (session_call.Wrote command (Ok place)) self.new.session) }
         ensures fault { IfErr result (λ f.
             WriteFails S.goes S.known self.old.session command f self.new.session) }
         ensures failures { CountsFailed self.old.failures self.new.failures result }
@@ -125,15 +124,15 @@ impl<'c, X, S: Calls<X>> SessionPeer<'c, X, S> {
     }
 }
 
-impl<'c, X, S: Calls<X>> Peer for SessionPeer<'c, X, S> {
+impl<'c, X, S: Replica<X>> Peer for SessionPeer<'c, X, S> {
     ghost goes = { λ old call new. Goes S.goes S.known old.session call new.session };
 
     ghost failed_calls = { λ p. p.failures };
 
     fn changes(&mut self, alloc: Global, since: u64, limit: u64) -> Result<ChangesPage, PeerFault> {
         self.look()?;
-        let version = self.session.version();
-        Ok(changes(alloc, version, since, Some(limit), Style::AllDocs)?)
+        let seen = &self.session;
+        Ok(seen.changes(alloc, since, Some(limit), Style::AllDocs, &None)?)
     }
 
     fn changes_of(
@@ -144,14 +143,14 @@ impl<'c, X, S: Calls<X>> Peer for SessionPeer<'c, X, S> {
         limit: u64,
     ) -> Result<ChangesPage, PeerFault> {
         self.look()?;
-        let version = self.session.version();
-        let style = Style::AllDocs;
-        Ok(changes_among(alloc, version, since, Some(limit), style, ids)?)
+        let ids = Some(ids.share()?);
+        let seen = &self.session;
+        Ok(seen.changes(alloc, since, Some(limit), Style::AllDocs, &ids)?)
     }
 
     fn diff(&mut self, alloc: Global, asked: &NamedRevisions) -> Result<Differences, PeerFault> {
         self.look()?;
-        Ok(revs_diff(alloc, self.session.version(), asked)?)
+        Ok(self.session.revs_diff(alloc, asked)?)
     }
 
     fn open_revs(
@@ -161,7 +160,7 @@ impl<'c, X, S: Calls<X>> Peer for SessionPeer<'c, X, S> {
         revs: &[RevId],
     ) -> Result<Opened, PeerFault> {
         self.look()?;
-        Ok(revisions(alloc, self.session.version(), id, revs)?)
+        Ok(revisions::<X, S>(alloc, &self.session, id, revs)?)
     }
 
     fn bulk(&mut self, alloc: Global, documents: &[Merge]) -> Result<(), PeerFault> {
@@ -176,7 +175,7 @@ impl<'c, X, S: Calls<X>> Peer for SessionPeer<'c, X, S> {
 
     fn local_get(&mut self, alloc: Global, id: &DocId) -> Result<Option<Checkpoint>, PeerFault> {
         self.look()?;
-        let Some((counter, body)) = local_get(self.session.version(), id)? else {
+        let Some((counter, body)) = self.session.local(id)? else {
             return Ok(None);
         };
         let Some(checkpoint) = checkpoint_of(alloc, counter, &body)? else {

@@ -3,15 +3,15 @@ ghost use Rattle.std.specs.Prelude.{◌≡◌, Some, IfOk};
 ghost use Rattle.model.specs.Documents.{opened};
 ghost use Rattle.model.specs.History.{now};
 ghost use Rattle.model.specs.TreeChange.{IsPath};
+ghost use Rattle.session_api.specs.Known.{history_of};
 ghost use Rattle.session_peer.specs.Shown.{all_brought, brought, merge_shown, path_shown, with_paths, ShowPaths, ShowsPath};
 
-use changes_feed::open_revs;
 use commands::Merge;
 use document_id::DocId;
 use queries::{Document, Options};
 use replicator::Opened;
 use revision_id::RevId;
-use snapshots::Version;
+use session_api::Replica;
 use std::alloc::{AllocError, Global};
 
 /// The newest in the place of a revision, with its path.
@@ -24,17 +24,17 @@ const WITH_PATHS: Options = Options {
 };
 
 /// These revisions of a document, or newer ones in their place.
-pub(crate) fn revisions(
+pub(crate) fn revisions<X, S: Replica<X>>(
     alloc: Global,
-    version: &Version,
+    session: &S,
     id: &DocId,
     revs: &[RevId],
 ) -> Result<Opened, AllocError>
     ensures { IfOk result (λ given. given
-        ≡ all_brought (opened (now version.now) id.now (Some revs.now) with_paths)) }
+        ≡ all_brought (opened (now (history_of (S.known session.now))) id.now (Some revs.now) with_paths)) }
 {
-    let _recalled = version.place();
-    let opened = open_revs(alloc, version, id, Some(revs), &WITH_PATHS)?;
+    let _recalled = session.place();
+    let opened = session.documents(alloc, id, revs, &WITH_PATHS)?;
     let revisions = bring_all(alloc, opened)?;
     Ok(Opened { revisions })
 }

@@ -31,7 +31,7 @@ impl<'s> Client<'s> {
 
     /// Sends a request.
     pub(crate) fn send(&self, method: &str, target: &str, body: &str) -> io::Result<()> {
-        let request = request_text(self.alloc, method, target, body)?;
+        let request = request_text(self.alloc, "db", method, target, body)?;
         let mut socket = self.socket;
         socket.write_all(request.as_bytes())
     }

@@ -3,7 +3,8 @@
 use crate::marks::{Marks, TURNS, pause};
 use crate::shown::Shown;
 use crate::write::{WRITERS, write_all};
-use http_front::{Calls, Viewer};
+use session_api::{Calls, Viewer};
+use session_calls::SeesVersion;
 use std::alloc::{AllocError, Global};
 use std::io::ErrorKind;
 use std::thread::Threads;
@@ -11,11 +12,10 @@ use std::time::Clock;
 use std::{io, thread};
 
 /// Has the first session follow what the others write.
-pub(crate) fn follow_others<R: AllocGlobal + Threads + Clock + Sync, S: Calls<R> + Send>(
-    rt: &R,
-    marks: &Marks,
-    sessions: &mut [S],
-) -> io::Result<String> {
+pub(crate) fn follow_others<
+    R: AllocGlobal + Threads + Clock + Sync,
+    S: Calls<R> + SeesVersion + Send,
+>(rt: &R, marks: &Marks, sessions: &mut [S]) -> io::Result<String> {
     let Some((first, others)) = sessions.split_first_mut() else {
         return Err(io::Error::from(ErrorKind::Other));
     };
@@ -29,7 +29,7 @@ pub(crate) fn follow_others<R: AllocGlobal + Threads + Clock + Sync, S: Calls<R>
 
 /// Takes the rows of what the session sees, again and again, until the writers are done. It says whether
 /// what was taken is what there is at the end.
-fn follow<S: Viewer>(
+fn follow<S: SeesVersion>(
     clock: &impl Clock,
     alloc: Global,
     marks: &Marks,
@@ -50,7 +50,7 @@ fn follow<S: Viewer>(
 }
 
 /// Takes the rows of what there is now.
-fn look<S: Viewer>(alloc: Global, session: &mut S, shown: &mut Shown) -> io::Result<()> {
+fn look<S: SeesVersion>(alloc: Global, session: &mut S, shown: &mut Shown) -> io::Result<()> {
     if session.refresh().is_err() {
         return Err(io::Error::from(ErrorKind::Other));
     }
@@ -58,7 +58,12 @@ fn look<S: Viewer>(alloc: Global, session: &mut S, shown: &mut Shown) -> io::Res
     Ok(())
 }
 
-fn told<S: Viewer>(alloc: Global, marks: &Marks, session: &S, shown: &Shown) -> io::Result<String> {
+fn told<S: SeesVersion>(
+    alloc: Global,
+    marks: &Marks,
+    session: &S,
+    shown: &Shown,
+) -> io::Result<String> {
     let ending = ending(alloc, session, shown)?;
     let text = format!(in alloc;
         "{} writes, {} rows followed: {ending}\n{} late\n",
@@ -69,7 +74,7 @@ fn told<S: Viewer>(alloc: Global, marks: &Marks, session: &S, shown: &Shown) -> 
     Ok(text)
 }
 
-fn ending<S: Viewer>(
+fn ending<S: SeesVersion>(
     alloc: Global,
     session: &S,
     shown: &Shown,

@@ -3,7 +3,8 @@
 use crate::client::Client;
 use crate::ends::{Clients, Ends};
 use crate::terms::{Unheard, terms, workers};
-use http_front::{Calls, Setting, listen};
+use http_front::{Setting, listen};
+use session_api::Calls;
 use std::alloc::Global;
 use std::sync::Wait;
 use std::thread::Threads;

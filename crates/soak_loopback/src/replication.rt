@@ -78,8 +78,20 @@ fn run(alloc: Global, source: &TcpStream, target: &TcpStream) -> io::Result<&'st
     let Some(mut worker) = Worker::new(id, MAX_BATCH) else {
         return Err(io::Error::from(ErrorKind::InvalidInput));
     };
-    let mut source = HttpPeer::new(alloc, Stream::new(source), Stream::new(source));
-    let mut target = HttpPeer::new(alloc, Stream::new(target), Stream::new(target));
+    let mut source = HttpPeer::new(
+        alloc,
+        String::from_str(alloc, "source")?,
+        false,
+        Stream::new(source),
+        Stream::new(source),
+    );
+    let mut target = HttpPeer::new(
+        alloc,
+        String::from_str(alloc, "target")?,
+        false,
+        Stream::new(target),
+        Stream::new(target),
+    );
     match worker.run(alloc, &mut source, &mut target, u64::MAX) {
         Ok(Progress::Done) => Ok("replicated\n"),
         Ok(Progress::Going | Progress::Checkpoint(_)) => Ok("not replicated\n"),

@@ -11,7 +11,8 @@ use crate::marks::Marks;
 use crate::write::WRITERS;
 use commands::{Config, Limits};
 use history_lock::{Opened, open};
-use http_front::Calls;
+use session_api::Calls;
+use session_calls::{SeesVersion, all_sessions, all_shared};
 use std::alloc::Global;
 use std::io;
 use std::io::ErrorKind;
@@ -104,15 +105,21 @@ fn worked<
 ) -> Option<io::Result<String>>
     requires named { IsNamed J.book J.base J.table J.capacity J.sessions J.config opened }
 {
-    let Ok((master, mut sessions)) = open::<T, J, G>(core_rt, opened, gate) else {
+    let Ok((master, sessions)) = open::<T, J, G>(core_rt, opened, gate) else {
+        return None;
+    };
+    let Ok(room) = Vec::with_capacity(rt.alloc(), sessions.len()) else {
+        return None;
+    };
+    let Ok(mut sessions) = all_shared(rt.alloc(), sessions) else {
         return None;
     };
     let told = work_of(rt, work, marks, sessions.as_mut_slice());
-    let closed = master.close(sessions, rt);
+    let closed = master.close(all_sessions(sessions, room), rt);
     Some(with_lost(told, closed.lost()))
 }
 
-fn work_of<R: AllocGlobal + Threads + Wait + Clock + Sync, S: Calls<R> + Send>(
+fn work_of<R: AllocGlobal + Threads + Wait + Clock + Sync, S: Calls<R> + SeesVersion + Send>(
     rt: &R,
     work: Work,
     marks: &Marks,

@@ -2,7 +2,8 @@
 
 use crate::command::next_edit;
 use crate::marks::Marks;
-use http_front::Calls;
+use session_api::{Calls, Viewer};
+use session_calls::SeesVersion;
 use std::alloc::Global;
 use std::thread;
 use std::thread::Threads;
@@ -21,7 +22,7 @@ const ROUNDS: u64 = 100;
 const DOCUMENTS: u64 = 20;
 
 /// Has each session write on a thread of its own.
-pub(crate) fn write_all<R: AllocGlobal + Threads + Clock + Sync, S: Calls<R> + Send>(
+pub(crate) fn write_all<R: AllocGlobal + Threads + Clock + Sync, S: Calls<R> + SeesVersion + Send>(
     rt: &R,
     marks: &Marks,
     sessions: &mut [S],
@@ -35,7 +36,12 @@ pub(crate) fn write_all<R: AllocGlobal + Threads + Clock + Sync, S: Calls<R> + S
 }
 
 /// Writes to each document in turn. Half way it waits until what there is was followed.
-fn write_often<R: Clock, S: Calls<R>>(rt: &R, alloc: Global, marks: &Marks, session: &mut S) {
+fn write_often<R: Clock, S: Calls<R> + SeesVersion>(
+    rt: &R,
+    alloc: Global,
+    marks: &Marks,
+    session: &mut S,
+) {
     for round in 0..ROUNDS {
         if round == ROUNDS / 2 {
             marks.wait(rt, &marks.followed, marks.followed.times());
@@ -48,7 +54,12 @@ fn write_often<R: Clock, S: Calls<R>>(rt: &R, alloc: Global, marks: &Marks, sess
 }
 
 /// An edit over what the session sees, or a deletion; nothing where it has no receipt.
-fn write<R, S: Calls<R>>(rt: &R, alloc: Global, session: &mut S, round: u64) -> Option<u64> {
+fn write<R, S: Calls<R> + SeesVersion>(
+    rt: &R,
+    alloc: Global,
+    session: &mut S,
+    round: u64,
+) -> Option<u64> {
     session.refresh().ok()?;
     let deleted = round > DOCUMENTS && round % 7 == 0;
     let command = next_edit(alloc, session.version(), round % DOCUMENTS, deleted)?;

@@ -1,7 +1,7 @@
 -- What a session knows whose calls may be refused for each reason.
 use Rattle.std.specs.Prelude.{◌≡◌, ◌<◌, length, Bool, false}
 use Rattle.model.specs.History.{Chronicle}
-use Rattle.http_handlers.specs.Known.{Known}
+use Rattle.session_api.specs.Known.{Known}
 
 -- it has seen this history, which has as many entries as it has room for; two sessions share a queue of one place
 abbrev pub refused : Chronicle → Bool → Known

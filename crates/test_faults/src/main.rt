@@ -9,7 +9,7 @@
 mod refusing;
 mod served;
 
-use http_response::Unavailable;
+use session_api::Unavailable;
 use std::alloc::Global;
 use std::test::Fail;
 

@@ -2,15 +2,17 @@
 ghost use Rattle.std.specs.Prelude.{◌≡◌, true, false, ⊤};
 ghost use Rattle.model.specs.Command as model;
 ghost use Rattle.model.specs.World.{is_compact};
-ghost use Rattle.http_handlers.specs.Calls.{RefusesWrite, says_lost};
-ghost use Rattle.http_handlers.specs.Known.{Known};
+ghost use Rattle.session_api.specs.Learns.{RefusesWrite, says_lost};
+ghost use Rattle.session_api.specs.Known.{Known};
 ghost use Rattle.test_faults.specs.Refused.{refused, IsCrowded};
 
-use commands::{Command, Edit, Seat};
-use document_id::DocId;
-use http_handlers::{CallFault, Calls, Viewer};
-use http_response::Unavailable;
+use changes_feed::{answer, count_wanted};
+use commands::{Command, Edit, Entry, Seat};
+use document_id::{DocId, DocIds};
 use json_profile::Body;
+use queries::{Answer, Query, Row};
+use session_api::{CallFault, Calls, Following, Unavailable, Viewer};
+use session_calls::next_rows;
 use snapshots::Version;
 use std::alloc::{AllocError, Global};
 use std::sync::Arc;
@@ -67,8 +69,29 @@ impl Viewer for Refusing {
         self.version.place()
     }
 
-    fn version(&self) -> &Version {
-        &self.version
+    fn entry(&self, place: u64) -> Option<&Entry> {
+        self.version.entry(place)
+    }
+
+    fn answer(&self, alloc: Global, query: &Query) -> Result<Answer, AllocError> {
+        answer(alloc, &self.version, query)
+    }
+
+    fn update_seq(&self) -> u64 {
+        self.version.database().documents().update_seq()
+    }
+
+    fn count_changes(&self, since: u64, ids: &Option<DocIds>) -> u64 {
+        count_wanted(&self.version, since, ids)
+    }
+
+    fn next_rows(
+        &self,
+        alloc: Global,
+        following: &mut Following,
+        limit: u64,
+    ) -> Result<Vec<Row>, AllocError> {
+        next_rows(alloc, &self.version, following, limit)
     }
 
     fn refresh(&mut self) -> Result<(), CallFault> {

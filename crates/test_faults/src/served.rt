@@ -1,8 +1,8 @@
 //! Connections over memory.
 
 use crate::refusing::Refusing;
-use http_handlers::{Setting, serve};
-use http_response::Unavailable;
+use http_turns::{Setting, serve};
+use session_api::Unavailable;
 use std::alloc::Global;
 use std::test::Fail;
 use streams::Stream;

@@ -1,7 +1,9 @@
 //! Numbers within their limits, and digests.
 
 use commands::{Config, Limits, Seat};
+use document_id::{DocId, DocIds};
 use md5::{Digest, Md5};
+use replicator::Worker;
 use std::alloc::Global;
 use std::test::Fail;
 
@@ -35,6 +37,15 @@ pub(crate) fn seat_told(alloc: Global, session: &str, call: &str) -> Result<Stri
         Some(seat) => Ok(format!(in alloc; "{} {}", seat.session(), seat.call())?),
         None => Ok(String::from_str(alloc, "none")?),
     }
+}
+
+/// Which workers there are that ask for so many changes at once: one for all documents, one for some.
+pub(crate) fn workers_told(alloc: Global, batch: &str) -> Result<String, Fail> {
+    let batch = batch.parse::<u64>()?;
+    let ids = DocIds::named(alloc, &["a"])?;
+    let all = Worker::new(DocId::new(alloc, "r")?, batch).is_some();
+    let some = Worker::filtered(DocId::new(alloc, "r")?, batch, ids).is_some();
+    Ok(format!(in alloc; "{all} {some}")?)
 }
 
 /// The digest of a text.

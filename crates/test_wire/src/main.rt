@@ -30,6 +30,7 @@ fn told(alloc: Global, words: &[&str]) -> Result<String, Fail> {
         ["feed", place] => responses::feed_head_told(alloc, place),
         ["feed_end", last_seq, pending] => responses::feed_last_told(alloc, last_seq, pending),
         ["config", numbers @ ..] => limits::config_told(alloc, numbers),
+        ["workers", batch] => limits::workers_told(alloc, batch),
         ["seat", session, call] => limits::seat_told(alloc, session, call),
         ["arguments", arguments @ ..] => arguments::arguments_told(alloc, arguments),
         ["digest", text] => limits::digest_told(alloc, text),

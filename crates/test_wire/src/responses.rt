@@ -4,10 +4,11 @@ use crate::histories::entry_of;
 use http_framing::FramingFault;
 use http_request::{Extent, Form};
 use http_response::{
-    Connection, MemoryFor, Response, Unavailable, answer, closing, feed_head, feed_last, no_memory,
-    reply, service_unavailable,
+    Connection, MemoryFor, Response, answer, closing, feed_head, feed_last, no_memory, reply,
+    service_unavailable,
 };
 use queries::{Answer, AnswerKind, Query, QueryKind};
+use session_api::Unavailable;
 use std::alloc::Global;
 use std::test::Fail;
 use streams::Stream;

@@ -1,8 +1,11 @@
 use Rattle.std.proofs.Common.{◌+◌, Bool, Ok, subst, arith}
-use Rattle.http_handlers.specs.Calls.{Learns}
-use Rattle.http_handlers.specs.Deeds.{Waited}
-use Rattle.durable_calls.proofs.Waits.{at_end, one_more}
+use Rattle.session_api.specs.Learns.{Learns}
+use Rattle.session_api.specs.SessionCall.{Waited}
+use Rattle.durable_calls.proofs.Waits.{at_end, no_turn, one_more}
 use Rattle.durable_calls.proofs.durable.wait_by_turns.Goals as goal
+
+pub loop-turn-init : goal.loop-turn-init
+loop-turn-init g c = no_turn g.S.Viewer.goes g.S.Viewer.known c.args.seq c.args.session.now c.place-recalled.ensures.legal
 
 pub loop-turn-preserved : goal.loop-turn-preserved
 loop-turn-preserved g c =

@@ -16,6 +16,6 @@ pub returns-in_default : goal.returns-in_default
 returns-in_default g c =
     inr (record {
       same = same_streams g.R.Source.left g.R.Source.failed_reads g.W.Sink.taken g.W.Sink.failed_writes _ _ _ _
-          (where_none _ c.serve_opened.ensures.same_reader c.in_default.is) refl;
+          (where_none _ c.serve_one.ensures.same_reader c.in_default.is) refl;
       tells = refl;
     })

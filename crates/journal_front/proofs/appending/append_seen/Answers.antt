@@ -24,13 +24,13 @@ returns-clause-begins g c =
     let old = g.K.Viewer.known c.args.session.now in
     let new = g.K.Viewer.known c.refresh.new.self in
     let behind = looks_behind c.args.journal.now old new c.requires.behind (looked old new c.refresh.result c.refresh.ensures.learns) in
-    subst (λ (h : Chronicle). BeginsDump c.append.new.self h) c.version.ensures
-    (c.append.ensures.begins behind.history behind.holds (subst (λ (h : Chronicle). Extends h behind.history) (sym c.version.ensures) behind.extends))
+    subst (λ (h : Chronicle). BeginsDump c.append.new.self h) c.version.ensures.version
+    (c.append.ensures.begins behind.history behind.holds (subst (λ (h : Chronicle). Extends h behind.history) (sym c.version.ensures.version) behind.extends))
 
 pub returns-clause-all : goal.returns-clause-all
 returns-clause-all g c =
     let old = g.K.Viewer.known c.args.session.now in
     let new = g.K.Viewer.known c.refresh.new.self in
     let behind = looks_behind c.args.journal.now old new c.requires.behind (looked old new c.refresh.result c.refresh.ensures.learns) in
-    on_ok c.append.result (λ holds. record { holds = subst (λ (h : Chronicle). HoldsDump c.append.new.self h) c.version.ensures holds; legal = c.place-recalled.ensures.legal })
-    (c.append.ensures.held behind.history behind.holds (subst (λ (h : Chronicle). Extends h behind.history) (sym c.version.ensures) behind.extends))
+    on_ok c.append.result (λ holds. record { holds = subst (λ (h : Chronicle). HoldsDump c.append.new.self h) c.version.ensures.version holds; legal = c.place-recalled.ensures.legal })
+    (c.append.ensures.held behind.history behind.holds (subst (λ (h : Chronicle). Extends h behind.history) (sym c.version.ensures.version) behind.extends))

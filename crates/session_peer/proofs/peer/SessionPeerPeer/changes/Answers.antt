@@ -1,9 +1,10 @@
-use Rattle.std.proofs.Common.{None}
-use Rattle.session_peer.proofs.Queried.{reads-changes, seen_by}
+use Rattle.std.proofs.Common.{None, Some}
+use Rattle.model.specs.Query.{Changes, Changed}
+use Rattle.model.specs.declared.style.Style.TheVariants.{AllDocs}
+use Rattle.session_peer.proofs.Queried.{reads}
 use Rattle.session_peer.proofs.peer.SessionPeerPeer.changes.Goals as goal
 
 pub returns-clause-goes : goal.returns-clause-goes
 returns-clause-goes g c =
-    reads-changes g.S.Viewer.goes g.S.Viewer.known c.args.self.now.session c.look.new.self.session c.in_ok-look.ensures.looked c.version-version.result.now
-    (seen_by g.S.Viewer.known _ _ _ c.version-version.ensures c.self.view_is)
-    None c.args.since c.args.limit c.in_ok-changes.field-0 c.in_ok-changes.ensures.page
+    reads g.S.Viewer.goes g.S.Viewer.known c.args.self.now.session _ _ c.in_ok-look.ensures.looked c.self.view_is
+    (Changes c.args.since (Some c.args.limit) AllDocs None) (Changed c.in_ok-changes.field-0) c.in_ok-changes.ensures.page

@@ -1,8 +1,8 @@
-use Rattle.session_peer.proofs.Queried.{reads-differences, seen_by}
+use Rattle.model.specs.Query.{RevsDiff, Differences}
+use Rattle.session_peer.proofs.Queried.{reads}
 use Rattle.session_peer.proofs.peer.SessionPeerPeer.diff.Goals as goal
 
 pub returns-clause-goes : goal.returns-clause-goes
 returns-clause-goes g c =
-    reads-differences g.S.Viewer.goes g.S.Viewer.known c.args.self.now.session c.look.new.self.session c.in_ok-look.ensures.looked c.version.result.now
-    (seen_by g.S.Viewer.known _ _ _ c.version.ensures c.self.view_is)
-    c.args.asked.now c.in_ok-revs_diff.field-0 c.in_ok-revs_diff.ensures.differences
+    reads g.S.Viewer.goes g.S.Viewer.known c.args.self.now.session _ _ c.in_ok-look.ensures.looked c.self.view_is
+    (RevsDiff c.args.asked.now) (Differences c.in_ok-revs_diff.field-0) c.in_ok-revs_diff.ensures.differences

@@ -1,9 +1,0 @@
-use Rattle.std.proofs.Common.{ℕ}
-use Rattle.http_connection.proofs.Going.{served-nothing}
-use Rattle.http_handlers.proofs.Told.{served_lent}
-use Rattle.http_handlers.proofs.connection.serve.Goals as goal
-
-pub returns-in_default : goal.returns-in_default
-returns-in_default g c = record {
-  connection = served_lent g.S.Viewer.goes g.S.Viewer.known _ {N = ℕ} (λ s. s) (λ s. 0) _ _ c.args.session.now c.args.session.now _ served-nothing c.place-recalled.ensures.legal;
-}

@@ -1,6 +1,0 @@
-use Rattle.http_handlers.proofs.Accepting.{Accepted}
-use Rattle.http_handlers.proofs.listening.work.Given as goal
-
--- so many connections were served, or could not be accepted, as there were turns
-abbrev pub invariant-loop : goal.invariant-loop
-invariant-loop g l = Accepted g.S.Viewer.goes g.S.Viewer.known l.setting l.counter l.fn.session l.session

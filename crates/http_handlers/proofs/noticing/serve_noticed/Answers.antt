@@ -1,4 +1,0 @@
-use Rattle.http_handlers.proofs.noticing.serve_noticed.Goals as goal
-
-pub returns : goal.returns
-returns g c = record { before = _; after = _; connection = c.serve_in_log.ensures.connection }

@@ -1,0 +1,10 @@
+pub mod CallLaws
+pub mod Waits
+pub mod Texts
+pub mod Turns
+pub mod Told
+pub mod LongAnswers
+pub mod Feeds
+pub mod RowsLeft
+pub mod RowTexts
+pub mod Fed

@@ -1,0 +1,11 @@
+pub mod ChangesWanted
+pub mod CallsOfRequest
+pub mod Feed
+pub mod FeedCalls
+pub mod Outcome
+pub mod ResponseText
+pub mod SessionTurn
+pub mod Connection
+pub mod Sent
+pub mod Replies
+pub mod FeedWritten

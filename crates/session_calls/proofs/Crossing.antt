@@ -1,0 +1,10 @@
+-- What may cross threads: a session as connections have it, where the session itself may.
+use denote.RattleType.{RattleType}
+use denote.Param.Send.{IsSend, IsSync, sendable}
+use Rattle.sessions.proofs.Crossing.{session-send}
+use Rattle.session_calls.specs.contracts.session.SharedSession as SharedSession
+use Rattle.updater_state.specs.contracts.locked.Core as Core
+
+-- A search finds it soon where J and what follows it are given.
+pub shared_session-send : (J : RattleType) (q : _) (o : _) (n : _) (R G : RattleType) → IsSend R → IsSend G → IsSync G → IsSend (SharedSession.the_row (Core.the_row R J n o q) J G o n q)
+shared_session-send J q o n R G r g h = search (session-send J q o n, sendable) depth 20
