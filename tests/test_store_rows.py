@@ -3,8 +3,8 @@
     python3 tests/test_store_rows.py [--reference] [FOLDER]
 
 A row says what must be printed of it. The second reading must print the same, and so must each program: `test_store` of
-databases, compactions and interleavings, `test_collections` of maps, lists and trees. With `--reference` no program is run. The
-programs are crates/NAME/out/NAME, or FOLDER/NAME, and the build by the other compiler too, if it is there.
+databases, compactions and interleavings, `test_collections` of maps, lists, trees and runs. With `--reference` no program is
+run. The programs are crates/NAME/out/NAME, or FOLDER/NAME, and the build by the other compiler too, if it is there.
 """
 import os
 import sys
@@ -14,8 +14,8 @@ from lib.programs import TESTS, arguments, builds, missing, run
 from reference import rows
 
 ROWS = os.path.join(TESTS, "rows", "store")
-GO_ON = {"epochs", "epoch_copies", "epoch_world"}  # rows that go on over the end of a history
-PROGRAMS = {"test_store": {"database", "copies", "world"} | GO_ON, "test_collections": {"map", "list", "tree"}}
+GO_ON = {"epochs", "epoch_copies", "epoch_world", "epoch_steps"}  # rows that go on over the end of a history
+PROGRAMS = {"test_store": {"database", "copies", "world"} | GO_ON, "test_collections": {"map", "list", "tree", "runs"}}
 SHOWN = 300  # characters of a piece
 
 

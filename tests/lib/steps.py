@@ -71,6 +71,8 @@ STEPS = [
     python("tests/test_durability.py", PROGRAMS, COMPILER),
     python("tests/test_peers.py", PROGRAMS),
     python("tests/test_replication.py", PROGRAMS, COMPILER),
+    python("tests/test_live.py", PROGRAMS),
+    python("tests/test_proxy.py", PROGRAMS),
     python("tests/test_memory.py", PROGRAMS, COMPILER),
     python("tests/test_allocations.py", PROGRAMS, COMPILER),
     python("tests/test_leaks.py", PROGRAMS),

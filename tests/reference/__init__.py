@@ -24,7 +24,7 @@ indexes.
     versions       rows of commands, queries and a follower
     copies         rows of compactions that are made by slices
     worlds         rows of interleavings
-    containers     rows of maps, lists and trees
+    containers     rows of maps, lists, trees and runs
     dump_rows      rows of dumps that begin from a base
     rows           how rows are read
 

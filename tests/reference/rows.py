@@ -31,10 +31,12 @@ KINDS = {
     "map": containers.map_results,
     "list": containers.list_results,
     "tree": containers.tree_results,
+    "runs": containers.runs_results,
     # those that go on over the end of a history
     "epochs": versions.results,
     "epoch_copies": copies.results,
     "epoch_world": worlds.results_after,
+    "epoch_steps": worlds.results_after,
     "dump": dump_rows.results,
 }
 

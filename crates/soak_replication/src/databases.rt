@@ -6,9 +6,9 @@ use crate::documents::{Documents, Ids};
 use crate::run::tell_runs;
 use commands::{Config, Limits};
 use history_lock::{Opened, open};
-use http_handlers::Calls;
+use session_api::{Calls, Replica};
+use session_calls::{SeesVersion, SharedSession};
 use session_peer::SessionPeer;
-use sessions::Session;
 use std::alloc::{AllocError, Global};
 use std::io;
 use std::marker::Brand;
@@ -66,7 +66,7 @@ fn tell_between<
     J: Opening,
     T: Wait + Drop,
     R: Wait + Clock + Print + AllocGlobal + Drop,
-    S: Calls<R> + Drop,
+    S: Replica<R> + SeesVersion + Drop,
 >(rt: &R, target_rt: T, case: Case, source: S, target: Opened) -> io::Result<()>
     requires named { IsNamed J.book J.base J.table J.capacity J.sessions J.config target }
 {
@@ -75,13 +75,11 @@ fn tell_between<
 }
 
 /// Has the source take its documents, and goes through a case from one session to the other.
-fn tell_sessions<X: Print + Drop, S: Calls<X> + Drop, T: Calls<X> + Drop>(
-    rt: &X,
-    alloc: Global,
-    case: Case,
-    mut source: S,
-    target: T,
-) -> io::Result<()> {
+fn tell_sessions<
+    X: Print + Drop,
+    S: Replica<X> + SeesVersion + Drop,
+    T: Replica<X> + SeesVersion + Drop,
+>(rt: &X, alloc: Global, case: Case, mut source: S, target: T) -> io::Result<()> {
     let documents = case.script().documents;
     let ids = Ids::new(alloc, documents).ok_or(AllocError)?;
     write_documents(rt, alloc, documents, &mut source)?;
@@ -108,11 +106,12 @@ fn write_documents<X, S: Calls<X>>(
 pub(crate) fn session_of<J: Opening, T: Wait + Drop>(
     rt: T,
     opened: Opened,
-) -> Result<Session<Core<T, J>, J, NoGate>, AllocError>
+) -> Result<SharedSession<Core<T, J>, J, NoGate>, AllocError>
     requires named { IsNamed J.book J.base J.table J.capacity J.sessions J.config opened }
 {
     let Ok((_master, mut sessions)) = open::<T, J, NoGate>(rt, opened, NoGate) else {
         return Err(AllocError);
     };
-    sessions.pop().ok_or(AllocError)
+    let session = sessions.pop().ok_or(AllocError)?;
+    Ok(SharedSession::new(session))
 }

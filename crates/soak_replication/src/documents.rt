@@ -1,6 +1,6 @@
 //! The documents that a source has.
 
-use commands::{Command, Merge};
+use commands::{Command, Edit, Merge};
 use document_id::{DocId, DocIds};
 use json_profile::Body;
 use revision_id::RevId;
@@ -16,7 +16,7 @@ const THREE: [&str; 3] = ["a", "b", "c"];
 /// The id of the checkpoints.
 const CHECKPOINT: &str = "r";
 
-/// The revision that both leaves are written over, and the only one of each of three documents.
+/// The revision that leaves are written over.
 pub(crate) const ROOT: &str = "1-aaaaaaaaaaaaaaaaaaaaaaaaaaaaaaaa";
 
 /// The leaf that wins.
@@ -43,7 +43,7 @@ impl Documents {
         }
     }
 
-    /// What brings them to the source. All bodies are `{}`.
+    /// What brings them to the source: both leaves from elsewhere, the three by their first edits. All bodies are `{}`.
     pub(crate) fn command(self, alloc: Global) -> Option<Command> {
         match self {
             Documents::Conflict => both_leaves(alloc),
@@ -86,18 +86,22 @@ fn leaf(alloc: Global, revision: &str) -> Option<Merge> {
 
 fn three(alloc: Global) -> Option<Command> {
     let [first, second, third] = THREE;
-    let roots = [
-        root(alloc, first)?,
-        root(alloc, second)?,
-        root(alloc, third)?,
+    let edits = [
+        first_edit(alloc, first)?,
+        first_edit(alloc, second)?,
+        first_edit(alloc, third)?,
     ];
-    Command::merges(Vec::from_array(alloc, roots).ok()?)
+    Command::edits(Vec::from_array(alloc, edits).ok()?)
 }
 
-/// A document with one revision.
-fn root(alloc: Global, id: &str) -> Option<Merge> {
-    let path = [RevId::parse(ROOT).ok()?];
-    merge(alloc, id, Vec::from_array(alloc, path).ok()?)
+/// The first edit of a document.
+fn first_edit(alloc: Global, id: &str) -> Option<Edit> {
+    Some(Edit {
+        id: DocId::new(alloc, id).ok()?,
+        named: None,
+        deleted: false,
+        body: Arc::new(alloc, Body::empty(alloc)).ok()?,
+    })
 }
 
 fn merge(alloc: Global, id: &str, path: Vec<RevId>) -> Option<Merge> {

@@ -1,7 +1,8 @@
 //! What runs ask of an end.
 
-use http_handlers::Calls;
 use replicator::Peer;
+use session_api::Replica;
+use session_calls::SeesVersion;
 use session_peer::SessionPeer;
 use snapshots::Version;
 
@@ -11,7 +12,7 @@ pub(crate) trait End: Peer {
     fn version(&self) -> &Version;
 }
 
-impl<'c, X, S: Calls<X>> End for SessionPeer<'c, X, S> {
+impl<'c, X, S: Replica<X> + SeesVersion> End for SessionPeer<'c, X, S> {
     fn version(&self) -> &Version {
         self.session().version()
     }

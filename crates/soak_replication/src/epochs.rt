@@ -5,7 +5,8 @@ use crate::databases::{config, new_database, session_of};
 use crate::end::End;
 use crate::stage::{Stage, tell_stage};
 use history_lock::{Closed, Opened, open};
-use http_handlers::Calls;
+use session_api::Replica;
+use session_calls::{SeesVersion, SharedSession};
 use session_peer::SessionPeer;
 use std::alloc::AllocError;
 use std::io;
@@ -48,7 +49,7 @@ fn tell_beside<J: Opening, T: Wait + Drop, R: Wait + Clock + Print + AllocGlobal
 }
 
 /// Goes through a case with this session as the end that stays open.
-fn tell_staying<R: Wait + Clock + Print + AllocGlobal + Drop, S: Calls<R> + Drop>(
+fn tell_staying<R: Wait + Clock + Print + AllocGlobal + Drop, S: Replica<R> + SeesVersion + Drop>(
     rt: &R,
     side: Side,
     session: S,
@@ -103,13 +104,13 @@ fn epoch<J: Opening, T: Wait + Drop, R: Wait + Clock + Print + AllocGlobal + Dro
         return Err(AllocError.into());
     };
     let session = sessions.pop().ok_or(AllocError)?;
-    let stays = tell_ends(rt, side, stage, session, stays)?;
+    let stays = tell_ends(rt, side, stage, SharedSession::new(session), stays)?;
     Ok((master.close(Vec::new(rt.alloc()), rt), stays))
 }
 
 /// Goes through a stage between the session of the end that is closed after it and the end that stays
 /// open, which comes back.
-fn tell_ends<X: Print + AllocGlobal, S: Calls<X> + Drop, P: End + Drop>(
+fn tell_ends<X: Print + AllocGlobal, S: Replica<X> + SeesVersion + Drop, P: End + Drop>(
     rt: &X,
     side: Side,
     stage: Stage,

@@ -4,7 +4,8 @@
 //! compactions that are made by slices, and `world` events of sessions, an updater and a compactor. Statements are
 //! with `;` between. `epochs` and `epoch_copies` are such rows in which `reopen` goes on over the end of a history, and
 //! `epoch_world` is a world of the epoch after some commands. `tests/rows` has the rows and what they must print.
-//! `steps` is a world whose events happen once more where they are refused memory: `tests/test_allocations.py` refuses it.
+//! `steps` is a world, and `epoch_steps` one of the epoch after some commands, whose events happen once more if they are refused memory:
+//! `tests/test_allocations.py` refuses it.
 #![tactic(auto)]
 
 mod answers;
@@ -31,6 +32,7 @@ fn told(alloc: Global, row: &str) -> Result<String, Fail> {
         "world" => worlds::told(alloc, statements),
         "epoch_world" => worlds::told_after(alloc, statements),
         "steps" => worlds::told_by_steps(alloc, statements),
+        "epoch_steps" => worlds::told_after_by_steps(alloc, statements),
         _ => Err("a kind of row".into()),
     }
 }

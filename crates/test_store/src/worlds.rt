@@ -46,16 +46,39 @@ fn happened_after(alloc: Global, version: &Version, events: &[Event]) -> Result<
 /// The same as [`told`], one event after another. An event that is refused memory is reported, and happens then.
 pub(crate) fn told_by_steps(alloc: Global, row: &str) -> Result<String, Fail> {
     let events = events(alloc, row)?;
-    let mut machine = Machine::new(alloc, config()?)?;
+    let machine = Machine::new(alloc, config()?)?;
     let mut text = String::new(alloc);
-    for event in &events {
+    push_steps(&mut text, machine, &events)?;
+    Ok(text)
+}
+
+/// The same as [`told_after`], one event after another, as by [`told_by_steps`].
+pub(crate) fn told_after_by_steps(alloc: Global, row: &str) -> Result<String, Fail> {
+    let Some((commands, row)) = row.split_once('|') else {
+        return Err("a bar".into());
+    };
+    let mut text = String::new(alloc);
+    let version = written(alloc, commands, &mut text)?;
+    let events = events(alloc, row)?;
+    if !version.has_successor() {
+        return Err("no successor".into());
+    }
+    let machine = Machine::after(alloc, config()?, &version)?;
+    push_steps(&mut text, machine, &events)?;
+    Ok(text)
+}
+
+/// What the events make of a machine. One that is refused memory is reported, and happens then.
+fn push_steps(text: &mut String, machine: Machine, events: &[Event]) -> Result<(), Fail> {
+    let mut machine = machine;
+    for event in events {
         if machine.step(event).is_err() {
             text.push_str("out of memory;")?;
             machine.step(event)?;
         }
     }
-    push_record(&mut text, &machine.into_record())?;
-    Ok(text)
+    push_record(text, &machine.into_record())?;
+    Ok(())
 }
 
 /// Three sessions, of whose jobs four may wait, and no slack.
