@@ -4,10 +4,10 @@
     python3 docs/make.py            writes them
     python3 docs/make.py --check    says which pages are not as they would be written; status 1 where one is not
 
-A written document may have parts that are made too: between `<!-- docs/make.py: PART -->` and `<!-- docs/make.py ends -->`, where
-PART is `groups` or `crates` for the pictures of what depends on what, `table` for the crates with what they are, `reading` for how
-much one reads to believe each theorem, or `steps` for those of tests/all. What the third column of a table of crates or steps says,
-and the boxes of groups, is written by hand, and stays.
+A written document may have parts that are made too: between `<!-- docs/make.py: PART -->` and `<!-- docs/make.py ends -->`,
+where PART is `groups` or `crates` for the pictures of what depends on what, `table` for the crates with what they are,
+`reading` for how much one reads to believe each theorem, `steps` for those of tests/all, or `plots` for what benches/all drew.
+What the third column of a table of crates or steps says, and the boxes of groups, is written by hand, and stays.
 """
 import argparse
 import glob

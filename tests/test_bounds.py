@@ -2,13 +2,13 @@
 
     python3 tests/test_bounds.py [COUCHD]
 
-A document whose first 999 revisions are a chain has 2,000 leaves at the chain's tip. All of them with their paths are read as one
-answer: its length is the one that was announced, its text is that of the rules, and meanwhile the program holds a part of it alone.
-A continuous feed of 80,000 documents by their ids gives a row of each, in the order of their updates, at a cost that grows with their
-number and not with its square.
-Then a server that may have 100 MB of address space takes documents until it refuses them, and is read from there on, by connections old
-and new: documents of 20 bytes, and of 20 kB, which take more than what a refused write gave back. Its threads have one heap; where each
-asks for one of its own, some have none in so little space: they may be refused a write or a read at any time, but are never silent.
+A document whose first 999 revisions are a chain has 2,000 leaves at the chain's tip. All of them with their paths are read as
+one answer: its length is the one that was announced, its text is that of the rules, and meanwhile the program holds a part of
+it alone. A continuous feed of 80,000 documents by their ids gives a row of each, in the order of their updates, at a cost that
+grows with their number and not with its square. Then a server that may have 100 MB of address space takes documents until it
+refuses them, and is read from there on, by connections old and new: documents of 20 bytes, and of 20 kB, which take more than
+what a refused write gave back. Its threads have one heap; where each asks for one of its own, some have none in so little
+space: they may be refused a write or a read at any time, but are never silent.
 """
 import json
 import os
@@ -43,11 +43,17 @@ def write_leaves(connection, checks):
     """Writes the document, by bulks of which only the first has the whole chain."""
     all_paths = paths()
     documents = [
-        {"_id": "p", "_rev": "%d-%s" % (CHAIN + 1, path[0]), "_revisions": {"start": CHAIN + 1, "ids": path if at == 0 else path[:2]}}
+        {
+            "_id": "p",
+            "_rev": "%d-%s" % (CHAIN + 1, path[0]),
+            "_revisions": {"start": CHAIN + 1, "ids": path if at == 0 else path[:2]},
+        }
         for at, path in enumerate(all_paths)
     ]
     for at in range(0, LEAVES, 1000):
-        status, refused = connection.ask("POST", "/db/_bulk_docs", json.dumps({"docs": documents[at : at + 1000], "new_edits": False}).encode())
+        status, refused = connection.ask(
+            "POST", "/db/_bulk_docs", json.dumps({"docs": documents[at : at + 1000], "new_edits": False}).encode()
+        )
         checks.check((status, refused) == (201, []), "a bulk of leaves: %d", status)
 
 
@@ -55,7 +61,8 @@ def expected():
     """The answer, from the rules: leaves by their order, the lowest first."""
     chain = ",".join('"%s"' % hash_of(generation) for generation in range(CHAIN, 0, -1))
     return [
-        '{"ok":{"_id":"p","_rev":"%d-%s","_revisions":{"ids":["%s",%s],"start":%d}}}' % (CHAIN + 1, path[0], path[0], chain, CHAIN + 1)
+        '{"ok":{"_id":"p","_rev":"%d-%s","_revisions":{"ids":["%s",%s],"start":%d}}}'
+        % (CHAIN + 1, path[0], path[0], chain, CHAIN + 1)
         for path in paths()
     ]
 
@@ -115,7 +122,9 @@ def listed_feed(couchd, checks):
         *given, last, end = feed.rest.decode().split("\n")
         spent = processor_seconds(server.process.pid) - before
         print("a feed of %d listed documents took %.2f seconds of the processor" % (LISTED, spent))
-        checks.check((given, last, end) == (rows, '{"last_seq":%d,"pending":0}' % LISTED, ""), "the rows of a feed of listed documents")
+        checks.check(
+            (given, last, end) == (rows, '{"last_seq":%d,"pending":0}' % LISTED, ""), "the rows of a feed of listed documents"
+        )
         checks.check(spent <= FEED_SECONDS, "a feed of %d listed documents takes %.2f seconds", LISTED, spent)
 
 
@@ -134,7 +143,8 @@ def full_memory(couchd, checks, heaps):
 
 
 def write_large(port, checks, most_refusals):
-    """Writes the large documents while there is memory. Each write may be refused so many times, and is asked again over a new connection."""
+    """Writes the large documents while there is memory. Each write may be refused so many times, and is asked again over a new
+    connection."""
     connection = Connection(port)
     for number in range(LARGE):
         for refusals in range(most_refusals + 1):

@@ -7,14 +7,14 @@ folders. Of the pages that docs/make.py writes only the links are checked.
 
 - Commands: a block fenced as `sh` is run where a block with no language follows it under the same heading, which is its output.
   The blocks of a document run in order, each in a shell of its own, in a new folder with the repository's `examples` in it and
-  the programs on the path. Two servers are started for the document: 127.0.0.1:5984 and 127.0.0.1:5985 mean their ports. Standard
-  error counts as output, and `curl`, which has to be there, ends each answer with a line feed. A block without output that starts
-  servers is run too, on free ports: after a second each of them must be running, and have written nothing but its port. Blocks
-  without output that build or test (`rt`, `tests/all`) are not run.
+  the programs on the path. Two servers are started for the document: 127.0.0.1:5984 and 127.0.0.1:5985 mean their ports.
+  Standard error counts as output, and `curl`, which has to be there, ends each answer with a line feed. A block without output
+  that starts servers is run too, on free ports: after a second each of them must be running, and have written nothing but its
+  port. Blocks without output that build or test (`rt`, `tests/all`) are not run.
 - Links: a link to a file of the repository leads to one, and to a heading of it where it names one.
 - Diffs: a line that a block fenced as `diff` adds, under `+++ FILE`, is a line of that file.
-- Sizes: README.md has at most 600 words, each other page 3,500, and all together 20,000. The pages are README.md, CONTRIBUTING.md and
-  those of docs/ itself. What docs/make.py writes in them isn't counted.
+- Sizes: README.md has at most 600 words, each other page 3,500, and all together 20,000. The pages are README.md,
+  CONTRIBUTING.md and those of docs/ itself. What docs/make.py writes in them isn't counted.
 """
 import os
 import re

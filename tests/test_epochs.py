@@ -1,4 +1,4 @@
-"""Compares what `replay check` and `replay base`, raised or not, say of histories that go on from one another with what the
+"""Compares what `replay check` and `replay base`, raised or not, say of histories that continue one another with what the
 second reading says.
 
     python3 tests/test_epochs.py [--reference] [--seed N] [--epochs N] [--bases N] [COUCHD REPLAY]

@@ -2,24 +2,28 @@
 
     python3 tests/test_memory.py [COUCHD REPLAY]
 
-For each number N the program serves the requests below with its Nth request for memory refused. Either it ends with
-status 1 and has written nothing, or what it writes is a beginning of the ample answers, whole responses, and then one of
-the two texts for out of memory, which closes the connection; or the answers are the ample ones. A feed that goes on may end
-behind its head or behind a row. The text for a call that has no entry has the position of the answer before it, 0 where there
-is none; the text for a reply that is lost has the position after that. Each of the two must come in some run. A dump of the
-same requests is the ample one, or one of its beginnings where the connection was closed, or nothing or that of no entry with
-status 1; and an audit of the ample dump says what it says with ample memory, or `no memory` with status 4, or nothing with
-status 1 as long as its arguments are not read; so does the base after it, and both of a dump that begins from a base and of one
-of two entries, which is legal. It needs a C compiler.
+For each number N the program serves the requests below with its Nth request for memory refused. Either it ends with status 1
+and has written nothing, or what it writes is a beginning of the ample answers, whole responses, and then one of the two texts
+for out of memory, which closes the connection; or the answers are the ample ones. A feed that goes on may end behind its head
+or behind a row. The text for a call that has no entry has the position of the answer before it, 0 where there is none; the text
+for a reply that is lost has the position after that. Each of the two must come in some run. A dump of the same requests is the
+ample one, or one of its beginnings where the connection was closed, or nothing or that of no entry with status 1; and an audit
+of the ample dump says what it says with ample memory, or `no memory` with status 4, or nothing with status 1 as long as its
+arguments are not read; so does the base after it, and both of a dump that begins from a base and of one of two entries, which
+is legal. `couchd serve` answers a PUT in the same way, and a second connection then sees the entry exactly if the answer was
+that of the entry, or out of memory for the reply. It needs a C compiler.
 """
+import contextlib
 import re
 import sys
+from typing import NamedTuple
 
 from lib.based_dumps import small_dump
 from lib.checks import Checks
 from lib.programs import arguments
 from lib.refusals import refuser
 from lib.requests import request
+from lib.server import Server
 from reference.history import dump_of
 
 EMPTY = b'{"couch_history":1}\n'  # the dump of a history without entries
@@ -250,6 +254,58 @@ class Refusals:
         return ample.output
 
 
+# ---- a server
+
+
+class Served(NamedTuple):
+    """What a server answered to a PUT, nothing if no answer came; how many entries it had then; and what it wrote on standard
+    error."""
+
+    answer: object
+    entries: int
+    errors: str
+
+
+def put(server):
+    """The status and the reason of the answer to a PUT; nothing if none comes."""
+    with contextlib.suppress(OSError, EOFError), contextlib.closing(server.connect()) as writer:
+        status, value = writer.ask("PUT", "/db/a", b"{}")
+        return status, value.get("reason")
+    return None
+
+
+def entries(server):
+    """How many entries there are, by the first connection that is answered; nothing if none is."""
+    for _ in range(3):
+        with contextlib.suppress(OSError, EOFError), contextlib.closing(server.connect()) as reader:
+            if reader.ask("GET", "/db")[0] == 200:
+                return reader.place
+    return None
+
+
+def served(program, env):
+    with Server(program, "--workers", "1", env=env) as server:
+        if server.port is None:
+            return Served(None, None, server.reported())
+        answer = put(server)
+        return Served(answer, entries(server), server.reported())
+
+
+ENTRIES = {(201, None): 1, (507, "call"): 0, (507, "reply"): 1}  # that there are after an answer
+
+
+def check_server(refusals, program):
+    """A PUT over a server of which each request for memory is refused in turn. One that is refused at its start may end."""
+    found = []
+    for number, ran in enumerate(refusals.refuser.in_turn(lambda env: served(program, env)), 1):
+        found.append(ran.answer)
+        is_right = ran.entries == ENTRIES.get(ran.answer) if ran.answer else ran.entries in (None, 0)
+        refusals.checks.check(is_right, "a server, request %d refused: %r", number, ran)
+    print("a server and a PUT: %d requests for memory" % (len(found) - 1))
+    for answer in ENTRIES:
+        refusals.checks.check(answer in found, "no server answered %r", answer)
+
+
 def audit(refusals, replay, name, dump):
     """The verdict, with ample memory."""
     verdicts = []
@@ -268,6 +324,7 @@ def main():
             refusals.run(name, [given.couchd, "once"], data, is_response)
             dump = refusals.run("a dump of " + name, [given.couchd, "dump"], data, is_dump)
             audit(refusals, given.replay, name, dump)
+        check_server(refusals, given.couchd)
         audit(refusals, given.replay, "a dump over a base", small_dump())
         verdict = audit(refusals, given.replay, "a dump of two entries", dump_of(INPUTS["a PUT"] * 2))
         refusals.checks.check(verdict == b"legal 2\n", "a dump of two entries is %r", verdict)

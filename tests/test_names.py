@@ -2,13 +2,15 @@
 
     python3 tests/test_names.py
 
-The documents are README.md, CONTRIBUTING.md, CHANGELOG.md, tests/README.md, benches/README.md and those of docs/. Of experiments,
-which are dated, and of the pages that docs/make.py writes none is read. Code is what is in backticks, and no block.
+The documents are README.md, CONTRIBUTING.md, CHANGELOG.md, tests/README.md, benches/README.md and those of docs/. Of
+experiments, which are dated, and of the pages that docs/make.py writes none is read. Code is what is in backticks, and no
+block.
 
-- A name as `in_words`, `InWords` or `crate::Item` is a word of the code: of the crates' sources, definitions and proofs, or of the
-  scripts. A path with `::` is written in the code as it is, or what it ends with is defined in the crate, the module or the file of
-  the type that it begins with.
-- A path with `/` from a folder of the repository, or from `src`, `specs` or `proofs` of a crate, leads to a file or a folder.
+- A name as `in_words`, `InWords` or `crate::Item` is a word of the code: of the crates' sources, definitions and proofs, or of
+  the scripts. A path with `::` is written in the code as it is, or what it ends with is defined in the crate, the module or the
+  file of the type that it begins with.
+- A path with `/` from a folder of the repository, from a crate's name, or from `src`, `specs` or `proofs` of a crate, leads to
+  a file or a folder; the name of a file of code is that of one.
 - An option `--name` is one of `command_line`, or of the script that is run with it. Those of other programs are theirs.
 - What is called a step, and what `tests/all --only` is run with, is a step of tests/all.
 
@@ -30,6 +32,8 @@ SPAN = re.compile(r"(?<!`)`([^`\n]+)`(?!`)")
 BLOCK = re.compile(r"^ *```.*?^ *```$", re.S | re.M)
 PART = re.compile(r"[A-Za-z_]\w*(?:::[A-Za-z_]\w*)+|[A-Za-z_]\w*")
 PATH = re.compile(r"^(crates|tests|docs|benches|examples|src|specs|proofs|must-fail)/[\w./*{},-]+$")
+OF_CRATE = re.compile(r"^(\w+)/(src|specs|proofs|must-fail)\b[\w./*{},-]*$")
+SOURCE = re.compile(r"^[\w-]+\.(rt|antt|py|rs)$")
 SINGLE = re.compile(r"^[A-Za-z_]\w*(::[A-Za-z_]\w*)*(\(\))?$")
 OPTION = re.compile(r"(?<![\w-])--([a-z][a-z-]*)")
 NAMED = re.compile(r"\bsteps? ((?:`[\w./]+`(?:, | and | or )?)+)")
@@ -144,8 +148,17 @@ def is_there(path):
     path = re.sub(r"(?<![a-zA-Z])[A-Z]{2,}(?![a-zA-Z])", "*", path).split("/out")[
         0
     ]  # a word for any name; what is built may not be there
-    front = "" if path.split("/")[0] in FOLDERS else "crates/*/"
+    front = "" if path.split("/")[0] in FOLDERS else "crates/" if OF_CRATE.match(path) else "crates/*/"
     return all(glob.glob(front + it, root_dir=ROOT) for it in spread(path))
+
+
+def is_path(span):
+    return PATH.match(span) or OF_CRATE.match(span)
+
+
+def is_file(name):
+    """Whether some file of code has this name; NAME stands for any."""
+    return "NAME" in name or any(os.path.basename(path) == name for path in files())
 
 
 @functools.cache
@@ -161,7 +174,7 @@ def options_of(program):
 def programs_of(span):
     """Which programs an option in some code may be of: the one that it runs, or, of an option alone, ours and each script."""
     first, *rest = span.split()
-    if first == "python3":
+    if first == "python3" and rest:
         first = rest[0]
     if first.startswith("-"):
         return [*OURS, *(path for path in files() if path.startswith(("tests/", "benches/", "docs/")))]
@@ -189,8 +202,11 @@ def named_steps(text):
 def check_document(checks, name):
     text = BLOCK.sub("", content(name))
     for span in dict.fromkeys(SPAN.findall(text)):
-        if PATH.match(span) and span not in STEP_NAMES:
+        if is_path(span) and span not in STEP_NAMES:
             checks.check(is_there(span), "%s: there is no `%s`", name, span)
+            continue
+        if SOURCE.match(span):
+            checks.check(is_file(span), "%s: there is no file `%s`", name, span)
             continue
         for it in names_of(span):
             checks.check(is_known(it), "%s: `%s` is no name of the code, in `%s`", name, it, span)

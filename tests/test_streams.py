@@ -1,12 +1,13 @@
-"""Runs the built program on an input and an output that fail behind each byte, and on an output that takes a byte at a time.
+"""Runs the built program on an input and an output that fail after each byte, and on an output that takes a byte at a time.
 
     python3 tests/test_streams.py [COUCHD]
 
-An input of two requests fails behind each of its bytes: `couchd once` must have answered those that came whole, `couchd dump`
-have them in its history, and both end with status 1. The output fails behind each of its bytes too, and answers are written a
-byte at a time; where it fails once, the run ends and says so. Responses to requests that come together are one write, of 16 kB at
-most, and none waits for more input. What must be written is the reference's. `couchd serve` fails to write the response to a
-write behind its tenth byte: the entry is there on the next connection. It needs a C compiler.
+An input of two requests fails after each of its bytes, whether they come in one read or one a read: `couchd once` must have
+answered those that came whole, `couchd dump` have them in its history, and both end with status 1. The output fails after each of
+its bytes too, and answers are written a byte at a time; if it fails once, the run ends and reports so. Responses to requests that
+come together are one write, of 16 kB at most, and none waits for more input. What must be written is the reference's. `couchd
+serve` fails to write the response to a write after its tenth byte: the entry is there on the next connection. It needs a C
+compiler.
 """
 import hashlib
 import resource
@@ -58,6 +59,19 @@ def reads_that_fail(checks, program):
             checks.check(
                 found == (FAILED, wanted), "%s of %d bytes and a failure: %r in place of %r", word, length, found, wanted
             )
+
+
+def reads_of_a_byte_that_fail(checks, program):
+    """A read fails after reads of one byte each."""
+    data = PUT + PUT
+    with shims.environment("reads") as env:
+        for call in range(1, len(data) + 2):
+            begun = data[: call - 1]
+            for word, wanted in ("once", once.run(begun)[0]), ("dump", dump_of(begun)):
+                found = run([program, word], data, {**env, "FAIL_AT": str(call)})
+                checks.check(
+                    found == (FAILED, wanted, ""), "%s, whose read %d fails: %r in place of %r", word, call, found, wanted
+                )
 
 
 def run_with_room(program, data, room):
@@ -173,6 +187,7 @@ def main():
     checks = Checks()
     program = arguments(__doc__, "couchd").parse_args().couchd
     reads_that_fail(checks, program)
+    reads_of_a_byte_that_fail(checks, program)
     writes_that_fail(checks, program)
     writes_together(checks, program)
     writes_of_much(checks, program)

@@ -5,6 +5,7 @@
     plots     draws these
     pipe      a run of `couchd once` that is timed over pipes
     machine   what processes have used
+    relay     a server that is far away
 """
 import os
 import sys

@@ -57,7 +57,7 @@ class Ratios:
             bound = known.get(name)
             is_right = bound is not None and keeps(ratio, bound)
             failed += not is_right
-            text = "no stored ratio" if bound is None else "stored %.4g, %s" % (bound["stored"], bound_text(bound))
+            text = "no bound" if bound is None else "stored %s, %s" % (bound.get("stored", "nothing yet"), bound_text(bound))
             print("%s%s: %.4g (%s)" % ("" if is_right else "FAILED: ", name, ratio, text))
         return report(len(self.found) - failed, failed)
 

@@ -26,7 +26,7 @@ THEOREMS = [
     Theorem(
         "A connection",
         "What one connection of any session reads, is answered, and leaves.",
-        "crates/http_handlers/src/connection.rt",
+        "crates/http_turns/src/connection.rt",
         "serve",
     ),
     Theorem(

@@ -1,8 +1,12 @@
-"""The parts of written documents that are made from crates.txt and from the sources: what is between two comments, of which the first names it."""
+"""The parts of written documents that are made from crates.txt, from the sources and from what benches drew: what is between two
+comments, of which the first names it."""
+import json
+import os
 import re
 
 from lib import crates
 from lib.documents import content, written
+from lib.programs import ROOT
 from lib.steps import STEPS
 
 from .index_page import picture_of_crates, picture_of_groups
@@ -11,11 +15,17 @@ from .reading_page import totals_table
 
 REGION = re.compile(r"(<!-- docs/make\.py: ([\w ]+) -->\n)(.*?)(<!-- docs/make\.py ends -->)", re.S)
 BOX = re.compile(r'"\*\*([^*"]+)\*\*: ([^"]*)"')  # a group, and what its box says
+PLOTS = {
+    "throughput": "Requests a second over 1 to 64 connections, beside plain Rust, nginx and redis.",
+    "growth": "What an operation takes as the database grows, of what it takes at the first size.",
+    "starts": "Starts over a journal, beside the PUTs that it keeps.",
+}  # of each plot what it shows
 CELL = re.compile(r"^\| \[?`([\w/]+)`[^|]*\|[^|]*\| ([^|]*[^| ]) *\|$", re.M)  # a name, and the third cell of its row
 
 
 def table_of_crates(found, old):
-    """A table for each group, of the crates with what they are, and with what the old text says in the last column, which a person writes."""
+    """A table for each group, of the crates with what they are, and with what the old text says in the last column, which a
+    person writes."""
     last = dict(CELL.findall(old))
     columns = ["Crate", "What it is", *(["What its contracts say"] if last else [])]
     parts = []
@@ -34,6 +44,14 @@ def table_of_steps(old):
     return table(["Step", "What it does", "Seconds"], rows)
 
 
+def pictures():
+    """The plots that benches/all drew from the figures that are stored, in the order of the page, each with what it shows."""
+    path = "benches/measured.json"
+    found = json.loads(content(path)) if os.path.exists(os.path.join(ROOT, path)) else {}
+    shown = ["![%s](plots/%s.svg)" % (about, name) for name, about in PLOTS.items() if name in found]
+    return "\n\n".join(shown) or "No plot is drawn yet."
+
+
 def filled(text, found, lines, theorems):
     """A document with its made parts as they are now."""
     made = {
@@ -42,6 +60,7 @@ def filled(text, found, lines, theorems):
         "table": lambda old: table_of_crates(found, old),
         "steps": table_of_steps,
         "reading": lambda _: totals_table(theorems, "reference/reading.md"),
+        "plots": lambda _: pictures(),
     }
     return REGION.sub(lambda it: "%s\n%s\n\n%s" % (it[1], made[it[2]](it[3]), it[4]), text)
 

@@ -16,20 +16,22 @@ IGNORE_FULL = ["env", "--ignore-signal=XFSZ"]  # a write past the size that a fi
 
 
 def bounded(limits):
-    """What runs a program whose resources are bounded: names of options of prlimit, with what each allows. A bound that ends with a
-    colon may be raised again."""
+    """What runs a program whose resources are bounded: names of options of prlimit, with what each allows. A bound that ends with
+    a colon may be raised again."""
     return [*IGNORE_FULL, "prlimit", *("--%s=%s" % it for it in limits.items())] if limits else []
 
 
 class Server:
-    """A running `couchd serve`, on a port that was free, or over a folder `data`. The port is None where it ended in place of
-    listening, or didn't listen in time. What it writes on standard error is kept, and printed where an exception ends its use."""
+    """A running `couchd serve`, on a port that was free unless one is given, or over a folder `data`. The port is None if it
+    ended and didn't listen, or didn't listen in time. What it writes on standard error is kept, and printed if an exception
+    ends its use.
+    """
 
-    def __init__(self, program, *options, data=None, env=None, limits=None, seconds=SECONDS):
+    def __init__(self, program, *options, data=None, port=0, env=None, limits=None, seconds=SECONDS):
         folder = [] if data is None else ["--data", data]
         self.errors = tempfile.TemporaryFile()
         self.process = subprocess.Popen(
-            [*bounded(limits), program, "serve", "--port", "0", *folder, *options],
+            [*bounded(limits), program, "serve", "--port", str(port), *folder, *options],
             stdin=subprocess.DEVNULL,
             stdout=subprocess.PIPE,
             stderr=self.errors,

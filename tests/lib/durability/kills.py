@@ -8,14 +8,23 @@ from lib.ledgers import Clients, Ledger, look
 
 WRITERS = 8
 ONCE = {"always": 4, "second": 20, "never": 8}  # runs of one write and a signal at once
+SIGNALS = signal.SIGTERM, signal.SIGINT, signal.SIGHUP
 
 
 def kills(given):
+    heed_signals()
     for policy in POLICIES:
         for options in ((), ("--max-places", "300")):
             at_random(given, policy, options)
-        for by in (signal.SIGTERM, signal.SIGINT, signal.SIGHUP):
+        for by in SIGNALS:
             at_once(given, policy, by)
+
+
+def heed_signals():
+    """A shell has what it runs in the background ignore some signals, and what that starts ignores them too: they end a server again."""
+    for by in SIGNALS:
+        if signal.getsignal(by) == signal.SIG_IGN:
+            signal.signal(by, signal.SIG_DFL)
 
 
 def at_random(given, policy, options):

@@ -2,6 +2,7 @@
 
     refuse    counts requests for memory, and refuses those that it is asked to
     pieces    lets each write move one byte
+    reads     lets each read of standard input move one byte, and fails one of them
     cut       fails the first response over a socket behind its tenth byte
     once      fails the first write to standard output
     disk      logs what is done to the files of a folder, delays and fails some of it, or ends the process there
