@@ -64,6 +64,7 @@ OPTIONS_OF_SERVE = (
     "      --data <DIR>                 Keeps the history in this folder, and goes on from what is there\n"
     "      --sync <WHEN>                When the journal is synced: 'always' before a write is answered, each 'second' (so where it is left out), or 'never' by the server\n"
     "      --keep <FILES>               How many files of the journal stay; all do where it is left out\n"
+    "      --read-only                  Writes nothing to the folder, and refuses writes\n"
     "  -h, --help                       Print help\n"
 )
 HELP_OF_SERVE = SERVE + "\n\nUsage: couchd serve [OPTIONS]\n" + OPTIONS_OF_SERVE
@@ -95,7 +96,7 @@ NO_USER = "error: '--source' and '--target' have no user: name a proxy that adds
 NO_PATH = "error: '--source' and '--target' have no path but /db: for another one, name a proxy that adds it\n" + USAGE
 ONE_PLACE = "error: '--source' and '--target' are one place\n" + USAGE
 NO_ID = "error: the id has not 1 to 512 bytes, or begins with '_'\n" + USAGE
-NO_FOLDER = "error: '--sync' and '--keep' are for a journal, and go with '--data'\n" + USAGE
+NO_FOLDER = "error: '--sync', '--keep' and '--read-only' are for a journal, and go with '--data'\n" + USAGE
 NO_SYNC = "error: the journal is synced 'always', each 'second' or 'never'\n" + USAGE
 NO_SESSION = "error: with '--data' there are at most 63 workers\n" + USAGE
 NO_LIST = "error: the list of documents has an id that is no text of 1 to 512 bytes\n" + USAGE
@@ -233,6 +234,7 @@ REFUSED = [
     (["serve", "--sync", "always"], NO_FOLDER),
     (["serve", "--keep", "2"], NO_FOLDER),
     (["serve", "--keep", "2", "--sync", "never"], NO_FOLDER),
+    (["serve", "--read-only"], NO_FOLDER),
     (["serve", "--data", "d", "--sync", "often"], NO_SYNC),
     (["serve", "--data", "d", "--sync", "Always"], NO_SYNC),
     (["serve", "--data", "d", "--sync", ""], NO_SYNC),

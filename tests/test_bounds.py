@@ -1,28 +1,37 @@
-"""Bounds the memory of a long answer and the time of a feed, and has small documents read where the memory for writes is used up.
+"""Bounds the memory of long answers and the time of a feed, and has small documents read where the memory for writes is used up.
 
     python3 tests/test_bounds.py [COUCHD]
 
-A document whose first 999 revisions are a chain has 2,000 leaves at the chain's tip. All of them with their paths are read as
-one answer: its length is the one that was announced, its text is that of the rules, and meanwhile the program holds a part of
-it alone. A continuous feed of 80,000 documents by their ids gives a row of each, in the order of their updates, at a cost that
-grows with their number and not with its square. Then a server that may have 100 MB of address space takes documents until it
-refuses them, and is read from there on, by connections old and new: documents of 20 bytes, and of 20 kB, which take more than
-what a refused write gave back. Its threads have one heap; where each asks for one of its own, some have none in so little
-space: they may be refused a write or a read at any time, but are never silent.
+A document whose first 999 revisions are a chain has 2,000 leaves at the chain's tip. All of them with their paths are read as one
+answer: its length is the one that was announced, its text is that of the rules, and meanwhile the program holds a few pieces of it. So it
+is with a document of 18,700 leaves, of which each lists the others as conflicts: 13 GB, of which a beginning is read. The changes of
+300,000 documents, and all of these documents, are read as one answer each; the program holds their rows, but not their text.
+A continuous feed of 80,000 documents by their ids gives a row of each, in the order of their updates, at a cost that grows with their
+number and not with its square.
+Then a server that may have 100 MB of address space takes documents until it refuses them, and is read from there on, by connections old
+and new: documents of 20 bytes, and of 20 kB, which take more than what a refused write gave back. Its threads have one heap; where each
+asks for one of its own, some have none in so little space: they may be refused a write or a read at any time, but are never silent.
 """
 import json
 import os
 import sys
+import time
 from collections import Counter
 
 from lib.checks import Checks
-from lib.programs import arguments, memory, processor_seconds
+from lib.programs import arguments, forget_most, memory, processor_seconds
 from lib.server import Connection, Server
 
 CHAIN, LEAVES = 999, 2000
+CONFLICTS = 18_700  # in one bulk of a megabyte
 LISTED, BULK = 80_000, 20_000
+DOCUMENTS = 300_000
 FEED_SECONDS = 3  # of the server's processor time, on a slow and busy machine; a quadratic cost is many times that
 MEGABYTE = 1 << 20
+BEGINNING = 200 * MEGABYTE  # of an answer that isn't read to its end
+HELD = 32 * MEGABYTE  # at most, for an answer that is longer
+HELD_CHANGES, HELD_DOCUMENTS = 60 * MEGABYTE, 24 * MEGABYTE  # the rows of so many documents, and a piece of their text
+FIRST_SECONDS = 2  # until an answer begins
 SPACE = 102400 * 1024  # bytes of address space
 REFUSALS, READS = 20, 1000
 LARGE, LARGE_SIZE = 50, 20_000
@@ -78,24 +87,54 @@ def body(connection, length):
     return bytes(data)
 
 
-def long_answer(couchd, checks):
+def read_long(server, target, checks, most=None, may_hold=HELD):
+    """A long answer, or its first bytes, at most so many, and the length that was announced. The program holds at most so much for it."""
+    connection = Connection(server.port)
+    forget_most(server.process.pid)
+    before = memory(server.process.pid, "VmRSS")
+    began = time.monotonic()
+    connection.send("GET", target)
+    status, headers = connection.head()
+    waited = time.monotonic() - began
+    length = int(headers["Content-Length"])
+    text = body(connection, length if most is None else min(length, most)).decode()
+    held = memory(server.process.pid, "VmHWM") - before
+    print("%s: an answer of %d bytes began after %.2f seconds, and %d more were held" % (target, length, waited, held))
+    checks.check(status == 200, "%s: status %d", target, status)
+    checks.check(waited <= FIRST_SECONDS, "%s: begins after %.2f seconds", target, waited)
+    checks.check(held <= may_hold, "%s: %d bytes are held for an answer of %d", target, held, length)
+    if most is None:
+        status, _ = connection.ask("GET", "/db")
+        checks.check(status == 200, "%s: the connection goes on: %d", target, status)
+    connection.close()
+    return text, length
+
+
+def long_paths(couchd, checks):
+    """Leaves with their paths."""
     with Server(couchd, "--workers", "2") as server:
-        connection = Connection(server.port)
-        write_leaves(connection, checks)
-        before = memory(server.process.pid, "VmRSS")
-        connection.send("GET", "/db/p?open_revs=all&revs=true")
-        status, headers = connection.head()
-        length = int(headers["Content-Length"])
-        text = body(connection, length).decode()
-        checks.check(status == 200, "status %d", status)
+        write_leaves(Connection(server.port), checks)
+        text, _ = read_long(server, "/db/p?open_revs=all&revs=true", checks)
         found = text[1:-1].replace('}},{"ok"', '}}\n{"ok"').split("\n")
         checks.check(sorted(found) == sorted(expected()) and text[0] + text[-1] == "[]", "the text of the leaves")
-        checks.check(len(text) == length, "%d bytes for %d", len(text), length)
-        most, after = memory(server.process.pid, "VmHWM") - before, memory(server.process.pid, "VmRSS") - before
-        print("an answer of %d bytes: %d more were held, and %d are" % (length, most, after))
-        checks.check(most <= length, "%d bytes are held for an answer of %d", most, length)
-        status, _ = connection.ask("GET", "/db/p")
-        checks.check(status == 200, "the connection goes on: %d", status)
+        checks.check(len(text) > HELD, "an answer of %d bytes is longer than what may be held", len(text))
+
+
+def many_conflicts(couchd, checks):
+    """Leaves of which each lists all but the winner as conflicts."""
+    with Server(couchd, "--workers", "2") as server:
+        leaves = ["1-" + hash_of(leaf) for leaf in range(CONFLICTS)]
+        bulk = {"docs": [{"_id": "c", "_rev": rev} for rev in leaves], "new_edits": False}
+        status, refused = Connection(server.port).ask("POST", "/db/_bulk_docs", bulk)
+        checks.check((status, refused) == (201, []), "a bulk of conflicts: %d", status)
+        text, length = read_long(server, "/db/c?open_revs=all&conflicts=true", checks, BEGINNING)
+        winner_first = leaves[::-1]  # the greatest hash of one generation wins
+        front = '{"ok":{"_conflicts":[%s],"_id":"c","_rev":' % ",".join('"%s"' % rev for rev in winner_first[1:])
+        of_one = len(front + '"%s"}}' % leaves[0])
+        whole_ones = len(text) // (of_one + 1)
+        checks.check(length == CONFLICTS * (of_one + 1) + 1, "the length of the conflicts: %d", length)
+        beginning = "[" + ",".join('%s"%s"}}' % (front, rev) for rev in winner_first[:whole_ones])
+        checks.check(text.startswith(beginning) and whole_ones > 200, "the text of the conflicts")
 
 
 def write_listed(connection, ids, checks):
@@ -106,6 +145,21 @@ def write_listed(connection, ids, checks):
         checks.check(status == 201, "a bulk of documents: %d", status)
         revs += [one["rev"] for one in written]
     return ['{"changes":[{"rev":"%s"}],"id":"%s","seq":%d}' % (rev, id, at + 1) for at, (id, rev) in enumerate(zip(ids, revs))]
+
+
+def many_documents(couchd, checks):
+    """The changes of many documents, and all of them: the lists of their rows, in the order of updates and in that of ids."""
+    with Server(couchd, "--workers", "2") as server:
+        ids = ["k%d" % number for number in range(DOCUMENTS)]
+        rows = write_listed(Connection(server.port), ids, checks)
+        text, length = read_long(server, "/db/_changes", checks, may_hold=HELD_CHANGES)
+        changes = '{"last_seq":%d,"pending":0,"results":[%s]}' % (DOCUMENTS, ",".join(rows))
+        checks.check((text, length) == (changes, len(changes)), "the changes of %d documents", DOCUMENTS)
+        winners = {id: json.loads(row)["changes"][0]["rev"] for id, row in zip(ids, rows)}
+        listed = ['{"id":"%s","key":"%s","value":{"rev":"%s"}}' % (id, id, winners[id]) for id in sorted(ids)]
+        text, length = read_long(server, "/db/_all_docs", checks, may_hold=HELD_DOCUMENTS)
+        documents = '{"offset":0,"rows":[%s],"total_rows":%d}' % (",".join(listed), DOCUMENTS)
+        checks.check((text, length) == (documents, len(documents)), "all of %d documents", DOCUMENTS)
 
 
 def listed_feed(couchd, checks):
@@ -193,7 +247,7 @@ def reads(port, name, documents, each_anew):
 def main():
     couchd = arguments(__doc__, "couchd").parse_args().couchd
     checks = Checks()
-    for bound in long_answer, listed_feed:
+    for bound in long_paths, many_conflicts, many_documents, listed_feed:
         bound(couchd, checks)
     for heaps in ({}, ONE_HEAP):
         full_memory(couchd, checks, heaps)

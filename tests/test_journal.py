@@ -2,7 +2,7 @@
 
     python3 tests/test_journal.py [--long] [COUCHD [REPLAY]]
 
-A disk that is full, a file that is cut at each byte of its last two lines, a byte that is changed at each place of a small file,
+A disk that is full, also at a start, a folder that is only read, a file that is cut at each byte of its last two lines, a byte that is changed at each place of a small file,
 two servers on one folder, a folder that can't be made, and what goes on over a start: documents, update numbers, purges, limits
 and local documents. At last full histories: how many files stay, a next file that can't be made, and epochs of 1,000 places, one
 after another, under clients that write and follow. Each file of a folder is audited by `replay check`. With `--long` each byte
@@ -18,7 +18,7 @@ import time
 
 from lib.checks import Checks
 from lib.ends import replicate
-from lib.journals import RAISE, audit, files, is_there, name_of, neighbours, whole_lines
+from lib.journals import RAISE, audit, contents, files, is_there, name_of, neighbours, whole_lines
 from lib.programs import SECONDS, arguments, run
 from lib.server import Connection, Server
 
@@ -106,6 +106,77 @@ def mended(checks, program, replay, policy):
             checks.check(not lost, "%d of %d are lost behind a full disk", len(lost), len(kept + seen))
         left = [name for name in os.listdir(folder) if name.endswith(".new")]
         checks.check(left == [], "%r are left", left)
+
+
+def starts_full(checks, program, replay, policy):
+    """A start that can't make its next file serves what it read, refuses writes by the reason `journal`, and goes on by itself once
+    there is room; so does the first start in a folder."""
+    for full in (False, True):
+        with tempfile.TemporaryDirectory() as folder:
+            kept = []
+            if full:
+                with Server(program, "--sync", "always", data=folder) as server:
+                    connection = Connection(server.port)
+                    kept = [("d%d" % n, connection.ask("PUT", "/db/d%d" % n, {"n": n})[1]["rev"]) for n in range(20)]
+            there = {name: whole_lines(folder, name) for name in files(folder)}
+            beside = os.path.join(folder, name_of(1 + full) + ".new")
+            os.mkdir(beside)  # in its place no file can be made
+            with Server(program, "--sync", policy, "--workers", "4", data=folder) as server:
+                checks.check(server.port is not None, "no start where no file can be made: %r", server.reported())
+                connection = Connection(server.port)
+                lost = [write for write in kept if not is_there(connection, *write)]
+                checks.check(not lost, "%d of %d are not read where no file can be made", len(lost), len(kept))
+                status, value = connection.ask("PUT", "/db/refused", {})
+                checks.check((status, value.get("reason")) == (503, "journal"), "%d, %r where no file can be made", status, value)
+                said = server.reported()
+                checks.check("no epoch begins yet" in said and os.path.basename(beside) in said, "such a start says %r", said)
+                still = {name: whole_lines(folder, name) for name in files(folder)}
+                checks.check(still == there, "such a start leaves %r", sorted(still))
+                os.rmdir(beside)
+                kept.append(("after", taken_again(server, "after")))
+                checks.check(kept[-1][1] is not None, "no write once there is room: %r", server.reported())
+                kept.append(("more", connection.ask("PUT", "/db/more", {})[1]["rev"]))
+            checks.check(len(files(folder)) == 1 + full, "%r are there once there is room", files(folder))
+            audit(checks, replay, folder)
+            with Server(program, data=folder) as server:
+                connection = Connection(server.port)
+                lost = [write for write in kept if not is_there(connection, *write)]
+                checks.check(not lost, "%d of %d are lost behind a start that made no file", len(lost), len(kept))
+
+
+def reads_only(checks, program):
+    """With `--read-only` what is there is read, each write is refused, and no file is made, changed or removed."""
+    with tempfile.TemporaryDirectory() as folder:
+        small(checks, program, folder)
+        os.remove(os.path.join(folder, "lock"))
+        there = contents(folder)
+        with Server(program, "--read-only", data=folder) as server:
+            checks.check("it is only read" in server.first_report(SECONDS), "a read-only start says %r", server.reported())
+            connection = Connection(server.port)
+            checks.check(connection.ask("GET", "/db/a")[1].get("n") == 3, "a read-only server doesn't have a document")
+            checks.check(connection.ask("GET", "/db/_local/l")[1].get("n") == 2, "a read-only server lacks a local document")
+            for method, path, body in (
+                ("PUT", "/db/new", {}),
+                ("POST", "/db/_bulk_docs", {"docs": [{"_id": "b"}]}),
+                ("POST", "/db/_purge", {"b": ["1-" + "0" * 32]}),
+                ("PUT", "/db/_local/m", {}),
+                ("PUT", "/db/_revs_limit", 9),
+            ):
+                status, value = Connection(server.port).ask(method, path, body)
+                checks.check(
+                    (status, value.get("reason")) == (503, "journal"), "%s %s of a read-only server: %d, %r", method, path, status, value
+                )
+            checks.check(Connection(server.port).ask("GET", "/db/a")[0] == 200, "no read after a refused write")
+            time.sleep(3)  # it makes no file later either
+            checks.check("written anew" not in server.reported(), "a read-only server says %r", server.reported())
+        checks.check(contents(folder) == there, "a read-only server leaves %r", sorted(contents(folder)))
+        with Server(program, data=folder) as server:
+            checks.check(Connection(server.port).ask("PUT", "/db/new", {})[0] == 201, "no write after a read-only server")
+    with tempfile.TemporaryDirectory() as folder:
+        missing = os.path.join(folder, "none")
+        with Server(program, "--read-only", data=missing) as server:
+            checks.check(server.port is None and server.status() == 1, "a folder that isn't there is served")
+        checks.check(not os.path.exists(missing), "a read-only start makes its folder")
 
 
 # ---- spoilt files
@@ -482,6 +553,8 @@ def main():
     for policy in ("always", "second", "never"):
         full_disk(checks, given.couchd, given.replay, policy)
         mended(checks, given.couchd, given.replay, policy)
+        starts_full(checks, given.couchd, given.replay, policy)
+    reads_only(checks, given.couchd)
     keeps(checks, given.couchd, given.replay)
     no_next_epoch(checks, given.couchd, given.replay)
     full_histories(checks, given.couchd, given.replay, 20 if given.long else 4)

@@ -1,9 +1,7 @@
 -- The texts of answers, in parts.
-use Rattle.std.proofs.Common.{◌≡◌, ℕ, Bool, true, false, List, ◌++◌, append_assoc, map, length, refl, sym, ap, ◌∙◌, decimal, arith}
+use Rattle.std.proofs.Common.{◌≡◌, ℕ, Bool, true, false, List, ◌++◌, append_assoc, length, refl, sym, ap, ◌∙◌, decimal, arith}
 use Rattle.std.specs.Prelude.{codes}
 use Rattle.std.proofs.lemmas.Fmt.{decimal_digit}
-use Rattle.serde_json.specs.Data.{array}
-use Rattle.serde_json.specs.View.{items_of}
 use Rattle.serde_json.specs.Written.{compact_text}
 use Rattle.serde_json.proofs.OnLiterals.{serde_json_on_literals}
 use Rattle.json.specs.Print.{quoted}
@@ -11,8 +9,8 @@ use Rattle.model.specs.Command.{Id, names}
 use Rattle.model.specs.Map.{Map}
 use Rattle.model.specs.Query.{ChangesPage, Document, Row}
 use Rattle.model.specs.Revision.{Rev}
-use Rattle.api_json.specs.AllDocs.{all_docs_data, listed_data}
-use Rattle.api_json.specs.Changes.{before_id, leaves_data, named_rev_data, page_data, row_data}
+use Rattle.api_json.specs.AllDocs.{all_docs_data, all_listed_data, listed_data}
+use Rattle.api_json.specs.Changes.{before_id, leaves_data, named_rev_data, page_data, row_data, rows_data}
 use Rattle.api_json.specs.Opened.{found_data}
 use Rattle.api_json.specs.Purge.{purged_data, removed_data}
 use Rattle.api_json.specs.Replies.{write_data}
@@ -25,11 +23,11 @@ joined a b c d e f g = simp append_assoc refl
 abbrev pub page_front : ChangesPage → List ℕ
 page_front page = codes "{\"last_seq\":" ++ (decimal page.last_seq ++ (codes ",\"pending\":" ++ (decimal page.pending ++ codes ",\"results\":")))
 
-pub page_data-parts : (page : ChangesPage) → ((page_front page ++ compact_text (array (items_of (map row_data page.rows)))) ++ codes "}") ≡ compact_text (page_data page)
+pub page_data-parts : (page : ChangesPage) → ((page_front page ++ compact_text (rows_data page.rows)) ++ codes "}") ≡ compact_text (page_data page)
 unfolding serde_json_on_literals
 page_data-parts page =
     joined (codes "{\"last_seq\":") (decimal page.last_seq) (codes ",\"pending\":") (decimal page.pending) (codes ",\"results\":")
-    (compact_text (array (items_of (map row_data page.rows)))) (codes "}")
+    (compact_text (rows_data page.rows)) (codes "}")
 
 -- what comes before the documents of a purge
 abbrev pub purged_front : ℕ → List ℕ
@@ -50,10 +48,10 @@ all_docs_front = codes "{\"offset\":0,\"rows\":"
 abbrev pub all_docs_end : List (Id × Rev) → List ℕ
 all_docs_end documents = codes ",\"total_rows\":" ++ (decimal (length documents) ++ codes "}")
 
-pub all_docs_data-parts : (documents : List (Id × Rev)) → (all_docs_front ++ compact_text (array (items_of (map listed_data documents)))) ++ all_docs_end documents ≡ compact_text (all_docs_data documents)
+pub all_docs_data-parts : (documents : List (Id × Rev)) → (all_docs_front ++ compact_text (all_listed_data documents)) ++ all_docs_end documents ≡ compact_text (all_docs_data documents)
 unfolding serde_json_on_literals
 all_docs_data-parts documents =
-    let rows = compact_text (array (items_of (map listed_data documents))) in
+    let rows = compact_text (all_listed_data documents) in
     append_assoc all_docs_front rows (all_docs_end documents)
     ∙ ap (λ zero. codes "{\"offset\":" ++ (zero ++ (codes ",\"rows\":" ++ (rows ++ all_docs_end documents)))) (sym (decimal_digit 0 (omega arith)))
 

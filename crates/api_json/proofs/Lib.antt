@@ -6,3 +6,4 @@ pub mod NamedRevisions
 pub mod ObjectTexts
 pub mod OpenedLengths
 pub mod PlainRows
+pub mod RowLengths

@@ -38,9 +38,14 @@ before_id false = codes ",\"id\":"
 abbrev pub feed_line : Row → List ℕ
 feed_line row = compact_text (row_data row) ++ 10 ∷ []
 
+-- `[row,..]`
+-- CouchDB: GET /{db}/_changes, "results"
+abbrev pub rows_data : List Row → Data
+rows_data rows = array (items_of (map row_data rows))
+
 -- `{"last_seq":n,"pending":p,"results":[row,..]}`
 -- CouchDB: GET /{db}/_changes, "last_seq", "pending", "results"
 abbrev pub page_data : ChangesPage → Data
 page_data page =
     object (member (codes "last_seq") (number (unsigned page.last_seq)) (member (codes "pending") (number (unsigned page.pending))
-    (member (codes "results") (array (items_of (map row_data page.rows))) no_members)))
+    (member (codes "results") (rows_data page.rows) no_members)))

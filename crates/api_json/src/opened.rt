@@ -60,7 +60,11 @@ pub fn all_opened_text(
 }
 
 /// The length of a revision as it is written where it was asked for.
-fn opened_len(alloc: Global, opened: &Result<Document, RevId>) -> Result<usize, AllocError>
+///
+/// # Errors
+///
+/// As [`all_opened_len`].
+pub fn opened_len(alloc: Global, opened: &Result<Document, RevId>) -> Result<usize, AllocError>
     ensures { IfOk result (λ len. len ≡ length (compact_text (opened_data opened.now))) }
 {
     match opened {

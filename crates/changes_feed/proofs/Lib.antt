@@ -6,3 +6,4 @@ pub mod LackLists
 pub mod RowLists
 pub mod FirstPlaces
 pub mod Claimed
+pub mod OpenedLists

@@ -55,7 +55,8 @@ pub fn answer(alloc: Global, version: &Version, query: &Query) -> Result<Answer,
     }
 }
 
-fn listed(asked: &Option<Vec<RevId>>) -> Option<&[RevId]>
+/// The revisions that are listed, where some are.
+pub(crate) fn listed(asked: &Option<Vec<RevId>>) -> Option<&[RevId]>
     ensures { option_copied result ≡ option_map (λ revs. revs.items) asked.now }
 {
     match asked {

@@ -110,7 +110,11 @@ fn status(tree: &RevTree, rev: RevId) -> Status
 }
 
 /// The leaves, where conflicts were asked for.
-fn leaves_of(alloc: Global, tree: &RevTree, options: &Options) -> Result<Vec<RevId>, AllocError>
+pub(crate) fn leaves_of(
+    alloc: Global,
+    tree: &RevTree,
+    options: &Options,
+) -> Result<Vec<RevId>, AllocError>
     ensures { IfOk result (λ revs. revs.items ≡ listed_leaves options.now tree.now) }
 {
     if !options.conflicts && !options.deleted_conflicts {
@@ -121,7 +125,7 @@ fn leaves_of(alloc: Global, tree: &RevTree, options: &Options) -> Result<Vec<Rev
 
 /// The leaves other than the first that are deleted, or those that are not, where they were asked
 /// for.
-fn conflicts(
+pub(crate) fn conflicts(
     alloc: Global,
     tree: &RevTree,
     leaves: &[RevId],

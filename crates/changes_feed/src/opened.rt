@@ -83,7 +83,8 @@ fn opened_each(
     Ok(answer)
 }
 
-fn opened_at(
+/// A revision as a document, or its name where its body is not there.
+pub(crate) fn opened_at(
     alloc: Global,
     id: &DocId,
     tree: &RevTree,
@@ -99,7 +100,7 @@ fn opened_at(
 }
 
 /// The revisions that are shown.
-fn asked_of(
+pub(crate) fn asked_of(
     alloc: Global,
     tree: &RevTree,
     asked: Option<&[RevId]>,

@@ -10,3 +10,9 @@ with_one bare one first b f is_bare is_first is_one = cc
 pub with_three : (bare one two three : App) (x y z x' y' z' : Rule) → x ≡ x' → y ≡ y' → z ≡ z' → one ≡ with_rule bare x → two ≡ with_rule one y → three ≡ with_rule two z
     → three ≡ with_rule (with_rule (with_rule bare x') y') z'
 with_three bare one two three x y z x' y' z' is_x is_y is_z is_one is_two is_three = cc
+
+-- with four options more
+pub with_four : (bare one two three four : App) (x y z u x' y' z' u' : Rule) → x ≡ x' → y ≡ y' → z ≡ z' → u ≡ u'
+    → one ≡ with_rule bare x → two ≡ with_rule one y → three ≡ with_rule two z → four ≡ with_rule three u
+    → four ≡ with_rule (with_rule (with_rule (with_rule bare x') y') z') u'
+with_four bare one two three four x y z u x' y' z' u' is_x is_y is_z is_u is_one is_two is_three is_four = cc

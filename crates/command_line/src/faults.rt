@@ -78,7 +78,8 @@ pub(crate) const NOT_TEXT: &str = "invalid UTF-8 was detected in one or more arg
 pub(crate) const OUT_OF_RANGE: &str = "a number is out of its range";
 
 /// What is said of an option of the journal where no folder was given.
-pub(crate) const NO_FOLDER: &str = "'--sync' and '--keep' are for a journal, and go with '--data'";
+pub(crate) const NO_FOLDER: &str =
+    "'--sync', '--keep' and '--read-only' are for a journal, and go with '--data'";
 
 /// What is said where no folder is given that is repaired.
 pub(crate) const NO_DATA: &str = "there is no folder to repair";

@@ -1,12 +1,14 @@
 //! The options of `couchd serve` for its journal.
-ghost use Rattle.std.specs.Prelude.{◌≡◌, Err, IfOk, IfSome, IfNone, Option, ℕ, false, option_map, codes};
+ghost use Rattle.std.specs.Prelude.{◌≡◌, ◌↔◌, Err, IfOk, IfSome, IfNone, Option, ℕ, false, true, option_map, codes};
 ghost use Rattle.clap.specs.Words.{app_of, found_of, rows_of, rule_of};
 ghost use Rattle.clap.specs.declared.builder.command.Command.TheViews.{out-Command as fields_of};
+ghost use Rattle.command_line.specs.Flags.{flag};
 ghost use Rattle.command_line.specs.Numbers.{optional_number};
 ghost use Rattle.command_line.specs.Texts.{optional_text};
-ghost use Rattle.command_line.specs.Journal.{with_journal, IsJournalIn, IsJournalOf, IsKeepOf, IsSyncOf};
+ghost use Rattle.command_line.specs.Journal.{with_journal, IsGiven, IsJournalIn, IsJournalOf, IsKeepOf, IsSyncOf};
 
 use crate::faults::{GivenFault, NO_FOLDER, NO_SYNC, OUT_OF_RANGE};
+use crate::flags::flag;
 use crate::numbers::{number_in, optional_number, with_option};
 use crate::texts::{optional_text, text_of};
 use clap::{Arg, ArgMatches, Command};
@@ -32,6 +34,8 @@ pub struct JournalOptions {
     pub sync: SyncPolicy,
     /// How many of them stay, from 1 on; all do where no number was given.
     pub keep: Option<u32>,
+    /// Whether nothing is written to them.
+    pub read_only: bool,
 }
 
 /// The command with the options of the journal.
@@ -46,6 +50,7 @@ pub(crate) fn with_journal<'a>(
     let command = with_option(command, folder(alloc))?;
     let command = with_option(command, sync(alloc))?;
     let command = with_option(command, keep(alloc))?;
+    let command = with_option(command, read_only(alloc))?;
     Ok(command)
 }
 
@@ -76,6 +81,13 @@ fn keep<'a>(alloc: Global) -> Arg<'a>
     )
 }
 
+fn read_only<'a>(alloc: Global) -> Arg<'a>
+    ensures rule { rule_of result ≡ flag (codes "read-only") }
+    ensures local { result.global ≡ false }
+{
+    flag(alloc, "read-only").help("Writes nothing to the folder, and refuses writes")
+}
+
 /// The journal that the options of the subcommand ask for, if they do for one.
 pub(crate) fn journal_of(
     alloc: Global,
@@ -87,13 +99,14 @@ pub(crate) fn journal_of(
 {
     let sync = text_of(options, "sync");
     let keep = text_of(options, "keep");
+    let read_only = text_of(options, "read-only");
     let Some(folder) = text_of(options, "data") else {
-        if sync.is_some() || keep.is_some() {
+        if sync.is_some() || keep.is_some() || is_given(read_only) {
             return Err(GivenFault::Refused(NO_FOLDER));
         }
         return Ok(None);
     };
-    Ok(Some(journal_in(alloc, folder, sync, keep)?))
+    Ok(Some(journal_in(alloc, folder, sync, keep, read_only)?))
 }
 
 /// The journal in this folder.
@@ -102,12 +115,13 @@ fn journal_in(
     folder: &str,
     sync: Option<&str>,
     keep: Option<&str>,
+    read_only: Option<&str>,
 ) -> Result<JournalOptions, GivenFault>
     ensures given { IfOk result (IsJournalIn folder.now (option_map (λ text. text.now) sync.entry)
-        (option_map (λ text. text.now) keep.entry)) }
+        (option_map (λ text. text.now) keep.entry) (option_map (λ text. text.now) read_only.entry)) }
     ensures none { (reason : _) → result ≡ Err (GivenFault.Refused reason) → (journal : JournalOptions)
         → IsJournalIn folder.now (option_map (λ text. text.now) sync.entry)
-        (option_map (λ text. text.now) keep.entry) journal → ⊥ }
+        (option_map (λ text. text.now) keep.entry) (option_map (λ text. text.now) read_only.entry) journal → ⊥ }
 {
     let Some(sync) = sync_of(sync) else {
         return Err(GivenFault::Refused(NO_SYNC));
@@ -119,7 +133,15 @@ fn journal_in(
         folder: String::from_str(alloc, folder)?,
         sync,
         keep,
+        read_only: is_given(read_only),
     })
+}
+
+/// Whether the flag was given of which `clap` has this text.
+fn is_given(text: Option<&str>) -> bool
+    ensures { (result ≡ true) ↔ IsGiven (option_map (λ text. text.now) text.entry) }
+{
+    text == Some("true")
 }
 
 /// When the journal is synced; nothing where the text names no such time.

@@ -3,7 +3,7 @@ ghost use Rattle.std.specs.Prelude.{◌≡◌, ◌≤◌};
 
 use crate::serving::{Notices, address, say_port, terms};
 use command_line::{JournalOptions, Serving, SyncPolicy as Policy};
-use journal::{Begun, DiskFile, Dropped, Folder, Journal, StartFault, Started};
+use journal::{Access, Begun, DiskFile, Dropped, Folder, Journal, StartFault, Started};
 use journal_front::{Epoch, Epochs, Notices as JournalNotices, Service, SyncPolicy, run_kept};
 use snapshots::Version;
 use std::io;
@@ -21,7 +21,11 @@ impl JournalNotices<DiskFile> for Notices<'_> {
 
     ghost reported = { ⊤ };
 
+    /// Of one that is only read nothing is said: it has no file from the start.
     fn failed(&self, journal: &Journal<DiskFile>) {
+        if self.reads_only {
+            return;
+        }
         let _printed = eprintln!(self.rt;
             "couchd: the journal failed, and writes are refused until it is written anew"
         );
@@ -50,7 +54,7 @@ struct Files<'r> {
     folder: Folder,
     epoch: u64,
     keep: Option<u32>,
-    shows_kept: bool,
+    access: Access,
     port: u16,
 }
 
@@ -60,10 +64,10 @@ impl Epochs<DiskFile> for Files<'_> {
     ghost reported = { ⊤ };
 
     fn succeed(&mut self, _full: &Journal<DiskFile>, last: &Version) -> Option<Epoch<DiskFile>> {
-        match self
-            .folder
-            .succeed(self.rt, self.epoch, last, self.shows_kept)
-        {
+        let Access::ReadWrite { shows_kept } = self.access else {
+            return None;
+        };
+        match self.folder.succeed(self.rt, self.epoch, last, shows_kept) {
             Ok(begun) => Some(self.begun(begun)),
             Err(fault) => {
                 let _printed = eprintln!(self.rt;
@@ -79,10 +83,10 @@ impl Epochs<DiskFile> for Files<'_> {
         _broken: &Journal<DiskFile>,
         last: &Version,
     ) -> Option<Journal<DiskFile>> {
-        match self
-            .folder
-            .rewrite(self.rt, self.epoch, last, self.shows_kept)
-        {
+        let Access::ReadWrite { shows_kept } = self.access else {
+            return None;
+        };
+        match self.folder.rewrite(self.rt, self.epoch, last, shows_kept) {
             Ok(journal) => Some(journal),
             Err(fault) => {
                 let _printed = eprintln!(self.rt;
@@ -109,13 +113,33 @@ impl Files<'_> {
     fn begun(&mut self, begun: Begun) -> Epoch<DiskFile>
         ensures { result.version.base ≡ begun.version.base }
     {
+        remove_old(self.rt, &self.folder, begun.epoch, self.keep);
+        self.epoch_of(begun)
+    }
+
+    /// The first epoch, which may have no file yet: then no older one is removed.
+    fn first(&mut self, started: Started) -> Epoch<DiskFile> {
+        let Started {
+            begun,
+            unwritten,
+            ..
+        } = started;
+        if unwritten.is_some() || self.access == Access::ReadOnly {
+            return self.epoch_of(begun);
+        }
+        self.begun(begun)
+    }
+
+    /// An epoch that began.
+    fn epoch_of(&mut self, begun: Begun) -> Epoch<DiskFile>
+        ensures { result.version.base ≡ begun.version.base }
+    {
         let Begun {
             version,
             journal,
             epoch,
         } = begun;
         self.epoch = epoch;
-        remove_old(self.rt, &self.folder, epoch, self.keep);
         Epoch { version, journal }
     }
 }
@@ -137,21 +161,22 @@ pub(crate) fn serve<A: AllocGlobal + Threads + Wait + Clock + Sync>(
     let Some(folder) = opened(rt, port, options) else {
         return Ok(ExitCode::FAILURE);
     };
-    let Some(begun) = begin(rt, &folder, options) else {
-        close(rt, folder);
+    let access = access_of(options);
+    let Some(started) = begin(rt, &folder, access, options) else {
+        close(rt, folder, access);
         return Ok(ExitCode::FAILURE);
     };
     let mut files = Files {
         rt,
         folder,
-        epoch: begun.epoch,
+        epoch: started.begun.epoch,
         keep: options.keep,
-        shows_kept: shows_kept(options),
+        access,
         port,
     };
-    let first = files.begun(begun);
+    let first = files.first(started);
     let served = serve_from(rt, threads, listener, serving, options, first, &mut files);
-    close(rt, files.folder);
+    close(rt, files.folder, access);
     served
 }
 
@@ -177,7 +202,10 @@ fn serve_from<A: AllocGlobal + Threads + Wait + Clock + Sync>(
         max_places: serving.max_places,
         terms: terms(serving),
         policy: policy_of(options.sync),
-        notices: &Notices { rt },
+        notices: &Notices {
+            rt,
+            reads_only: options.read_only,
+        },
     };
     match run_kept(&service, first, files, threads) {
         Some(journal) if !journal.is_broken() => Ok(ExitCode::SUCCESS),
@@ -185,10 +213,25 @@ fn serve_from<A: AllocGlobal + Threads + Wait + Clock + Sync>(
     }
 }
 
-/// The folder, locked.
+/// What is done in the folder.
+fn access_of(options: &JournalOptions) -> Access {
+    if options.read_only {
+        return Access::ReadOnly;
+    }
+    Access::ReadWrite {
+        shows_kept: matches!(options.sync, Policy::Always),
+    }
+}
+
+/// The folder, locked. One that is only read is not made, and says no port.
 fn opened(rt: &HostRuntime, port: u16, options: &JournalOptions) -> Option<Folder> {
     let path = options.folder.as_str();
-    let folder = match Folder::open(rt, path, port) {
+    let locked = if options.read_only {
+        Folder::lock(rt, path)
+    } else {
+        Folder::open(rt, path, port)
+    };
+    let folder = match locked {
         Ok(folder) => folder,
         Err(fault) => {
             let _printed = eprintln!(rt; "couchd: {path}: {fault}");
@@ -200,24 +243,35 @@ fn opened(rt: &HostRuntime, port: u16, options: &JournalOptions) -> Option<Folde
             "couchd: {path}: a server on port {left} ended without giving it up"
         );
     }
+    if let Some(fault) = folder.unsaid() {
+        let _printed = eprintln!(rt; "couchd: {path}: the lock doesn't say the port: {fault}");
+    }
     Some(folder)
 }
 
 /// Gives the folder up.
-fn close(rt: &HostRuntime, folder: Folder) {
+fn close(rt: &HostRuntime, folder: Folder, access: Access) {
+    if access == Access::ReadOnly {
+        return;
+    }
     if let Err(fault) = folder.close(rt) {
         let _printed = eprintln!(rt; "couchd: the folder is not given up: {fault}");
     }
 }
 
-/// Begins the next epoch in the folder, and says what of the newest file is lost, if something is.
-fn begin(rt: &HostRuntime, folder: &Folder, options: &JournalOptions) -> Option<Begun> {
+/// Begins the next epoch in the folder, and says what of the newest file is lost, if something is, and whether anything is written.
+fn begin(
+    rt: &HostRuntime,
+    folder: &Folder,
+    access: Access,
+    options: &JournalOptions,
+) -> Option<Started> {
     let path = options.folder.as_str();
-    match folder.start(rt, shows_kept(options)) {
+    match folder.start(rt, access) {
         Ok(started) => {
             say_lost(rt, path, &started);
-            let Started { begun, .. } = started;
-            Some(begun)
+            say_unwritten(rt, path, access, &started);
+            Some(started)
         }
         Err(fault) => {
             let _printed = eprintln!(rt; "couchd: {path}: {fault}");
@@ -229,9 +283,16 @@ fn begin(rt: &HostRuntime, folder: &Folder, options: &JournalOptions) -> Option<
     }
 }
 
-/// Whether sessions show only what is kept.
-fn shows_kept(options: &JournalOptions) -> bool {
-    matches!(options.sync, Policy::Always)
+/// Says that writes are refused, where the epoch that begins has no file.
+fn say_unwritten(rt: &HostRuntime, path: &str, access: Access, started: &Started) {
+    if access == Access::ReadOnly {
+        let _printed = eprintln!(rt; "couchd: {path}: writes are refused: it is only read");
+    }
+    if let Some(fault) = &started.unwritten {
+        let _printed = eprintln!(rt;
+            "couchd: {path}: no epoch begins yet, and writes are refused until one does: {fault}"
+        );
+    }
 }
 
 /// Says what of the file that was read is dropped or missing, and where update numbers go on above it.

@@ -15,6 +15,8 @@ use std::time::{Clock, Duration};
 #[derive(Clone, Copy, Drop)]
 pub(crate) struct Notices<'r> {
     pub(crate) rt: &'r HostRuntime,
+    /// Whether the folder of the journal is only read.
+    pub(crate) reads_only: bool,
 }
 
 impl Lines for Notices<'_> {
@@ -68,7 +70,10 @@ pub(crate) fn serve<A: AllocGlobal + Threads + Wait + Clock + Sync>(
     if !say_port(rt, &listener)? {
         return Ok(ExitCode::FAILURE);
     }
-    let notices = Notices { rt };
+    let notices = Notices {
+        rt,
+        reads_only: false,
+    };
     let status = run_server(
         &listener,
         serving.workers,

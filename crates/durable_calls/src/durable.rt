@@ -141,6 +141,8 @@ impl<'p, S: Viewer, N: Keeping, P: Passes<R>, R: Wait> Durable<'p, S, N, P, R> {
 }
 
 impl<'p, S: Viewer, N: Keeping, P: Passes<R>, R: Wait> Viewer for Durable<'p, S, N, P, R> {
+    type Opened = S::Opened;
+
     ghost known = { λ d. S.known d.0 };
 
     ghost goes = { λ old call new. GoesKept S.goes S.known N.is_appended N.is_kept N.is_limit N.has_failed old call new };
@@ -155,6 +157,10 @@ impl<'p, S: Viewer, N: Keeping, P: Passes<R>, R: Wait> Viewer for Durable<'p, S,
 
     fn answer(&self, alloc: Global, query: &Query) -> Result<Answer, AllocError> {
         self.session.answer(alloc, query)
+    }
+
+    fn open_revs(&self, alloc: Global, query: &Query) -> Result<Option<S::Opened>, AllocError> {
+        self.session.open_revs(alloc, query)
     }
 
     fn update_seq(&self) -> u64 {

@@ -63,24 +63,34 @@ items_so_far-append later (d ∷ before) after =
 abbrev pub list_so_far : List ℕ → List Data → List ℕ
 list_so_far head items = head ++ (91 ∷ items_so_far false items)
 
-abbrev pub whole_list : List ℕ → List Data → List ℕ
-whole_list head items = head ++ compact_text (array (items_of items))
+-- the head, the list and what comes after it
+abbrev pub whole_list : List ℕ → List ℕ → List Data → List ℕ
+whole_list head after items = head ++ (compact_text (array (items_of items)) ++ after)
 
 -- the other items and the closing bracket
-abbrev behind : List Data → List Data → List ℕ
-behind before after = items_so_far (stands_after false before) after ++ 93 ∷ []
+abbrev others : List Data → List Data → List ℕ
+others before more = items_so_far (stands_after false before) more ++ 93 ∷ []
 
-list-parts : (head : List ℕ) (before after : List Data) → list_so_far head before ++ behind before after ≡ whole_list head (before ++ after)
-list-parts head before after =
-    append_assoc head (91 ∷ items_so_far false before) (behind before after)
+list-parts : (head : List ℕ) (before more : List Data) → list_so_far head before ++ others before more ≡ head ++ compact_text (array (items_of (before ++ more)))
+list-parts head before more =
+    append_assoc head (91 ∷ items_so_far false before) (others before more)
     ∙ ap (λ t. head ++ (91 ∷ t)) (
-    sym (append_assoc (items_so_far false before) (items_so_far (stands_after false before) after) (93 ∷ []))
-    ∙ ap (λ t. t ++ 93 ∷ []) (sym (items_so_far-append false before after))
-    ∙ items_so_far-closed false (before ++ after)
+    sym (append_assoc (items_so_far false before) (items_so_far (stands_after false before) more) (93 ∷ []))
+    ∙ ap (λ t. t ++ 93 ∷ []) (sym (items_so_far-append false before more))
+    ∙ items_so_far-closed false (before ++ more)
     )
 
-some_behind : (before after : List Data) → 0 < length (behind before after)
-some_behind before after = let size = length-append (items_so_far (stands_after false before) after) (93 ∷ []) in omega (arith, size)
+whole-parts : (head after : List ℕ) (before more : List Data) → list_so_far head before ++ (others before more ++ after) ≡ whole_list head after (before ++ more)
+whole-parts head after before more =
+    sym (append_assoc (list_so_far head before) (others before more) after)
+    ∙ ap (λ t. t ++ after) (list-parts head before more)
+    ∙ append_assoc head (compact_text (array (items_of (before ++ more)))) after
+
+some_others : (after : List ℕ) (before more : List Data) → 0 < length (others before more ++ after)
+some_others after before more =
+    let whole = length-append (others before more) after in
+    let size = length-append (items_so_far (stands_after false before) more) (93 ∷ []) in
+    omega (arith, whole, size)
 
 pub map-parts : {X : Type 0} (of : X → Data) (n : ℕ) (xs : List X) → map of (take n xs) ++ map of (drop n xs) ≡ map of xs
 map-parts of n xs = sym (map-append of (take n xs) (drop n xs)) ∙ ap (map of) (take-append-drop n xs)
@@ -91,12 +101,13 @@ none_on_err P (Ok x) is = absurd (true≢false (sym is))
 none_on_err P (Err e) is = tt
 
 -- a list of which some items were put is cut
-pub cut_list : {A E : Type 0} (a b : Option (List ℕ)) (head kept : List ℕ) (before after all : List Data) (r : Result A E) → IsErr r → before ++ after ≡ all
-    → Keeps a b kept (list_so_far head before) → Writes a b r (whole_list head all)
-cut_list a b head kept before after all (Ok x) failed is keeps = absurd (true≢false (sym failed))
-cut_list a b head kept before after all (Err e) failed is keeps = (
+pub cut_list : {A E : Type 0} (a b : Option (List ℕ)) (head after kept : List ℕ) (before more all : List Data) (r : Result A E) → IsErr r → before ++ more ≡ all
+    → Keeps a b kept (list_so_far head before) → Writes a b r (whole_list head after all)
+cut_list a b head after kept before more all (Ok x) failed is keeps = absurd (true≢false (sym failed))
+cut_list a b head after kept before more all (Err e) failed is keeps = (
   tt,
-  keeps_part a b kept (list_so_far head before) (behind before after) (whole_list head all) keeps (list-parts head before after ∙ ap (whole_list head) is) (some_behind before after),
+  keeps_part a b kept (list_so_far head before) (others before more ++ after) (whole_list head after all) keeps
+      (whole-parts head after before more ∙ ap (whole_list head after) is) (some_others after before more),
 )
 
 -- one more item was put
@@ -116,23 +127,29 @@ put_one a b c kept rest kept' head item before more d later first later_is secon
     subst (λ k. Keeps a c k (list_so_far head more)) (sym (put ∙ append_assoc rest (comma_if later) item))
     (subst (Keeps a c (rest ++ (comma_if later ++ item))) text grown)
 
-last-is : (head kept sent piece : List ℕ) (all : List Data) → sent ++ kept ≡ list_so_far head all → piece ≡ kept ++ 93 ∷ [] → sent ++ piece ≡ whole_list head all
-last-is head kept sent piece all keeps is =
-    ap (λ t. sent ++ t) is ∙ sym (append_assoc sent kept (93 ∷ [])) ∙ ap (λ t. t ++ 93 ∷ []) keeps
+closed-is : (head kept sent : List ℕ) (all : List Data) → sent ++ kept ≡ list_so_far head all → sent ++ (kept ++ 93 ∷ []) ≡ head ++ compact_text (array (items_of all))
+closed-is head kept sent all keeps =
+    sym (append_assoc sent kept (93 ∷ [])) ∙ ap (λ t. t ++ 93 ∷ []) keeps
     ∙ append_assoc head (91 ∷ items_so_far false all) (93 ∷ []) ∙ ap (λ t. head ++ (91 ∷ t)) (items_so_far-closed false all)
 
+last-is : (head after kept sent piece : List ℕ) (all : List Data) → sent ++ kept ≡ list_so_far head all → piece ≡ (kept ++ 93 ∷ []) ++ after
+    → sent ++ piece ≡ whole_list head after all
+last-is head after kept sent piece all keeps is =
+    ap (λ t. sent ++ t) is ∙ sym (append_assoc sent (kept ++ 93 ∷ []) after) ∙ ap (λ t. t ++ after) (closed-is head kept sent all keeps)
+    ∙ append_assoc head (compact_text (array (items_of all))) after
+
 -- the last piece of a list is written
-pub last_taken : (a b c : Option (List ℕ)) (head kept piece : List ℕ) (all : List Data) → Keeps a b kept (list_so_far head all) → piece ≡ kept ++ 93 ∷ []
-    → Appends b c piece → Appends a c (whole_list head all)
-last_taken a b c head kept piece all keeps is taken =
-    subst (Appends a c) (last-is head kept keeps.sent piece all keeps.is is) (Appends-trans a b c keeps.sent piece keeps.takes taken)
+pub last_taken : (a b c : Option (List ℕ)) (head after kept piece : List ℕ) (all : List Data) → Keeps a b kept (list_so_far head all) → piece ≡ (kept ++ 93 ∷ []) ++ after
+    → Appends b c piece → Appends a c (whole_list head after all)
+last_taken a b c head after kept piece all keeps is taken =
+    subst (Appends a c) (last-is head after kept keeps.sent piece all keeps.is is) (Appends-trans a b c keeps.sent piece keeps.takes taken)
 
 -- a part of the last piece of a list is written
-pub last_cut : {A E : Type 0} (a b c : Option (List ℕ)) (head kept piece : List ℕ) (all : List Data) (r : Result A E) → IsErr r → Keeps a b kept (list_so_far head all)
-    → piece ≡ kept ++ 93 ∷ [] → (n : ℕ) → n < length piece → Appends b c (take n piece) → Writes a c r (whole_list head all)
-last_cut a b c head kept piece all (Ok x) failed keeps is n short part = absurd (true≢false (sym failed))
-last_cut a b c head kept piece all (Err e) failed keeps is n short part =
-    let same = last-is head kept keeps.sent piece all keeps.is is in
+pub last_cut : {A E : Type 0} (a b c : Option (List ℕ)) (head after kept piece : List ℕ) (all : List Data) (r : Result A E) → IsErr r → Keeps a b kept (list_so_far head all)
+    → piece ≡ (kept ++ 93 ∷ []) ++ after → (n : ℕ) → n < length piece → Appends b c (take n piece) → Writes a c r (whole_list head after all)
+last_cut a b c head after kept piece all (Ok x) failed keeps is n short part = absurd (true≢false (sym failed))
+last_cut a b c head after kept piece all (Err e) failed keeps is n short part =
+    let same = last-is head after kept keeps.sent piece all keeps.is is in
     let size = ap length same in
     let all_len = length-append keeps.sent piece in (
       tt,
@@ -142,3 +159,9 @@ last_cut a b c head kept piece all (Err e) failed keeps is n short part =
         subst (Appends a c) (sym (take-append-add keeps.sent piece n) ∙ ap (take (length keeps.sent + n)) same) (Appends-trans a b c keeps.sent (take n piece) keeps.takes part),
       ),
     )
+
+-- ---- what comes before and after a list
+
+pub framed : (head before list after whole : List ℕ) → (before ++ list) ++ after ≡ whole → (head ++ before) ++ (list ++ after) ≡ head ++ whole
+framed head before list after whole is =
+    append_assoc head before (list ++ after) ∙ ap (λ t. head ++ t) (sym (append_assoc before list after) ∙ is)

@@ -5,3 +5,4 @@ pub mod Texts
 pub mod Feed
 pub mod Pieces
 pub mod Measured
+pub mod Parts

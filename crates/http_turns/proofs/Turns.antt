@@ -99,6 +99,44 @@ module _ {S : Type 0} (goes : S → SessionCall → S → Type 0) (known : S →
         (subst (λ d. IsFixedText place closes (extent_of request) d text) is fixed))
         (sends.0, sends.1 ∙ sym closes_is)
 
+  -- ---- queries
+
+  module _ (old new : S) (request : Request) (asking : Asking) (asks : decide request ≡ Ok asking) (calls : List SessionCall) (reading : IsReading asking) (first : ℕ)
+      (carried : CarriesOut goes known turns asking old calls new (Ok first)) (from : length (known old).seen ≤ first) (to : first ≤ length (known new).seen)
+      (query : Query) (asks_query : AsksQuery (known new) (Requested request) first (length (known new).seen) query) where
+    -- a turn whose text has the answer
+    query_turn : (text : List ℕ) (after : Bool) → SaysAnswer (Requested request) text after (length (known new).seen) query (answer_to (now (history_of (known new))) query)
+        → Answers goes known turns old (record { item = Requested request; text = text; closes = after; whole = true }) new
+    query_turn text after says =
+        let k = known new in
+        let place = length k.seen in
+        let all : take place k.seen ≡ k.seen = take_all place k.seen (omega arith) in
+        let looks = read_sees goes known turns asking old calls new (Ok first) reading carried in
+        let placed : Placed = record { place = place; outcome = Read first query (answer_to (now (history_of k)) query); calls = calls } in
+        record {
+          placed = placed;
+          told = (record { asked = asks_query; told = (omega arith, ap (λ (es : List Entry). answer_to (replay (base_of k.base) es) query) (sym all)) }, says);
+          goes_by = record {
+            runs = carried_runs goes known turns asking old calls new (Ok first) carried;
+            follows = (asking, asks, carried);
+            sees = sees_none (known old) placed k (looks_only (known old) k looks) refl (from, (to, (omega arith, tt))) tt;
+          };
+        }
+
+    -- a long answer, whole or cut
+    query_long : {O : Type 0} (closes : Bool) → request.closes ≡ closes → (long : Long O)
+        → RepliesWith (length (known new).seen) closes query (answer_to (now (history_of (known new))) query) (reply.Long long) → AnswersLong goes known turns request old long new
+    query_long closes closes_is long said =
+        let place = length (known new).seen in
+        let answer = answer_to (now (history_of (known new))) query in
+        let due : Some long.pieces ≡ answer_text place (after_closing request.closes) query answer = said.1 ∙ ap (λ (c : Bool). answer_text place (after_closing c) query answer) (sym closes_is) in
+        record {
+          whole = query_turn long.pieces long.closes
+              (inl (said.1 ∙ ap (λ (c : Bool). answer_text place (after_closing c) query answer) (sym said.2), said.2 ∙ sym closes_is));
+          cut = λ n lt. query_turn (take n long.pieces) true
+              (inr (record { long = said.0; whole = long.pieces; due = due; len = n; short = lt; is_part = refl; closes_then = refl }));
+        }
+
   -- ---- calls
 
   module _ (old new : S) (sent : Sent) (request : Request) (closes : Bool) (closes_is : request.closes ≡ closes) (asking : Asking) (asks : decide request ≡ Ok asking) (calls : List SessionCall) where
@@ -150,26 +188,23 @@ module _ {S : Type 0} (goes : S → SessionCall → S → Type 0) (known : S →
           → SendsDue (answer_text (length (known new).seen) (after_closing closes) query (answer_to (now (history_of (known new))) query)) closes (length (known new).seen) memory_for.Call sent
           → Answer old request sent new
       answers_query from to query asks_query (inl sends) =
-          let k = known new in
-          let place = length k.seen in
-          let all : take place k.seen ≡ k.seen = take_all place k.seen (omega arith) in
-          let answer = answer_to (now (history_of k)) query in
-          let looks = read_sees goes known turns asking old calls new (Ok first) reading carried in
-          let placed : Placed = record { place = place; outcome = Read first query answer; calls = calls } in
-          record {
-            placed = placed;
-            told = (
-              record { asked = asks_query; told = (omega arith, ap (λ (es : List Entry). answer_to (replay (base_of k.base) es) query) (sym all)) },
-              inl (sends.0 ∙ ap (λ (c : Bool). answer_text place (after_closing c) query answer) (sym sends.1), sends.1 ∙ sym closes_is),
-            );
-            goes_by = record {
-              runs = carried_runs goes known turns asking old calls new (Ok first) carried;
-              follows = (asking, asks, carried);
-              sees = sees_none (known old) placed k (looks_only (known old) k looks) refl (from, (to, (omega arith, tt))) tt;
-            };
-          }
+          let answer = answer_to (now (history_of (known new))) query in
+          query_turn old new request asking asks calls reading first carried from to query asks_query sent.response sent.closes
+          (inl (sends.0 ∙ ap (λ (c : Bool). answer_text (length (known new).seen) (after_closing c) query answer) (sym sends.1), sends.1 ∙ sym closes_is))
       answers_query from to query asks_query (inr says) =
           answers_memory (Ok first) carried (looks_only (known old) (known new) (read_sees goes known turns asking old calls new (Ok first) reading carried)) (inr (reading, (first, carried))) says
+
+  module _ (old new : S) (request : Request) (closes : Bool) (closes_is : request.closes ≡ closes) (asking : Asking) (asks : decide request ≡ Ok asking) (calls : List SessionCall)
+      (reading : IsReading asking) (first : ℕ) (carried : CarriesOut goes known turns asking old calls new (Ok first)) where
+    -- the answer to a query, by its length
+    replies_query : {O : Type 0} → length (known old).seen ≤ first → first ≤ length (known new).seen → (query : Query)
+        → AsksQuery (known new) (Requested request) first (length (known new).seen) query → (r : Reply O)
+        → RepliesWith (length (known new).seen) closes query (answer_to (now (history_of (known new))) query) r → Replies goes known turns request old r new
+    replies_query from to query asks_query (reply.Sent sent) said =
+        answers_query old new sent request closes closes_is asking asks calls reading first carried from to query asks_query said
+    replies_query from to query asks_query (reply.Long long) said =
+        query_long old new request asking asks calls reading first carried from to query asks_query closes closes_is long said
+    replies_query from to query asks_query (reply.Feed changes) said = absurd said
 
   -- ---- one look
 
@@ -177,68 +212,23 @@ module _ {S : Type 0} (goes : S → SessionCall → S → Type 0) (known : S →
   abbrev Looked : S → S → Type 0
   Looked old new = Makes goes known old (Refreshed (Ok tt)) new
 
-  module _ (old new : S) (sent : Sent) (request : Request) (closes : Bool) (closes_is : request.closes ≡ closes) where
+  module _ (old new : S) (request : Request) (closes : Bool) (closes_is : request.closes ≡ closes) where
     -- the answer to a query by what was seen last
-    pub answers_asked : Looked old new → (query : Query) → decide request ≡ Ok (asked.Query query)
-        → SendsDue (answer_text (length (known new).seen) (after_closing closes) query (answer_to (now (history_of (known new))) query)) closes (length (known new).seen) memory_for.Call sent
-        → Answer old request sent new
-    answers_asked makes query asks sends =
-        answers_query old new sent request closes closes_is (asked.Query query) asks (Refreshed (Ok tt) ∷ []) tt (length (known new).seen) (Ok tt, (refl, makes), refl)
-        (looks_length _ _ makes.learns.0) (omega arith) query (inl (refl, asks)) sends
+    pub replies_asked : {O : Type 0} → Looked old new → (query : Query) → decide request ≡ Ok (asked.Query query) → (r : Reply O)
+        → RepliesWith (length (known new).seen) closes query (answer_to (now (history_of (known new))) query) r → Replies goes known turns request old r new
+    replies_asked makes query asks r said =
+        replies_query old new request closes closes_is (asked.Query query) asks (Refreshed (Ok tt) ∷ []) tt (length (known new).seen) (Ok tt, (refl, makes), refl)
+        (looks_length _ _ makes.learns.0) (omega arith) query (inl (refl, asks)) r said
 
     -- a look was refused
-    pub answers_refused : (why : CallFault) → Makes goes known old (Refreshed (Err why)) new → (query : Query) → decide request ≡ Ok (asked.Query query) → SaysFault (length (known new).seen) closes why sent
-        → Answer old request sent new
-    answers_refused why makes query asks says =
+    pub answers_refused : (sent : Sent) (why : CallFault) → Makes goes known old (Refreshed (Err why)) new → (query : Query) → decide request ≡ Ok (asked.Query query)
+        → SaysFault (length (known new).seen) closes why sent → Answer old request sent new
+    answers_refused sent why makes query asks says =
         query_refused old new sent request closes closes_is (asked.Query query) asks (Refreshed (Err why) ∷ []) why tt (Err why, (refl, makes), refl) says
-
-  module _ (old new : S) (request : Request) (closes : Bool) (closes_is : request.closes ≡ closes) where
-    -- the answer to a query by what was seen last, in a turn with this text
-    answers_turn : Looked old new → (query : Query) → decide request ≡ Ok (asked.Query query) → (text : List ℕ) (after : Bool)
-        → SaysAnswer (Requested request) text after (length (known new).seen) query (answer_to (now (history_of (known new))) query)
-        → Answers goes known turns old (record { item = Requested request; text = text; closes = after; whole = true }) new
-    answers_turn makes query asks text after says =
-        let k = known new in
-        let place = length k.seen in
-        let asking = asked.Query query in
-        let calls = Refreshed (Ok tt) ∷ [] in
-        let carried : CarriesOut goes known turns asking old calls new (Ok place) = (Ok tt, (refl, makes), refl) in
-        let all : take place k.seen ≡ k.seen = take_all place k.seen (omega arith) in
-        let placed : Placed = record { place = place; outcome = Read place query (answer_to (now (history_of k)) query); calls = calls } in
-        record {
-          placed = placed;
-          told = (record { asked = inl (refl, asks); told = (omega arith, ap (λ (es : List Entry). answer_to (replay (base_of k.base) es) query) (sym all)) }, says);
-          goes_by = record {
-            runs = carried_runs goes known turns asking old calls new (Ok place) carried;
-            follows = (asking, asks, carried);
-            sees = sees_none (known old) placed k (looks_only (known old) k makes.learns.0) refl (looks_length _ _ makes.learns.0, (omega arith, (omega arith, tt))) tt;
-          };
-        }
-
-    -- a long answer, whole or cut
-    answers_long : Looked old new → (query : Query) → decide request ≡ Ok (asked.Query query) → (long : Long)
-        → RepliesWith (length (known new).seen) closes query (answer_to (now (history_of (known new))) query) (reply.Long long) → AnswersLong goes known turns request old long new
-    answers_long makes query asks long said =
-        let place = length (known new).seen in
-        let answer = answer_to (now (history_of (known new))) query in
-        let due : Some long.pieces ≡ answer_text place (after_closing request.closes) query answer = said.1 ∙ ap (λ (c : Bool). answer_text place (after_closing c) query answer) (sym closes_is) in
-        record {
-          whole = answers_turn makes query asks long.pieces long.closes
-              (inl (said.1 ∙ ap (λ (c : Bool). answer_text place (after_closing c) query answer) (sym said.2), said.2 ∙ sym closes_is));
-          cut = λ n lt. answers_turn makes query asks (take n long.pieces) true
-              (inr (record { long = said.0; whole = long.pieces; due = due; len = n; short = lt; is_part = refl; closes_then = refl }));
-        }
-
-    -- the answer to a query by what was seen last, by its length
-    pub replies_asked : Looked old new → (query : Query) → decide request ≡ Ok (asked.Query query) → (r : Reply)
-        → RepliesWith (length (known new).seen) closes query (answer_to (now (history_of (known new))) query) r → Replies goes known turns request old r new
-    replies_asked makes query asks (reply.Sent sent) said = answers_asked old new sent request closes closes_is makes query asks said
-    replies_asked makes query asks (reply.Long long) said = answers_long makes query asks long said
-    replies_asked makes query asks (reply.Feed changes) said = absurd said
 
   -- ---- changes
 
-  module _ (old new : S) (sent : Sent) (request : Request) (closes : Bool) (closes_is : request.closes ≡ closes) (changes : ChangesAsked) (asks : decide request ≡ Ok (asked.Changes changes)) where
+  module _ (old new : S) (request : Request) (closes : Bool) (closes_is : request.closes ≡ closes) (changes : ChangesAsked) (asks : decide request ≡ Ok (asked.Changes changes)) where
     abbrev queried : Database → Query
     queried d = changes_query d changes
 
@@ -255,23 +245,22 @@ module _ {S : Type 0} (goes : S → SessionCall → S → Type 0) (known : S →
     carried_by f is calls answer looks = subst (λ (g : Feed). LooksForChanges goes known turns changes g old calls new answer) (sym is) looks
 
     -- the changes that were seen last, by one look
-    pub answers_changes : changes.feed ≡ feed.Normal → Looked old new → (query : Query) → query ≡ queried (now (history_of (known new)))
-        → SendsDue (answer_text (length (known new).seen) (after_closing closes) query (answer_to (now (history_of (known new))) query)) closes (length (known new).seen) memory_for.Call sent
-        → Answer old request sent new
-    answers_changes normal makes query query_is sends =
+    pub replies_changes : {O : Type 0} → changes.feed ≡ feed.Normal → Looked old new → (query : Query) → query ≡ queried (now (history_of (known new))) → (r : Reply O)
+        → RepliesWith (length (known new).seen) closes query (answer_to (now (history_of (known new))) query) r → Replies goes known turns request old r new
+    replies_changes normal makes query query_is r said =
         let k = known new in
         let place = length k.seen in
         let d = database_at k place in
         let is : query ≡ queried d = query_is ∙ ap queried (database_seen k) in
         let waits : MayWait changes.feed d changes place place = subst (λ (f : Feed). MayWait f d changes place place) (sym normal) refl in
-        answers_query old new sent request closes closes_is (asked.Changes changes) asks (Refreshed (Ok tt) ∷ []) (reading_by feed.Normal normal tt) place
+        replies_query old new request closes closes_is (asked.Changes changes) asks (Refreshed (Ok tt) ∷ []) (reading_by feed.Normal normal tt) place
         (carried_by feed.Normal normal (Refreshed (Ok tt) ∷ []) (Ok place) (Ok tt, (refl, makes), refl))
-        (looks_length _ _ makes.learns.0) (omega arith) query (subst (AsksQuery k (Requested request) place place) (sym is) (asks_at place waits)) sends
+        (looks_length _ _ makes.learns.0) (omega arith) query (subst (AsksQuery k (Requested request) place place) (sym is) (asks_at place waits)) r said
 
     -- a look for changes was refused
-    pub changes_refused : (f : Feed) → changes.feed ≡ f → (calls : List SessionCall) (why : CallFault) → LooksForChanges goes known turns changes f old calls new (Err why)
+    pub changes_refused : (sent : Sent) (f : Feed) → changes.feed ≡ f → (calls : List SessionCall) (why : CallFault) → LooksForChanges goes known turns changes f old calls new (Err why)
         → SaysFault (length (known new).seen) closes why sent → Answer old request sent new
-    changes_refused f is calls why looks says =
+    changes_refused sent f is calls why looks says =
         query_refused old new sent request closes closes_is (asked.Changes changes) asks calls why tt (carried_by f is calls (Err why) looks) says
 
     may_be_later : (here : S) (waits : List SessionCall) → WaitsWhereNone goes known turns changes here waits new (Ok (length (known here).seen))
@@ -281,12 +270,11 @@ module _ {S : Type 0} (goes : S → SessionCall → S → Type 0) (known : S →
     may_be_later here waits (inr (none, wait)) same = inr (subst (λ (d : Database). has_changes d (since_at d changes.since) changes.ids ≡ false) same none)
 
     -- the changes that were seen last, by a long poll
-    pub answers_polled : changes.feed ≡ feed.LongPoll → (calls : List SessionCall) (since : ℕ) → HasPolled goes known turns changes old calls new (Ok since)
-        → (query : Query) → query ≡ Changes since changes.limit changes.style changes.ids
-        → SendsDue (answer_text (length (known new).seen) (after_closing closes) query (answer_to (now (history_of (known new))) query)) closes (length (known new).seen) memory_for.Call sent
-        → Answer old request sent new
-    answers_polled polls calls since (inl (why, only, is)) query query_is sends = absurd (cc)
-    answers_polled polls calls since (inr (here, waits, all, makes, (since_is, rest))) query query_is sends =
+    pub replies_polled : {O : Type 0} → changes.feed ≡ feed.LongPoll → (calls : List SessionCall) (since : ℕ) → HasPolled goes known turns changes old calls new (Ok since)
+        → (query : Query) → query ≡ Changes since changes.limit changes.style changes.ids → (r : Reply O)
+        → RepliesWith (length (known new).seen) closes query (answer_to (now (history_of (known new))) query) r → Replies goes known turns request old r new
+    replies_polled polls calls since (inl (why, only, is)) query query_is r said = absurd (cc)
+    replies_polled polls calls since (inr (here, waits, all, makes, (since_is, rest))) query query_is r said =
         let k = known new in
         let first = length (known here).seen in
         let place = length k.seen in
@@ -294,9 +282,9 @@ module _ {S : Type 0} (goes : S → SessionCall → S → Type 0) (known : S →
         let same = database_before (known here) k looks in
         let is : query ≡ queried (database_at k first) = query_is ∙ ap (λ (n : ℕ). Changes n changes.limit changes.style changes.ids) since_is ∙ ap queried same in
         let may_wait : MayWait changes.feed (database_at k first) changes first place = subst (λ (f : Feed). MayWait f (database_at k first) changes first place) (sym polls) (may_be_later here waits rest same) in
-        answers_query old new sent request closes closes_is (asked.Changes changes) asks calls (reading_by feed.LongPoll polls tt) first
+        replies_query old new request closes closes_is (asked.Changes changes) asks calls (reading_by feed.LongPoll polls tt) first
         (carried_by feed.LongPoll polls calls (Ok first) (inr (here, waits, all, makes, rest)))
-        (looks_length _ _ makes.learns.0) (looks_length _ _ looks) query (subst (AsksQuery k (Requested request) first place) (sym is) (asks_at first may_wait)) sends
+        (looks_length _ _ makes.learns.0) (looks_length _ _ looks) query (subst (AsksQuery k (Requested request) first place) (sym is) (asks_at first may_wait)) r said
 
   -- ---- an entry
 

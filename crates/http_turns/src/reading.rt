@@ -1,10 +1,9 @@
 //! Queries, and their answers.
-ghost use Rattle.std.specs.Prelude.{◌≡◌, List, length, Ok, Some, IfOk, IsSome};
-ghost use Rattle.http_framing.specs.Input.{Requested};
+ghost use Rattle.std.specs.Prelude.{◌≡◌, List, length, Ok, Some, IfOk, IfSome, IsSome};
 ghost use Rattle.http_framing.specs.Request as framing;
 ghost use Rattle.http_request.specs.Decide.{decide};
 ghost use Rattle.http_response.specs.Measured.{HasLen, IsLong};
-ghost use Rattle.http_response.specs.Pieces.{IsOpened};
+ghost use Rattle.http_response.specs.Pieces.{IsListed};
 ghost use Rattle.http_response.specs.Texts.{answer_text};
 ghost use Rattle.http_response.specs.Told.{answer_told};
 ghost use Rattle.http_response.specs.declared.memory.MemoryFor.TheVariants as memory_for;
@@ -12,14 +11,14 @@ ghost use Rattle.model.specs.History.{now};
 ghost use Rattle.model.specs.Answers.{answer_to};
 ghost use Rattle.model.specs.Query as model;
 ghost use Rattle.model.specs.Query.{Changes};
-ghost use Rattle.http_turns.specs.SessionTurn.{Answers};
 ghost use Rattle.session_api.specs.SessionCall.{SessionCall};
 ghost use Rattle.http_turns.specs.CallsOfRequest.{HasPolled, HasWaited};
 ghost use Rattle.session_api.specs.Known.{history_of};
 ghost use Rattle.http_turns.specs.ChangesWanted.{since_at};
 ghost use Rattle.http_turns.specs.ResponseText.{after_closing};
-ghost use Rattle.http_turns.specs.Replies.{Replies, RepliesWith};
-ghost use Rattle.http_turns.specs.Sent.{SendsDue, turn_of};
+ghost use Rattle.http_turns.specs.Replies.{AnswersLongBy, Replies, RepliesWith};
+ghost use Rattle.session_api.specs.Revisions.{opened_by};
+ghost use Rattle.http_turns.specs.Sent.{SendsDue};
 
 use crate::failing::fail;
 use crate::reserve::Reserve;
@@ -27,10 +26,13 @@ use crate::response::{Long, Reply, Sent, connection_after};
 use crate::setting::Setting;
 use crate::waiting::{has_changes, wait_for_changes};
 use http_request::{Asked, ChangesAsked, Extent, Feed, Since};
-use http_response::{Connection, MemoryFor, Pieces, Response, long_len};
+use http_response::{Connection, MemoryFor, Pieces, Response, long_len, long_opening_len};
 use queries::{Answer, Query, QueryKind};
-use session_api::{CallFault, Calls, Viewer};
+use session_api::{CallFault, Calls, Revisions, Viewer};
 use std::alloc::AllocError;
+
+/// So many revisions are looked up as a whole before their text is made.
+const FEW: usize = 16;
 
 /// Looks, and answers a query by what is seen then.
 pub(crate) fn read<X, S: Calls<X>>(
@@ -38,7 +40,7 @@ pub(crate) fn read<X, S: Calls<X>>(
     setting: &Setting<'_, X>,
     query: &Query,
     closes: bool,
-) -> Reply
+) -> Reply<S::Opened>
     ensures { (request : framing.Request) → decide request ≡ Ok (Asked.Query query.now)
         → request.closes ≡ closes
         → Replies S.goes S.known setting.now request session.old result session.new }
@@ -50,7 +52,77 @@ pub(crate) fn read<X, S: Calls<X>>(
 }
 
 /// Answers a query by what has been seen, in pieces where the answer is long.
-fn reply_seen<S: Viewer>(session: &S, reserve: &Reserve, query: &Query, closes: bool) -> Reply
+fn reply_seen<S: Viewer>(
+    session: &S,
+    reserve: &Reserve,
+    query: &Query,
+    closes: bool,
+) -> Reply<S::Opened>
+    ensures { RepliesWith (length (S.known session.now).seen) closes query.now
+        (answer_to (now (history_of (S.known session.now))) query.now) result }
+{
+    let place = session.place();
+    match long_opening(session, reserve, query) {
+        Ok(Some((opening, len))) => reply_opening(reserve, place, opening, len, closes),
+        Ok(None) => reply_made(session, reserve, query, closes),
+        Err(_) => Reply::Sent(Sent::no_memory(place, Extent::Whole, MemoryFor::Call)),
+    }
+}
+
+/// The revisions that a query asks for, where these are many and their text is long, with its length.
+fn long_opening<S: Viewer>(
+    session: &S,
+    reserve: &Reserve,
+    query: &Query,
+) -> Result<Option<(S::Opened, usize)>, AllocError>
+    ensures { IfOk result (λ found. IfSome found (λ long.
+        AnswersLongBy query.now (answer_to (now (history_of (S.known session.now))) query.now)
+        (opened_by (S.Opened.document long.0) (S.Opened.shown long.0)) long.1)) }
+{
+    let found = reserve.retried(|| session.open_revs(reserve.alloc(), query))?;
+    let Some(opening) = found else {
+        return Ok(None);
+    };
+    if opening.revs().len() <= FEW {
+        return Ok(None);
+    }
+    let Some(len) = long_opening_len(reserve.alloc(), query, &opening)? else {
+        return Ok(None);
+    };
+    Ok(Some((opening, len)))
+}
+
+/// Gives revisions at this place, in pieces.
+fn reply_opening<O: Revisions + Drop>(
+    reserve: &Reserve,
+    place: u64,
+    opening: O,
+    len: usize,
+    closes: bool,
+) -> Reply<O>
+    ensures { (query : model.Query) (answer : model.Answer)
+        → AnswersLongBy query answer (opened_by (O.document opening) (O.shown opening)) len
+        → RepliesWith place closes query answer result }
+{
+    match Pieces::opening(
+        reserve.alloc(),
+        place,
+        connection_after(closes),
+        opening,
+        len,
+    ) {
+        Ok(pieces) => Reply::Long(Long { pieces, closes }),
+        Err(_) => Reply::Sent(Sent::no_memory(place, Extent::Whole, MemoryFor::Call)),
+    }
+}
+
+/// Answers a query by what has been seen, which is found as a whole.
+fn reply_made<S: Viewer>(
+    session: &S,
+    reserve: &Reserve,
+    query: &Query,
+    closes: bool,
+) -> Reply<S::Opened>
     ensures { RepliesWith (length (S.known session.now).seen) closes query.now
         (answer_to (now (history_of (S.known session.now))) query.now) result }
 {
@@ -62,13 +134,13 @@ fn reply_seen<S: Viewer>(session: &S, reserve: &Reserve, query: &Query, closes: 
 }
 
 /// Gives an answer at this place, in pieces where it is long.
-fn reply_by_length(
+fn reply_by_length<O: Revisions + Drop>(
     reserve: &Reserve,
     place: u64,
     query: &Query,
     found: Answer,
     closes: bool,
-) -> Reply
+) -> Reply<O>
     requires { IsSome (answer_told query.now found) }
     ensures { RepliesWith place closes query.now found result }
 {
@@ -79,9 +151,15 @@ fn reply_by_length(
     }
 }
 
-/// Gives an answer of revisions at this place, in pieces.
-fn reply_in_pieces(reserve: &Reserve, place: u64, found: Answer, len: usize, closes: bool) -> Reply
-    requires opened { IsOpened found }
+/// Gives an answer with a list at this place, in pieces.
+fn reply_in_pieces<O: Revisions + Drop>(
+    reserve: &Reserve,
+    place: u64,
+    found: Answer,
+    len: usize,
+    closes: bool,
+) -> Reply<O>
+    requires listed { IsListed found }
     ensures { (query : model.Query) → IsLong query found → HasLen query found len
         → RepliesWith place closes query found result }
 {
@@ -107,18 +185,18 @@ pub(crate) fn read_changes<X, S: Calls<X>>(
     setting: &Setting<'_, X>,
     changes: ChangesAsked,
     closes: bool,
-) -> Sent
+) -> Reply<S::Opened>
     requires { changes.feed ≡ Feed.Normal }
     ensures { (request : framing.Request) → decide request ≡ Ok (Asked.Changes changes)
         → request.closes ≡ closes
-        → Answers S.goes S.known setting.now session.old (turn_of (Requested request) result) session.new }
+        → Replies S.goes S.known setting.now request session.old result session.new }
 {
     match session.refresh() {
         Ok(()) => {
             let since = since_seen(session, changes.since);
             read_since(session, &setting.reserve, since, changes, closes)
         }
-        Err(fault) => fail(session, fault, closes),
+        Err(fault) => Reply::Sent(fail(session, fault, closes)),
     }
 }
 
@@ -128,15 +206,15 @@ pub(crate) fn poll_changes<X, S: Calls<X>>(
     setting: &Setting<'_, X>,
     changes: ChangesAsked,
     closes: bool,
-) -> Sent
+) -> Reply<S::Opened>
     requires { changes.feed ≡ Feed.LongPoll }
     ensures { (request : framing.Request) → decide request ≡ Ok (Asked.Changes changes)
         → request.closes ≡ closes
-        → Answers S.goes S.known setting.now session.old (turn_of (Requested request) result) session.new }
+        → Replies S.goes S.known setting.now request session.old result session.new }
 {
     match poll(session, setting, &changes) {
         Ok(since) => read_since(session, &setting.reserve, since, changes, closes),
-        Err(fault) => fail(session, fault, closes),
+        Err(fault) => Reply::Sent(fail(session, fault, closes)),
     }
 }
 
@@ -189,14 +267,13 @@ fn read_since<S: Viewer>(
     since: u64,
     changes: ChangesAsked,
     closes: bool,
-) -> Sent
+) -> Reply<S::Opened>
     ensures { let query = Changes since changes.limit changes.style changes.ids in
-        SendsDue (answer_text (length (S.known session.now).seen) (after_closing closes)
-        query (answer_to (now (history_of (S.known session.now))) query))
-        closes (length (S.known session.now).seen) memory_for.Call result }
+        RepliesWith (length (S.known session.now).seen) closes query
+        (answer_to (now (history_of (S.known session.now))) query) result }
 {
     let query = changes_query(since, changes);
-    read_seen(session, reserve, &query, closes)
+    reply_made(session, reserve, &query, closes)
 }
 
 /// The query for the changes that are asked for, above `since`.
@@ -216,19 +293,6 @@ fn changes_query(since: u64, changes: ChangesAsked) -> Query
         style,
         ids,
     })
-}
-
-/// Answers a query by what has been seen.
-fn read_seen<S: Viewer>(session: &S, reserve: &Reserve, query: &Query, closes: bool) -> Sent
-    ensures { SendsDue (answer_text (length (S.known session.now).seen) (after_closing closes)
-        query.now (answer_to (now (history_of (S.known session.now))) query.now))
-        closes (length (S.known session.now).seen) memory_for.Call result }
-{
-    let place = session.place();
-    let Ok(found) = answer_seen(session, reserve, query) else {
-        return Sent::no_memory(place, Extent::Whole, MemoryFor::Call);
-    };
-    sent_with(reserve, place, query, &found, closes)
 }
 
 /// The answer to a query by what has been seen.

@@ -8,6 +8,7 @@ ghost use Rattle.http_turns.specs.Replies.{SendsLong};
 
 use http_request::{ChangesAsked, Extent};
 use http_response::{Connection, Cut, MemoryFor, Pieces, Response, no_memory};
+use session_api::Revisions;
 use std::alloc::{AllocError, Global};
 use streams::{Failed, Sink};
 
@@ -20,18 +21,18 @@ pub(crate) struct Sent {
 
 /// A long answer, which is written in pieces, and whether the connection closes after it.
 #[derive(Drop)]
-pub(crate) struct Long {
-    pub(crate) pieces: Pieces,
+pub(crate) struct Long<O: Revisions> {
+    pub(crate) pieces: Pieces<O>,
     pub(crate) closes: bool,
 }
 
 /// How a request is answered.
 #[derive(Drop)]
-pub(crate) enum Reply {
+pub(crate) enum Reply<O: Revisions> {
     /// By a response that is at hand.
     Sent(Sent),
     /// By a response whose pieces are made as they are written.
-    Long(Long),
+    Long(Long<O>),
     /// By a feed that goes on as changes come.
     Feed(ChangesAsked),
 }
@@ -79,7 +80,11 @@ pub(crate) fn send<W: Sink>(writer: &mut W, sent: &Sent) -> Result<bool, Failed>
 
 /// Writes a long answer, and answers whether the connection closes after it, as it also does where the
 /// answer is cut because memory for the rest is refused.
-pub(crate) fn send_long<W: Sink>(alloc: Global, writer: &mut W, long: Long) -> Result<bool, Failed>
+pub(crate) fn send_long<O: Revisions + Drop, W: Sink>(
+    alloc: Global,
+    writer: &mut W,
+    long: Long<O>,
+) -> Result<bool, Failed>
     ensures sends { SendsLong (W.taken writer.old) (W.taken writer.new) result long }
     ensures failures { CountsFailure (W.failed_writes writer.old)
         (W.failed_writes writer.new) result }

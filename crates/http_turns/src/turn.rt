@@ -24,7 +24,7 @@ pub(crate) fn respond<X, S: Calls<X>>(
     session: &mut S,
     setting: &Setting<'_, X>,
     request: &Request<'_>,
-) -> Reply
+) -> Reply<S::Opened>
     ensures { Replies S.goes S.known setting.now request.now session.old result session.new }
 {
     let place = session.place();
@@ -66,7 +66,7 @@ fn carry_out<X, S: Calls<X>>(
     setting: &Setting<'_, X>,
     asked: Asked,
     closes: bool,
-) -> Reply
+) -> Reply<S::Opened>
     requires { HasForm asked }
     ensures { (request : framing.Request) → decide request ≡ Ok asked
         → request.closes ≡ closes
@@ -91,14 +91,14 @@ fn tell_changes<X, S: Calls<X>>(
     setting: &Setting<'_, X>,
     changes: ChangesAsked,
     closes: bool,
-) -> Reply
+) -> Reply<S::Opened>
     ensures { (request : framing.Request) → decide request ≡ Ok (Asked.Changes changes)
         → request.closes ≡ closes
         → Replies S.goes S.known setting.now request session.old result session.new }
 {
     match changes.feed {
-        Feed::Normal => Reply::Sent(read_changes(session, setting, changes, closes)),
-        Feed::LongPoll => Reply::Sent(poll_changes(session, setting, changes, closes)),
+        Feed::Normal => read_changes(session, setting, changes, closes),
+        Feed::LongPoll => poll_changes(session, setting, changes, closes),
         Feed::Continuous => Reply::Feed(changes),
     }
 }

@@ -1,5 +1,7 @@
 //! Connections that come to a listener, each session with a worker of its own.
 ghost use Rattle.std.specs.Prelude.{◌≡◌, ℕ, ◌<◌, length, slice_index_or};
+ghost use Rattle.session_api.specs.Known.{Known};
+ghost use Rattle.session_api.specs.SessionCall.{SessionCall};
 ghost use Rattle.http_workers.specs.Worker.{Serves, ServesUntil, most_connections};
 
 use crate::buffers::Buffers;
@@ -54,6 +56,26 @@ pub fn listen<R: Threads + Wait + Clock + Sync, X: Sync, S: Calls<X> + Send, V: 
     setting: &Setting<'_, X>,
     workers: &Workers<'_, V>,
 )
+where
+    S::Opened: Send,
+    ensures same_number { length sessions.new ≡ length sessions.old }
+    ensures each { (i : ℕ) (d : S) → i < length sessions.old
+        → ServesUntil S.goes S.known setting.now over.entry terms.connections
+        (slice_index_or sessions.old i d) (slice_index_or sessions.new i d) }
+{
+    listen_by::<R, X, S, V>(rt, listener, sessions, terms, over, setting, workers);
+}
+
+/// The same, of whatever serves connections.
+fn listen_by<R: Threads + Wait + Clock + Sync, X: Sync, S: Serving<X> + Send, V: Watch + Sync>(
+    rt: &R,
+    listener: &TcpListener,
+    sessions: &mut [S],
+    terms: Terms,
+    over: Option<&AtomicBool>,
+    setting: &Setting<'_, X>,
+    workers: &Workers<'_, V>,
+)
     ensures same_number { length sessions.new ≡ length sessions.old }
     ensures each { (i : ℕ) (d : S) → i < length sessions.old
         → ServesUntil S.goes S.known setting.now over.entry terms.connections
@@ -65,25 +87,78 @@ pub fn listen<R: Threads + Wait + Clock + Sync, X: Sync, S: Calls<X> + Send, V: 
     }
     let muster = Muster::new(asked as u64);
     let room = Room::new(terms.places);
+    let shared = Shared {
+        listener,
+        muster: &muster,
+        room: &room,
+        workers,
+    };
     thread::for_each_mut(
         rt,
         sessions,
         asked,
-        &|index, session| {
-            let mut buffers = muster.get_ready(rt, setting.alloc(), workers);
-            let noticing = workers.noticing(rt, &room, terms.log, index);
-            work(
-                &noticing,
-                listener,
-                &mut buffers,
-                session,
-                terms,
-                over,
-                setting,
-            );
-            workers.give_back(buffers);
-        },
+        &|index, session| session.serve_connections(rt, index, terms, over, setting, &shared),
     );
+}
+
+/// What the workers of a listener share.
+#[derive(Drop)]
+struct Shared<'s, 'w, V> {
+    listener: &'s TcpListener,
+    muster: &'s Muster,
+    room: &'s Room,
+    workers: &'s Workers<'w, V>,
+}
+
+/// What serves connections on a thread of its own. It is each session, seen by what a thread has to know of one.
+trait Serving<X> {
+    /// By this call it goes from one state to another.
+    ghost goes: { Self → SessionCall → Self → Type 0 };
+
+    /// What it knows.
+    ghost known: { Self → Known };
+
+    /// Serves connections, once its worker has what it keeps.
+    fn serve_connections<R: Wait + Clock, V: Watch>(
+        &mut self,
+        rt: &R,
+        index: usize,
+        terms: Terms,
+        over: Option<&AtomicBool>,
+        setting: &Setting<'_, X>,
+        shared: &Shared<'_, '_, V>,
+    )
+        ensures { ServesUntil goes known setting.now over.entry terms.connections self.old self.new };
+}
+
+impl<X, S: Calls<X>> Serving<X> for S {
+    ghost goes = { S.goes };
+
+    ghost known = { S.known };
+
+    fn serve_connections<R: Wait + Clock, V: Watch>(
+        &mut self,
+        rt: &R,
+        index: usize,
+        terms: Terms,
+        over: Option<&AtomicBool>,
+        setting: &Setting<'_, X>,
+        shared: &Shared<'_, '_, V>,
+    ) {
+        let workers = shared.workers;
+        let mut buffers = shared.muster.get_ready(rt, setting.alloc(), workers);
+        let noticing = workers.noticing(rt, shared.room, terms.log, index);
+        work(
+            &noticing,
+            shared.listener,
+            &mut buffers,
+            self,
+            terms,
+            over,
+            setting,
+        );
+        workers.give_back(buffers);
+    }
 }
 
 /// Serves connections of one session.

@@ -13,6 +13,8 @@ use Rattle.journal.specs.declared.restored.End.TheVariants as end
 use Rattle.journal.specs.declared.restored.Restored.{Restored}
 use Rattle.journal.specs.declared.start_fault.StartFault.{StartFault}
 use Rattle.journal.specs.declared.start_fault.StartFault.TheVariants as start
+use Rattle.journal.specs.declared.started.Access.{Access}
+use Rattle.journal.specs.declared.started.Access.TheVariants as access
 use Rattle.journal.specs.declared.started.Dropped.{Dropped}
 use Rattle.journal.specs.declared.started.Started.{Started}
 
@@ -89,3 +91,8 @@ IsOfFiles (start.Failed error) = Unit {0}
 IsOfFiles (start.File name error) = Unit {0}
 IsOfFiles start.Unwritten = Unit {0}
 IsOfFiles start.Memory = Unit {0}
+
+-- a start that may write could not make the file of the epoch that begins
+abbrev pub IsUnwritten : Access → StartFault → Type 0
+IsUnwritten access.ReadOnly fault = ⊥
+IsUnwritten (access.ReadWrite shows_kept) fault = IsOfFiles fault

@@ -68,21 +68,36 @@ impl Folder {
         ensures epoch { IfOk result (λ b. b.epoch ≡ epoch) }
         ensures fault { IfErr result IsOfFiles }
     {
-        let names = self.names_of(epoch)?;
-        let written = self.first_line(rt, &names, &version);
-        let journal = self.named(rt, &names, written)?;
-        let file = journal
-            .into_file()
-            .marked(self.new_mark(rt, epoch, shows_kept));
+        let journal = self.make(rt, epoch, &version, shows_kept)?;
         Ok(Begun {
             version,
-            journal: Journal::resume(file),
+            journal,
             epoch,
         })
     }
 
-    /// Writes the file of an epoch anew: its first line, as the file that is there has it, and the lines of all entries of this
-    /// version. It is written beside, synced, and then named.
+    /// The journal of an epoch that begins with this version, whose file is made: written beside, synced, and then named.
+    pub(crate) fn make<R: Files<File = File>>(
+        &self,
+        rt: &R,
+        epoch: u64,
+        version: &Version,
+        shows_kept: bool,
+    ) -> Result<Journal<DiskFile>, StartFault>
+        ensures journal { IfOk result (λ j. (j.place ≡ 0) × (j.synced ≡ 0) × (j.broken ≡ false)) }
+        ensures fault { IfErr result IsOfFiles }
+    {
+        let names = self.names_of(epoch)?;
+        let written = self.first_line(rt, &names, version);
+        let journal = self.named(rt, &names, written)?;
+        let file = journal
+            .into_file()
+            .marked(self.new_mark(rt, epoch, shows_kept));
+        Ok(Journal::resume(file))
+    }
+
+    /// Writes the file of an epoch anew: its first line, as the file that is there has it, if there is one, and the lines of all
+    /// entries of this version. It is written beside, synced, and then named.
     ///
     /// # Errors
     ///
@@ -135,6 +150,7 @@ impl Folder {
         names: &Names,
         version: &Version,
     ) -> Result<Journal<DiskFile>, StartFault>
+        ensures held { IfOk result (λ j. j.broken ≡ false → HoldsDump j (begun version.now.base)) }
         ensures fault { IfErr result IsOfFiles }
     {
         let file = self.beside(rt, names)?;
@@ -142,8 +158,8 @@ impl Folder {
         Ok(journal)
     }
 
-    /// A journal in a new file beside, with the first line of the file that is there, and the lines of all entries of this version,
-    /// synced. It is broken where a write or the sync failed.
+    /// A journal in a new file beside, with the first line of the epoch, and the lines of all entries of this version, synced. It is
+    /// broken where a write or the sync failed.
     fn all_lines<R: Files<File = File>>(
         &self,
         rt: &R,
@@ -153,6 +169,10 @@ impl Folder {
         ensures held { IfOk result (λ j. j.broken ≡ false → HoldsDump j version.now × (j.synced ≡ j.place)) }
         ensures fault { IfErr result IsOfFiles }
     {
+        if !fs::exists(rt, names.path.as_str())? {
+            let journal = self.first_line(rt, names, version)?;
+            return with_all(self.alloc, journal, version);
+        }
         let line = of_file(
             self.alloc,
             names.name.as_str(),

@@ -11,13 +11,14 @@ use std::os::unix::fs::MetadataExt;
 use std::rt::Files;
 use streams::Failed;
 
-/// A file of the system that was opened for appending, with how many bytes it has and how many of them are synced.
+/// A file of the system that was opened for appending, with how many bytes it has and how many of them are synced. Where it could
+/// not be made, each append and each sync fails.
 ///
 /// What a disk keeps of it is known to no contract: that a write reaches the end of the file, and that a sync makes durable all
 /// that is in it, is trusted of the system.
 #[derive(Drop)]
 pub struct DiskFile {
-    file: File,
+    file: Option<File>,
     written: u64,
     synced: u64,
     mark: Option<MarkFile>,
@@ -39,6 +40,22 @@ impl DiskFile {
         let mut how = OpenOptions::new();
         how.append(true).create_new(true);
         DiskFile::opened(rt, &how, path, 0)
+    }
+
+    /// A file that could not be made.
+    pub(crate) fn missing() -> DiskFile
+        ensures written { result.written ≡ 0 }
+        ensures synced { result.synced ≡ 0 }
+        ensures failures { result.failures ≡ 0 }
+    {
+        DiskFile {
+            file: None,
+            written: 0,
+            synced: 0,
+            mark: None,
+            failures: 0,
+            error: None,
+        }
     }
 
     /// A file that has so many bytes, all of them synced, opened for appending.
@@ -70,7 +87,7 @@ impl DiskFile {
     {
         let file = how.open(rt, path)?;
         Ok(DiskFile {
-            file,
+            file: Some(file),
             written: len,
             synced: len,
             mark: None,
@@ -120,8 +137,24 @@ fn fail(file: &mut DiskFile, error: io::Error) -> Failed
     Failed
 }
 
-/// Syncs a file. Of one that no folder has any more, nothing is durable.
-fn sync_named(file: &File) -> io::Result<()> {
+/// Why nothing is written where there is no file.
+fn no_file() -> io::Error {
+    io::Error::from(ErrorKind::NotFound)
+}
+
+/// Writes all the bytes to a file, where there is one.
+fn write_to(file: &mut Option<File>, bytes: &[u8]) -> io::Result<()> {
+    match file {
+        Some(file) => file.write_all(bytes),
+        None => Err(no_file()),
+    }
+}
+
+/// Syncs a file, where there is one. Of one that no folder has any more, nothing is durable.
+fn sync_named(file: &Option<File>) -> io::Result<()> {
+    let Some(file) = file else {
+        return Err(no_file());
+    };
     file.sync_data()?;
     match file.metadata() {
         Ok(about) if about.nlink() == 0 => Err(io::Error::from(ErrorKind::NotFound)),
@@ -153,7 +186,7 @@ impl Appended for DiskFile {
         let Some(written) = self.written.checked_add(bytes.len() as u64) else {
             return Err(fail(self, io::Error::from(ErrorKind::FileTooLarge)));
         };
-        match self.file.write_all(bytes) {
+        match write_to(&mut self.file, bytes) {
             Ok(()) => {
                 self.written = written;
                 Ok(())
@@ -162,7 +195,11 @@ impl Appended for DiskFile {
         }
     }
 
+    /// Where all of it is synced already, nothing is done.
     fn sync(&mut self) -> Result<(), Failed> {
+        if self.file.is_some() && self.synced == self.written {
+            return Ok(());
+        }
         match sync_named(&self.file) {
             Ok(()) => {
                 self.synced = self.written;

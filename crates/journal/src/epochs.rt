@@ -1,5 +1,5 @@
 //! The files of epochs: which one a server goes on from, and how the next one begins.
-ghost use Rattle.std.specs.Prelude.{◌≡◌, ◌≤◌, ◌<◌, ℕ, false, suc, List, Some, None, Err, IfErr, IfOk, MatchBool, MatchOption, drop, filter, max, nat_le, reverse};
+ghost use Rattle.std.specs.Prelude.{◌≡◌, ◌≤◌, ◌<◌, ℕ, false, suc, List, Some, None, Ok, Err, IfErr, IfOk, IfSome, MatchBool, MatchOption, MatchResult, drop, filter, max, nat_le, reverse};
 ghost use Rattle.model.specs.History.{now, successor};
 ghost use Rattle.journal.specs.Held.{begun};
 ghost use Rattle.journal.specs.Marks.{raise_by, synced_by};
@@ -7,11 +7,14 @@ ghost use Rattle.journal.specs.Refusing.{IsEndedBy, IsExhausted};
 ghost use Rattle.journal.specs.Replaying.{AreTooLarge};
 ghost use Rattle.journal.specs.Restoring.{IsRestored};
 ghost use Rattle.journal.specs.Names.{last_epoch};
-ghost use Rattle.journal.specs.Starting.{AreNumbersTooLarge, IsBegunAfter, IsDamaged, IsDroppedOf, IsNewest, IsOfFiles, IsStarted};
+ghost use Rattle.journal.specs.Starting.{AreNumbersTooLarge, IsBegunAfter, IsDamaged, IsDroppedOf, IsNewest, IsOfFiles, IsStarted, IsUnwritten};
+ghost use Rattle.journal.specs.Kept.{Kept};
 ghost use Rattle.journal.specs.declared.restored.Unrestored.TheVariants as unrestored;
 ghost use Rattle.journal.specs.declared.start_fault.StartFault.TheVariants as start;
 
+use crate::disk_file::DiskFile;
 use crate::folder::Folder;
+use crate::journal::Journal;
 use crate::lock::remove_left;
 use crate::mark::{Mark, ahead_of, mark_for, raise_by, synced_by};
 use crate::mark_file::found_mark;
@@ -19,7 +22,7 @@ use crate::names::{LAST_EPOCH, epoch_name};
 use crate::reading::restore;
 use crate::restored::{End, Raise, Restored, Unrestored};
 use crate::start_fault::{StartFault, of_file};
-use crate::started::{Begun, Dropped, Started};
+use crate::started::{Access, Begun, Dropped, Started};
 use replay_cli::Verdict;
 use snapshots::Version;
 use std::alloc::{AllocError, Global};
@@ -29,6 +32,13 @@ use std::rt::Files;
 
 /// The name of the file that has the mark.
 pub(crate) const MARK: &str = "mark";
+
+/// An epoch that begins, and why its journal has no file yet, where that could not be made.
+#[derive(Drop)]
+struct Opened {
+    begun: Begun,
+    unwritten: Option<StartFault>,
+}
 
 /// What was read of the file of an epoch, and how many bytes that has.
 #[derive(Drop)]
@@ -40,29 +50,37 @@ pub(crate) struct FileRead {
 impl Folder {
     /// Reads the newest file, and begins the next epoch over the last database of its history; or goes on in it, where it has
     /// its first line and no more; or begins the first epoch, where there is no file. Numbers are raised unless the mark says
-    /// that nothing that was shown is lost. `shows_kept` says whether the server will show only what is kept.
+    /// that nothing that was shown is lost.
     ///
-    /// No file of an epoch that is there changes, whatever comes. The one that was read is synced.
+    /// No file of an epoch that is there changes, whatever comes. Unless nothing is to be written, the one that was read is synced.
+    /// Where the file of the epoch that begins can't be made, as on a full disk, its journal has none, and why is answered.
     ///
     /// # Errors
     ///
     /// The newest file has a line that is no next entry and that was synced, or ends with too large numbers; memory was refused,
-    /// or a file operation failed.
+    /// or an operation on the file that is read failed.
     pub fn start<R: Files<File = File> + AllocGlobal + Clone + Drop>(
         &self,
         rt: &R,
-        shows_kept: bool,
+        access: Access,
     ) -> Result<Started, StartFault>
         ensures started { IfOk result IsStarted }
+        ensures unwritten { IfOk result (λ s. IfSome s.unwritten (IsUnwritten access)) }
         ensures judged { (epoch : ℕ) (verdict : Verdict) → result ≡ Err (start.Judged epoch verdict) → IsDamaged verdict }
         ensures too_large { result ≡ Err start.NumbersTooLarge → AreNumbersTooLarge }
     {
         let epochs = self.epochs(rt)?;
         let found = self.mark(rt)?;
         let Some(newest) = newest(&epochs) else {
-            let begun = self.begin(rt, 1, Version::empty(self.alloc), shows_kept)?;
+            let Opened { begun, unwritten } = self.open_next(
+                rt,
+                1,
+                Version::empty(self.alloc),
+                access,
+            )?;
             return Ok(Started {
                 begun,
+                unwritten,
                 read: None,
                 mark: None,
                 ahead: ahead_of(found, 0),
@@ -72,8 +90,8 @@ impl Folder {
                 raised: false,
             });
         };
-        let file = self.read(rt, newest, mark_for(found, newest))?;
-        self.go_on_after(rt, newest, found, file, shows_kept)
+        let file = self.read(rt, newest, mark_for(found, newest), access)?;
+        self.go_on_after(rt, newest, found, file, access)
     }
 
     /// Begins what comes after the file of this epoch, which was read, and over which this mark was found.
@@ -83,9 +101,10 @@ impl Folder {
         read: u64,
         found: Option<Mark>,
         file: FileRead,
-        shows_kept: bool,
+        access: Access,
     ) -> Result<Started, StartFault>
         ensures after { IfOk result (IsBegunAfter read found file.len file.left) }
+        ensures unwritten { IfOk result (λ s. IfSome s.unwritten (IsUnwritten access)) }
         ensures judged { (epoch : ℕ) (verdict : Verdict) → result ≡ Err (start.Judged epoch verdict) → ⊥ }
         ensures too_large { result ≡ Err start.NumbersTooLarge → ⊥ }
     {
@@ -94,9 +113,10 @@ impl Folder {
         let places = left.places;
         let raised = left.raised;
         let dropped = dropped_of(len, &left);
-        let begun = self.go_on(rt, read, left, len, shows_kept)?;
+        let Opened { begun, unwritten } = self.go_on(rt, read, left, len, access)?;
         Ok(Started {
             begun,
+            unwritten,
             read: Some(read),
             mark,
             ahead: ahead_of(found, read),
@@ -158,12 +178,13 @@ impl Folder {
         Ok(old.len() as u64)
     }
 
-    /// What is left of an epoch, whose file is synced.
+    /// What is left of an epoch, whose file is synced unless nothing is to be written.
     fn read<R: Files<File = File> + AllocGlobal>(
         &self,
         rt: &R,
         epoch: u64,
         mark: Option<Mark>,
+        access: Access,
     ) -> Result<FileRead, StartFault>
         ensures restored { IfOk result (λ r. (text : List ℕ)
             × IsRestored text (synced_by mark) (raise_by mark self.now.boot r.len) r.left) }
@@ -179,7 +200,7 @@ impl Folder {
         let raise = raise_by(mark, &self.boot, len);
         match restore_file(self.alloc, &file, synced_by(mark), raise) {
             Ok(left) => {
-                of_file(self.alloc, name.as_str(), file.sync_all())?;
+                of_file(self.alloc, name.as_str(), sync_as(&file, access))?;
                 Ok(FileRead { left, len })
             }
             Err(fault) => Err(of_epoch(epoch, name, fault)),
@@ -193,10 +214,11 @@ impl Folder {
         epoch: u64,
         left: Restored,
         len: u64,
-        shows_kept: bool,
-    ) -> Result<Begun, StartFault>
-        ensures version { IfOk result (λ b. b.version ≡ left.version) }
-        ensures epoch { IfOk result (λ b. MatchBool left.goes_on (b.epoch ≡ epoch) (b.epoch ≡ suc epoch)) }
+        access: Access,
+    ) -> Result<Opened, StartFault>
+        ensures version { IfOk result (λ o. o.begun.version ≡ left.version) }
+        ensures epoch { IfOk result (λ o. MatchBool left.goes_on (o.begun.epoch ≡ epoch) (o.begun.epoch ≡ suc epoch)) }
+        ensures unwritten { IfOk result (λ o. IfSome o.unwritten (IsUnwritten access)) }
         ensures too_large { result ≡ Err start.NumbersTooLarge → ⊥ }
         ensures last { result ≡ Err start.LastEpoch → last_epoch ≤ epoch }
         ensures judged { (at : ℕ) (verdict : Verdict) → result ≡ Err (start.Judged at verdict) → ⊥ }
@@ -206,18 +228,60 @@ impl Folder {
             goes_on,
             ..
         } = left;
-        if !goes_on {
-            let Some(next) = after(epoch) else {
-                return Err(StartFault::LastEpoch);
-            };
-            return self.begin(rt, next, version, shows_kept);
+        if goes_on {
+            return self.open_again(rt, epoch, version, len, access);
         }
-        let journal = self.resume(rt, epoch, len, shows_kept)?;
-        Ok(Begun {
-            version,
-            journal,
-            epoch,
-        })
+        let Some(next) = after(epoch) else {
+            return Err(StartFault::LastEpoch);
+        };
+        self.open_next(rt, next, version, access)
+    }
+
+    /// The epoch that begins with this version in a file of its own.
+    fn open_next<R: Files<File = File> + AllocGlobal>(
+        &self,
+        rt: &R,
+        epoch: u64,
+        version: Version,
+        access: Access,
+    ) -> Result<Opened, StartFault>
+        requires { version ≡ begun version.base }
+        ensures version { IfOk result (λ o. o.begun.version ≡ version) }
+        ensures epoch { IfOk result (λ o. o.begun.epoch ≡ epoch) }
+        ensures unwritten { IfOk result (λ o. IfSome o.unwritten (IsUnwritten access)) }
+        ensures memory { IfErr result (λ fault. fault ≡ start.Memory) }
+    {
+        match access {
+            Access::ReadOnly => Ok(begun_without(version, epoch, None)),
+            Access::ReadWrite { shows_kept } => {
+                let made = self.make(rt, epoch, &version, shows_kept);
+                begun_with(version, epoch, made)
+            }
+        }
+    }
+
+    /// The epoch that goes on with this version in its file, which has a first line of so many bytes.
+    fn open_again<R: Files<File = File> + AllocGlobal>(
+        &self,
+        rt: &R,
+        epoch: u64,
+        version: Version,
+        len: u64,
+        access: Access,
+    ) -> Result<Opened, StartFault>
+        requires { version ≡ begun version.base }
+        ensures version { IfOk result (λ o. o.begun.version ≡ version) }
+        ensures epoch { IfOk result (λ o. o.begun.epoch ≡ epoch) }
+        ensures unwritten { IfOk result (λ o. IfSome o.unwritten (IsUnwritten access)) }
+        ensures memory { IfErr result (λ fault. fault ≡ start.Memory) }
+    {
+        match access {
+            Access::ReadOnly => Ok(begun_without(version, epoch, None)),
+            Access::ReadWrite { shows_kept } => {
+                let resumed = self.resume(rt, epoch, len, shows_kept);
+                begun_with(version, epoch, resumed)
+            }
+        }
     }
 
     /// The mark that is found.
@@ -234,6 +298,63 @@ impl Folder {
         of_file(self.alloc, MARK, remove_left(rt, path.as_str()))?;
         self.sync()?;
         Ok(())
+    }
+}
+
+/// The epoch that begins with this version and with what was made of its file: where that failed, with none, unless memory was
+/// refused.
+fn begun_with(
+    version: Version,
+    epoch: u64,
+    made: Result<Journal<DiskFile>, StartFault>,
+) -> Result<Opened, StartFault>
+    requires begins { version ≡ begun version.base }
+    requires journal { IfOk made (λ j. (j.place ≡ 0) × (j.synced ≡ 0) × (j.broken ≡ false)) }
+    requires fault { IfErr made IsOfFiles }
+    ensures version { IfOk result (λ o. o.begun.version ≡ version) }
+    ensures epoch { IfOk result (λ o. o.begun.epoch ≡ epoch) }
+    ensures written { (journal : Kept) → made ≡ Ok journal → IfOk result (λ o. o.unwritten ≡ None) }
+    ensures unwritten { (fault : StartFault) → made ≡ Err fault
+        → MatchResult result (λ o. o.unwritten ≡ Some fault) (λ _. fault ≡ start.Memory) }
+    ensures of_files { IfOk result (λ o. IfSome o.unwritten IsOfFiles) }
+    ensures memory { IfErr result (λ fault. fault ≡ start.Memory) }
+{
+    match made {
+        Ok(journal) => Ok(Opened {
+            begun: Begun {
+                version,
+                journal,
+                epoch,
+            },
+            unwritten: None,
+        }),
+        Err(StartFault::Memory) => Err(StartFault::Memory),
+        Err(fault) => Ok(begun_without(version, epoch, Some(fault))),
+    }
+}
+
+/// The epoch that begins with this version, and with no file.
+fn begun_without(version: Version, epoch: u64, fault: Option<StartFault>) -> Opened
+    requires begins { version ≡ begun version.base }
+    ensures version { result.begun.version ≡ version }
+    ensures epoch { result.begun.epoch ≡ epoch }
+    ensures fault { result.unwritten ≡ fault }
+{
+    Opened {
+        begun: Begun {
+            version,
+            journal: Journal::resume(DiskFile::missing()),
+            epoch,
+        },
+        unwritten: fault,
+    }
+}
+
+/// Makes durable what is in a file, unless nothing is to be written.
+fn sync_as(file: &File, access: Access) -> io::Result<()> {
+    match access {
+        Access::ReadWrite { .. } => file.sync_all(),
+        Access::ReadOnly => Ok(()),
     }
 }
 

@@ -51,10 +51,12 @@ pub struct Folder {
     pub(crate) boot: BootId,
     held: File,
     left_by: Option<u16>,
+    unsaid: Option<FolderFault>,
 }
 
 impl Folder {
-    /// Opens the folder, which is made if there is none, for a server that listens on this port.
+    /// Opens the folder, which is made if there is none, for a server that listens on this port. That it can't say the port, as on a
+    /// full disk, doesn't matter.
     ///
     /// # Errors
     ///
@@ -66,8 +68,8 @@ impl Folder {
     ) -> Result<Folder, FolderFault> {
         make_folders(rt, path)?;
         let folder = Folder::lock(rt, path)?;
-        say_port(rt, path, port)?;
-        Ok(folder)
+        let unsaid = say_port(rt, path, port).err();
+        Ok(Folder { unsaid, ..folder })
     }
 
     /// Locks a folder that is there, and says no port.
@@ -89,6 +91,7 @@ impl Folder {
             boot: read_boot_id(rt),
             held,
             left_by,
+            unsaid: None,
         })
     }
 
@@ -104,6 +107,11 @@ impl Folder {
     /// The port of a server that had the folder and ended without giving it up.
     pub fn left_by(&self) -> Option<u16> {
         self.left_by
+    }
+
+    /// Why it can't say the port of its server.
+    pub fn unsaid(&self) -> Option<&FolderFault> {
+        self.unsaid.as_ref()
     }
 
     /// The path of a file in it.

@@ -39,5 +39,5 @@ pub use reading::restore;
 pub use repair::{Cut, Repaired};
 pub use restored::{End, Raise, Restored, Unrestored};
 pub use start_fault::StartFault;
-pub use started::{Begun, Dropped, Started};
+pub use started::{Access, Begun, Dropped, Started};
 pub use streams::Failed;

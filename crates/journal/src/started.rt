@@ -7,14 +7,27 @@ ghost use Rattle.journal.specs.Held.{begun, HoldsDump};
 use crate::disk_file::DiskFile;
 use crate::journal::Journal;
 use crate::mark::Mark;
+use crate::start_fault::StartFault;
 use snapshots::Version;
+
+/// What a start does in the folder.
+#[derive(Clone, Copy, Debug, PartialEq, Eq)]
+pub enum Access {
+    /// It makes the file of the epoch that begins.
+    ReadWrite {
+        /// Whether the server will show only what is kept.
+        shows_kept: bool,
+    },
+    /// It writes nothing.
+    ReadOnly,
+}
 
 /// An epoch that begins, with its journal.
 #[derive(Drop)]
 pub struct Begun {
     /// What the database begins with: its base, and no entries.
     pub version: Version,
-    /// The journal of the epoch, with its first line.
+    /// The journal of the epoch: with its first line, or with no file, where that could not be made or nothing is written.
     pub journal: Journal<DiskFile>,
     /// The number of the epoch, from 1.
     pub epoch: u64,
@@ -38,6 +51,8 @@ pub struct Dropped {
 pub struct Started {
     /// The epoch that begins.
     pub begun: Begun,
+    /// Why its journal has no file yet, where that could not be made: a [`rewrite`](crate::Folder::rewrite) makes it.
+    pub unwritten: Option<StartFault>,
     /// The epoch whose file was read: the newest, where there is one.
     pub read: Option<u64>,
     /// What the mark said of that file.

@@ -23,10 +23,10 @@ module _ (p : NamedLft) (S N P R : RattleType) (n : Keeping.Ghosts N.Denot) wher
   pub durable-send : IsSend S → IsSync N → IsSync P → IsSync R → IsSend (Durable.the_row p S N P R n)
   durable-send s k q r = search (std.crosses, sendable) depth 60
 
--- What lies under a pen is handed on, so the pen may be shared. What its bounds know follows the types.
-module _ (K F N L E : RattleType) where
-  pub round-send : (v : _) (w : _) (x : _) (y : _) (z : _) → IsSend K → IsSend F → IsSend N → IsSend L → IsSend E → IsSend (Round.the_row K F N L E v w x y z)
-  round-send v w x y z sk sf sn sl se = search (journal-send, epoch-send, std.crosses, sendable) depth 60
+-- What lies under a pen is handed on, so the pen may be shared. What its bounds know follows the types: O is what K opens.
+module _ (K F N L E O : RattleType) where
+  pub round-send : (v : _) (o : _) (f : _) (n : _) (l : _) (e : _) → IsSend K → IsSend F → IsSend N → IsSend L → IsSend E → IsSend (Round.the_row K F N L E O v o f n l e)
+  round-send v o f n l e sk sf sn sl se = search (journal-send, epoch-send, std.crosses, sendable) depth 60
 
-  pub pen-sync : (s : NamedLft) (v : _) (w : _) (x : _) (y : _) (z : _) → IsSend K → IsSend F → IsSend N → IsSync N → IsSend L → IsSync L → IsSend E → IsSync (Pen.the_row s K F N L E v w x y z)
-  pen-sync s v w x y z sk sf sn yn sl yl se = search (round-send, std.crosses, sendable) depth 60
+  pub pen-sync : (s : NamedLft) (v : _) (o : _) (f : _) (n : _) (l : _) (e : _) → IsSend K → IsSend F → IsSend N → IsSync N → IsSend L → IsSync L → IsSend E → IsSend O → IsSync (Pen.the_row s K F N L E O v o f n l e)
+  pen-sync s v o f n l e sk sf sn yn sl yl se so = search (round-send, std.crosses, sendable) depth 60

@@ -103,6 +103,18 @@ impl<K: SeesVersion, F: Appended, N: Keeping, L: Notices<F>, E: Epochs<F>> Round
         }
     }
 
+    /// Syncs what the epoch begins with. Where that fails, as where its file could not be made, the journal is broken from the start,
+    /// which is reported and said.
+    pub(crate) fn check(&mut self, place: &KeptPlace<N>, notices: &L) {
+        if self.journal.is_broken() || self.next.is_some() {
+            return;
+        }
+        if self.journal.sync().is_err() {
+            notices.failed(&self.journal);
+            place.fail();
+        }
+    }
+
     /// A pass: what is new is appended, and with `syncs` made durable, which is said. Where the journal breaks by it, that is
     /// reported and said. While it is broken, or once the next epoch has begun, nothing is done.
     pub(crate) fn pass(

@@ -132,8 +132,9 @@ fn serve_running<
     let Some(keeper) = sessions.pop() else {
         return None;
     };
-    let round = Round::new(keeper, journal);
+    let mut round = Round::new(keeper, journal);
     let place = KeptPlace::new(limit);
+    round.check(&place, service.notices);
     let Some((sessions, left)) = serve_kept::<A, _, _, N, F, L, E>(
         service,
         workers,

@@ -44,6 +44,9 @@ pub(crate) fn serve_kept<
     epochs: &mut E,
     rt: &A,
 ) -> Option<(Vec<S>, Left<K, F>)>
+where
+    S::Opened: Send,
+    K::Opened: Send,
     ensures served { IfSome result (λ served. ServesDurably S.goes S.known N.is_appended N.is_kept N.is_limit N.has_failed
         (awaits service.now.policy) setting.now service.now.terms.connections sessions.items served.0.items) }
     ensures room { IfSome result (λ served. length served.0.items + 1 ≤ vec_capacity served.0) }
@@ -80,6 +83,9 @@ fn serve_by_pen<
     epochs: &mut E,
     rt: &A,
 ) -> Option<(Vec<S>, Left<K, F>)>
+where
+    S::Opened: Send,
+    K::Opened: Send,
     requires room { (room.items ≡ []) × (length sessions.items + 1 ≤ vec_capacity room) }
     ensures served { IfSome result (λ served. ServesDurably S.goes S.known N.is_appended N.is_kept N.is_limit N.has_failed
         (awaits service.now.policy) setting.now service.now.terms.connections sessions.items served.0.items) }
@@ -119,6 +125,8 @@ fn serve_beside<
     epochs: &mut E,
     rt: &A,
 ) -> Vec<S>
+where
+    S::Opened: Send,
     requires reported { L.reported → N.has_failed }
     ensures same_number { length result.items ≡ length sessions.items }
     ensures each { (i : ℕ) (d : S) → i < length sessions.items
@@ -150,6 +158,8 @@ fn serve_all<
     place: &KeptPlace<N>,
     rt: &A,
 ) -> Vec<S>
+where
+    S::Opened: Send,
     requires reported { L.reported → N.has_failed }
     ensures same_number { length result.items ≡ length sessions.items }
     ensures each { (i : ℕ) (d : S) → i < length sessions.items

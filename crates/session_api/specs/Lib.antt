@@ -1,3 +1,4 @@
 pub mod Known
+pub mod Revisions
 pub mod SessionCall
 pub mod Learns

@@ -1,16 +1,19 @@
 //! What is asked of a session.
-ghost use Rattle.std.specs.Prelude.{◌≡◌, length, take, IfOk, OnErr, option_copied};
+ghost use Rattle.std.specs.Prelude.{◌≡◌, length, take, IfOk, OnErr, option_copied, option_map};
 ghost use Rattle.model.specs.Answers.{answer_to};
 ghost use Rattle.model.specs.Changes.{changed_since, last_seq_of, rows_since, wanted_by};
 ghost use Rattle.model.specs.Database.{IsDatabase};
 ghost use Rattle.model.specs.History.{IsLegal, base_of, now};
+ghost use Rattle.model.specs.Query.{Opened as Opening};
 ghost use Rattle.session_api.specs.Known.{Known, entry_at, history_of, update_seq_of};
 ghost use Rattle.session_api.specs.Learns.{Learns};
+ghost use Rattle.session_api.specs.Revisions.{known_opened, opened_by};
 ghost use Rattle.session_api.specs.SessionCall as call;
 ghost use Rattle.session_api.specs.SessionCall.{SessionCall};
 
 use crate::fault::CallFault;
 use crate::following::Following;
+use crate::revisions::Revisions;
 use commands::{Command, Entry};
 use document_id::DocIds;
 use queries::{Answer, Query, Row};
@@ -21,6 +24,9 @@ use std::alloc::{AllocError, Global};
 /// A call that changes the session is described by two relations. `goes` is the session's own: code that knows no more of it
 /// can't claim a call that it didn't make, nor another answer. `Learns` says what is known then, whatever it is.
 pub trait Viewer {
+    /// Revisions of a document, of which each is made when it is looked at.
+    type Opened: Revisions + Drop;
+
     /// What it knows.
     ghost known: { Self → Known };
 
@@ -40,6 +46,11 @@ pub trait Viewer {
     /// What is answered to a query over what was seen.
     fn answer(&self, alloc: Global, query: &Query) -> Result<Answer, AllocError>
         ensures answer { IfOk result (λ answer. answer ≡ answer_to (now (history_of (known self.now))) query.now) };
+
+    /// The revisions that a query for them asks for, where the document is known.
+    fn open_revs(&self, alloc: Global, query: &Query) -> Result<Option<Self::Opened>, AllocError>
+        ensures opened { IfOk result (λ found. option_map (λ o. Opening (opened_by (Self.Opened.document o) (Self.Opened.shown o))) found
+            ≡ known_opened (now (history_of (known self.now))) query.now) };
 
     /// The update number of what was seen.
     fn update_seq(&self) -> u64

@@ -9,8 +9,10 @@ mod calls;
 mod fault;
 mod following;
 mod replica;
+mod revisions;
 
 pub use calls::{Calls, Viewer};
 pub use fault::{CallFault, Unavailable};
 pub use following::Following;
 pub use replica::Replica;
+pub use revisions::Revisions;

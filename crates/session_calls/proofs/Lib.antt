@@ -1,3 +1,4 @@
 pub mod Crossing
 pub mod Seen
 pub mod Sessions
+pub mod Shown

@@ -7,11 +7,13 @@
 
 mod calls;
 mod following;
+mod opened;
 mod session;
 mod vectors;
 mod version;
 
 pub use following::next_rows;
+pub use opened::Opened;
 pub use session::SharedSession;
 pub use vectors::{all_sessions, all_shared};
 pub use version::SeesVersion;

@@ -5,6 +5,7 @@ ghost use Rattle.session_calls.specs.Sessions.{Goes, known_of};
 
 use crate::calls::{compact, edit, look, wait_for};
 use crate::following::next_rows;
+use crate::opened::Opened;
 use changes_feed::{answer, changes, changes_among, count_wanted, local_get, open_revs, revs_diff};
 use commands::{Command, Entry, NamedRevisions};
 use document_id::{DocId, DocIds};
@@ -69,6 +70,8 @@ impl<C: Drop, J: Opening, G: Drop> SharedSession<C, J, G> {
 }
 
 impl<C: Drop, J: Opening, G: Drop> Viewer for SharedSession<C, J, G> {
+    type Opened = Opened;
+
     ghost known = { λ s. known_of J.base J.config J.sessions J.capacity s };
 
     ghost goes = { λ old call new. Goes J.base J.config J.sessions J.capacity old call new };
@@ -84,6 +87,10 @@ impl<C: Drop, J: Opening, G: Drop> Viewer for SharedSession<C, J, G> {
 
     fn answer(&self, alloc: Global, query: &Query) -> Result<Answer, AllocError> {
         answer(alloc, self.seen(), query)
+    }
+
+    fn open_revs(&self, alloc: Global, query: &Query) -> Result<Option<Opened>, AllocError> {
+        Opened::of(alloc, self.seen(), query)
     }
 
     fn update_seq(&self) -> u64 {

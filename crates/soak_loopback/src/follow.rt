@@ -2,8 +2,9 @@
 
 use crate::marks::{Marks, TURNS, pause};
 use crate::shown::Shown;
+use crate::worker::Worker;
 use crate::write::{WRITERS, write_all};
-use session_api::{Calls, Viewer};
+use session_api::Viewer;
 use session_calls::SeesVersion;
 use std::alloc::{AllocError, Global};
 use std::io::ErrorKind;
@@ -12,16 +13,17 @@ use std::time::Clock;
 use std::{io, thread};
 
 /// Has the first session follow what the others write.
-pub(crate) fn follow_others<
-    R: AllocGlobal + Threads + Clock + Sync,
-    S: Calls<R> + SeesVersion + Send,
->(rt: &R, marks: &Marks, sessions: &mut [S]) -> io::Result<String> {
+pub(crate) fn follow_others<R: Threads + Sync, S: Worker<R> + Send>(
+    rt: &R,
+    marks: &Marks,
+    sessions: &mut [S],
+) -> io::Result<String> {
     let Some((first, others)) = sessions.split_first_mut() else {
         return Err(io::Error::from(ErrorKind::Other));
     };
     let (told, ()) = thread::join(
         rt,
-        move || follow(rt, rt.alloc(), marks, first),
+        move || first.follow_others(rt, marks),
         || write_all(rt, marks, others),
     );
     told
@@ -29,7 +31,7 @@ pub(crate) fn follow_others<
 
 /// Takes the rows of what the session sees, again and again, until the writers are done. It says whether
 /// what was taken is what there is at the end.
-fn follow<S: SeesVersion>(
+pub(crate) fn follow<S: SeesVersion>(
     clock: &impl Clock,
     alloc: Global,
     marks: &Marks,

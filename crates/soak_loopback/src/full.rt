@@ -19,7 +19,10 @@ pub(crate) fn serve_full<R: AllocGlobal + Threads + Wait + Clock + Sync, S: Call
     rt: &R,
     ends: Ends,
     sessions: &mut [S],
-) -> io::Result<String> {
+) -> io::Result<String>
+where
+    S::Opened: Send,
+{
     let Ends { listener, clients } = ends;
     let setting = Setting::new(rt.alloc(), rt, TURNS)?;
     let workers = workers(rt, rt.alloc(), &Unheard)?;

@@ -21,6 +21,7 @@ mod replication;
 mod served;
 mod shown;
 mod terms;
+mod worker;
 mod write;
 
 use crate::ends::Ends;

@@ -8,11 +8,12 @@ use crate::full::serve_full;
 use crate::held::serve_held;
 use crate::hold::Hold;
 use crate::marks::Marks;
+use crate::worker::Worker;
 use crate::write::WRITERS;
 use commands::{Config, Limits};
 use history_lock::{Opened, open};
 use session_api::Calls;
-use session_calls::{SeesVersion, all_sessions, all_shared};
+use session_calls::{all_sessions, all_shared};
 use std::alloc::Global;
 use std::io;
 use std::io::ErrorKind;
@@ -119,12 +120,15 @@ fn worked<
     Some(with_lost(told, closed.lost()))
 }
 
-fn work_of<R: AllocGlobal + Threads + Wait + Clock + Sync, S: Calls<R> + SeesVersion + Send>(
+fn work_of<R: AllocGlobal + Threads + Wait + Clock + Sync, S: Calls<R> + Worker<R> + Send>(
     rt: &R,
     work: Work,
     marks: &Marks,
     sessions: &mut [S],
-) -> io::Result<String> {
+) -> io::Result<String>
+where
+    S::Opened: Send,
+{
     match work {
         Work::Held(ends) => serve_held(rt, ends, marks, sessions),
         Work::Full(ends) => serve_full(rt, ends, sessions),

@@ -2,6 +2,7 @@
 
 use crate::command::next_edit;
 use crate::marks::Marks;
+use crate::worker::Worker;
 use session_api::{Calls, Viewer};
 use session_calls::SeesVersion;
 use std::alloc::Global;
@@ -22,7 +23,7 @@ const ROUNDS: u64 = 100;
 const DOCUMENTS: u64 = 20;
 
 /// Has each session write on a thread of its own.
-pub(crate) fn write_all<R: AllocGlobal + Threads + Clock + Sync, S: Calls<R> + SeesVersion + Send>(
+pub(crate) fn write_all<R: Threads + Sync, S: Worker<R> + Send>(
     rt: &R,
     marks: &Marks,
     sessions: &mut [S],
@@ -31,12 +32,12 @@ pub(crate) fn write_all<R: AllocGlobal + Threads + Clock + Sync, S: Calls<R> + S
         rt,
         sessions,
         THREADS,
-        &|_index, session| write_often(rt, rt.alloc(), marks, session),
+        &|_index, session| session.write_documents(rt, marks),
     );
 }
 
 /// Writes to each document in turn. Half way it waits until what there is was followed.
-fn write_often<R: Clock, S: Calls<R> + SeesVersion>(
+pub(crate) fn write_often<R: Clock, S: Calls<R> + SeesVersion>(
     rt: &R,
     alloc: Global,
     marks: &Marks,

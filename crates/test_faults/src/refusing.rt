@@ -12,7 +12,7 @@ use document_id::{DocId, DocIds};
 use json_profile::Body;
 use queries::{Answer, Query, Row};
 use session_api::{CallFault, Calls, Following, Unavailable, Viewer};
-use session_calls::next_rows;
+use session_calls::{Opened, next_rows};
 use snapshots::Version;
 use std::alloc::{AllocError, Global};
 use std::sync::Arc;
@@ -61,6 +61,8 @@ fn first_edit(alloc: Global) -> Result<Command, Fail> {
 }
 
 impl Viewer for Refusing {
+    type Opened = Opened;
+
     ghost known = { λ s. refused s.version s.lost };
 
     ghost goes = { λ _ _ _. ⊤ };
@@ -75,6 +77,10 @@ impl Viewer for Refusing {
 
     fn answer(&self, alloc: Global, query: &Query) -> Result<Answer, AllocError> {
         answer(alloc, &self.version, query)
+    }
+
+    fn open_revs(&self, alloc: Global, query: &Query) -> Result<Option<Opened>, AllocError> {
+        Opened::of(alloc, &self.version, query)
     }
 
     fn update_seq(&self) -> u64 {

@@ -3,9 +3,12 @@
 use crate::appends::versions_of;
 use crate::restores::bytes_of;
 use history_dump::first_line;
-use journal::{Begun, Folder, Started};
+use journal::{Access, Begun, Folder, Started};
 use std::alloc::Global;
 use std::test::Fail;
+
+/// What a start does that may write.
+const WRITES: Access = Access::ReadWrite { shows_kept: false };
 
 /// What a server that listens on this port would start with.
 pub(crate) fn started(rt: &HostRuntime, folder: &str, port: &str) -> Result<String, Fail> {
@@ -14,7 +17,7 @@ pub(crate) fn started(rt: &HostRuntime, folder: &str, port: &str) -> Result<Stri
         Ok(folder) => folder,
         Err(fault) => return Ok(format!(in alloc; "{fault}")?),
     };
-    match folder.start(rt, false) {
+    match folder.start(rt, WRITES) {
         Ok(started) => started_told(alloc, &folder, &started),
         Err(fault) => Ok(format!(in alloc; "{fault}")?),
     }
@@ -45,7 +48,7 @@ pub(crate) fn written(rt: &HostRuntime, folder: &str, dump: &str) -> Result<Stri
     let Ok(folder) = Folder::open(rt, folder, 5984) else {
         return Err("the folder is not opened".into());
     };
-    let Ok(started) = folder.start(rt, false) else {
+    let Ok(started) = folder.start(rt, WRITES) else {
         return Err("nothing starts".into());
     };
     let Started { begun, .. } = started;

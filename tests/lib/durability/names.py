@@ -15,6 +15,16 @@ def names(given):
     old_file_is_synced(given)
 
 
+def check_begun(given, server, rule):
+    """A start that is killed serves nobody; one that can't sync its folder serves what it read, and takes no write."""
+    if "kill" in rule:
+        given.check(server.port is None, "a start goes on behind %s", rule)
+        return
+    given.check(server.port is not None, "no start behind %s: %s", rule, server.reported())
+    status, value = server.connect().ask("PUT", "/db/refused", {})
+    given.check((status, value.get("reason")) == (503, "journal"), "%d, %r for a write behind %s", status, value, rule)
+
+
 def goes_on(given, is_new, rule):
     """A start ends between the name of its file and the sync of the folder. The next one goes on from there; then the machine
     ends."""
@@ -28,7 +38,7 @@ def goes_on(given, is_new, rule):
         begin = contents(room.folder)
         disk = Disk(room.folder, begin)
         with room.serve(env=room.environment(log=room.beside("log-0"), rules=[rule])) as server:
-            given.check(server.port is None, "a start goes on behind %s", rule)
+            check_begun(given, server, rule)
         for record in read_log(room.beside("log-0")):
             disk.take(record)
         disk.settle(contents(room.folder))

@@ -1,6 +1,6 @@
 use denote.Param.{param}
 use denote.Param.Send.{sendable}
-use Rattle.session_calls.proofs.Crossing.{shared_session-send}
+use Rattle.session_calls.proofs.Crossing.{opened-send, shared_session-send}
 use Rattle.history_lock.proofs.Lending.{no_more}
 use Rattle.http_front.specs.Server.{server_turns}
 use Rattle.http_front.proofs.Servers.{lent_back, serves_named}
@@ -8,6 +8,9 @@ use Rattle.http_front.proofs.server.serve_all.Goals as goal
 
 pub listen-requires-send-S : goal.listen-requires-send-S
 listen-requires-send-S g c κs within = search (shared_session-send (param 0 g.row.J) g.J.Queued g.J.Opening g.J.Naming, sendable) depth 20
+
+pub listen-requires-send-S-Opened : goal.listen-requires-send-S-Opened
+listen-requires-send-S-Opened g c κs within = search (opened-send, sendable) depth 20
 
 pub end-closed-requires : goal.end-closed-requires
 end-closed-requires g c =

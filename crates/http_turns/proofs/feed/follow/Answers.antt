@@ -19,7 +19,7 @@ returns-in-Err-clause-turn g c =
     let told = c.in-Err.ensures in
     let why = c.in-Err.fault in
     writes_sent g.S.Viewer.goes g.S.Viewer.known _ _ _ request c.fail-sent.result _ _ _
-    (changes_refused g.S.Viewer.goes g.S.Viewer.known _ _ _ _ request c.args.closes closes_is c.args.changes asks feed.Continuous c.requires (Refreshed (Err why) ∷ []) why
+    (changes_refused g.S.Viewer.goes g.S.Viewer.known _ _ _ request c.args.closes closes_is c.args.changes asks c.fail-sent.result feed.Continuous c.requires (Refreshed (Err why) ∷ []) why
     (Err why, (refl, record { made = told.goes; learns = told.learns }), refl) c.fail-sent.ensures)
     (λ is. fault_closes _ c.args.closes why _ c.fail-sent.ensures (subst IsTrue closes_is is))
     c.send.ensures.written c.send.ensures.closes

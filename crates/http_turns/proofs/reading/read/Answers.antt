@@ -11,4 +11,4 @@ pub returns-in-Err : goal.returns-in-Err
 returns-in-Err g c =
     λ request asks closes_is.
     let told = c.in-Err.ensures in
-    answers_refused g.S.Viewer.goes g.S.Viewer.known _ _ _ _ request c.args.closes closes_is c.in-Err.fault (record { made = told.goes; learns = told.learns }) c.args.query.now asks c.fail.ensures
+    answers_refused g.S.Viewer.goes g.S.Viewer.known _ _ _ request c.args.closes closes_is _ c.in-Err.fault (record { made = told.goes; learns = told.learns }) c.args.query.now asks c.fail.ensures

@@ -5,7 +5,7 @@ use Rattle.std.proofs.lemmas.List.FromFn.{length-map-range_with_len}
 use Rattle.http_front.specs.Server.{server_turns}
 use Rattle.session_calls.specs.Sessions.{Goes, known_of}
 use Rattle.sessions.specs.Known.{Known, fresh}
-use Rattle.session_calls.proofs.Crossing.{shared_session-send}
+use Rattle.session_calls.proofs.Crossing.{opened-send, shared_session-send}
 use Rattle.journal.specs.Held.{begun}
 use Rattle.journal_front.specs.Server.{awaits}
 use Rattle.journal_front.proofs.Keeping.{names_first, on_some}
@@ -27,6 +27,12 @@ serve_kept-requires-send-S g c κs within = search (shared_session-send (param 0
 
 pub serve_kept-requires-send-K : goal.serve_kept-requires-send-K
 serve_kept-requires-send-K g c κs within = search (shared_session-send (param 0 g.row.J) g.J.Queued g.J.Opening g.J.Naming, sendable) depth 20
+
+pub serve_kept-requires-send-S-Opened : goal.serve_kept-requires-send-S-Opened
+serve_kept-requires-send-S-Opened g c κs within = search (opened-send, sendable) depth 20
+
+pub serve_kept-requires-send-K-Opened : goal.serve_kept-requires-send-K-Opened
+serve_kept-requires-send-K-Opened g c κs within = search (opened-send, sendable) depth 20
 
 pub close_kept-requires : goal.close_kept-requires
 unfolding server_turns

@@ -8,14 +8,14 @@ use Rattle.journal_front.proofs.serving.serve_by_pen.Goals as goal
 
 pub serve_beside-served-requires-send-S : goal.serve_beside-served-requires-send-S
 serve_beside-served-requires-send-S g c κs within =
-    param_send _ _ (arg_send _ exit.no _ (durable-send (record { mir = named 17; lft = κs.1.1.1.1.1.1.1.1.1.1.1.1.1.1.1.1.1.0 }) _ _ _ _ _ c.type_bounds.send-S c.type_bounds.sync-N
-    (pen-sync _ _ _ _ _ (record { mir = named 18; lft = κs.1.1.1.1.1.1.1.1.1.1.1.1.1.1.1.1.1.1.0 }) g.K.Viewer g.F.Appended g.N.Keeping g.L.Notices g.E.Epochs c.type_bounds.send-K c.type_bounds.send-F c.type_bounds.send-N c.type_bounds.sync-N c.type_bounds.send-L c.type_bounds.sync-L c.type_bounds.send-E)
+    param_send _ _ (arg_send _ exit.no _ (durable-send (record { mir = named 18; lft = κs.1.1.1.1.1.1.1.1.1.1.1.1.1.1.1.1.1.1.0 }) _ _ _ _ _ c.type_bounds.send-S c.type_bounds.sync-N
+    (pen-sync _ _ _ _ _ _ (record { mir = named 19; lft = κs.1.1.1.1.1.1.1.1.1.1.1.1.1.1.1.1.1.1.1.0 }) g.K.Viewer g.K.Opened.Revisions g.F.Appended g.N.Keeping g.L.Notices g.E.Epochs c.type_bounds.send-K c.type_bounds.send-F c.type_bounds.send-N c.type_bounds.sync-N c.type_bounds.send-L c.type_bounds.sync-L c.type_bounds.send-E c.type_bounds.send-K-Opened)
     c.type_bounds.sync-A))
 
 pub serve_beside-served-requires-sync-P : goal.serve_beside-served-requires-sync-P
 serve_beside-served-requires-sync-P g c κs within =
-    param_sync _ _ (arg_sync _ exit.no _ (pen-sync _ _ _ _ _ (record { mir = named 19; lft = κs.1.1.1.1.1.1.1.1.1.1.1.1.1.1.1.1.1.1.1.0 }) g.K.Viewer g.F.Appended g.N.Keeping g.L.Notices g.E.Epochs
-    c.type_bounds.send-K c.type_bounds.send-F c.type_bounds.send-N c.type_bounds.sync-N c.type_bounds.send-L c.type_bounds.sync-L c.type_bounds.send-E))
+    param_sync _ _ (arg_sync _ exit.no _ (pen-sync _ _ _ _ _ _ (record { mir = named 20; lft = κs.1.1.1.1.1.1.1.1.1.1.1.1.1.1.1.1.1.1.1.1.0 }) g.K.Viewer g.K.Opened.Revisions g.F.Appended g.N.Keeping g.L.Notices g.E.Epochs
+    c.type_bounds.send-K c.type_bounds.send-F c.type_bounds.send-N c.type_bounds.sync-N c.type_bounds.send-L c.type_bounds.sync-L c.type_bounds.send-E c.type_bounds.send-K-Opened))
 
 pub returns-clause-served : goal.returns-clause-served
 returns-clause-served g c =

@@ -1,13 +1,16 @@
 use denote.Param.{param}
 use denote.Param.Send.{sendable}
-use Rattle.std.proofs.Common.{◌≡◌, ℕ, ◌≤◌, ◌∙◌, ap, arith, length, subst, sym}
+use Rattle.std.proofs.Common.{ℕ, ◌≤◌, ◌∙◌, ap, arith, length, subst, sym}
 use Rattle.history_lock.proofs.Lending.{no_more}
 use Rattle.http_front.proofs.Servers.{lent_back}
-use Rattle.session_calls.proofs.Crossing.{shared_session-send}
+use Rattle.session_calls.proofs.Crossing.{opened-send, shared_session-send}
 use Rattle.soak_loopback.proofs.served.worked.Goals as goal
 
 pub work_of-told-requires-send-S : goal.work_of-told-requires-send-S
 work_of-told-requires-send-S g c κs within = search (shared_session-send (param 0 g.row.J) g.J.Queued g.J.Opening g.J.Naming, sendable) depth 20
+
+pub work_of-told-requires-send-S-Opened : goal.work_of-told-requires-send-S-Opened
+work_of-told-requires-send-S-Opened g c κs within = search (opened-send, sendable) depth 20
 
 pub all_sessions-requires : goal.all_sessions-requires
 all_sessions-requires g c =

@@ -1,7 +1,7 @@
 use Rattle.std.proofs.Common.{drop, take, string_bytes, subst}
 use Rattle.std.specs.Io.KnownBytes.{Appends}
 use Rattle.http_response.proofs.PiecedTexts.{keeps_rest, none_on_err}
-use Rattle.http_response.proofs.pieces.make_room.Goals as goal
+use Rattle.http_response.proofs.listed.make_room.Goals as goal
 
 pub returns-in_err-write_all-clause-kept : goal.returns-in_err-write_all-clause-kept
 returns-in_err-write_all-clause-kept g c =
