@@ -65,6 +65,8 @@ OPTIONS_OF_SERVE = (
     "      --sync <WHEN>                When the journal is synced: 'always' before a write is answered, each 'second' (so where it is left out), or 'never' by the server\n"
     "      --keep <FILES>               How many files of the journal stay; all do where it is left out\n"
     "      --read-only                  Writes nothing to the folder, and refuses writes\n"
+    "      --origins <ORIGIN,..>        Lets pages of these origins use the server, or of all with '*'; with '--data' none may where it is left out\n"
+    "      --hosts <NAME,..>            Lets the server be reached by these names, or by all with '*', besides addresses and names without a dot\n"
     "  -h, --help                       Print help\n"
 )
 HELP_OF_SERVE = SERVE + "\n\nUsage: couchd serve [OPTIONS]\n" + OPTIONS_OF_SERVE
@@ -99,7 +101,41 @@ NO_ID = "error: the id has not 1 to 512 bytes, or begins with '_'\n" + USAGE
 NO_FOLDER = "error: '--sync', '--keep' and '--read-only' are for a journal, and go with '--data'\n" + USAGE
 NO_SYNC = "error: the journal is synced 'always', each 'second' or 'never'\n" + USAGE
 NO_SESSION = "error: with '--data' there are at most 63 workers\n" + USAGE
+NO_ORIGIN = "error: '--origins' is '*', or origins as a browser writes them: https://app.example,http://localhost:8080\n" + USAGE
+NO_HOST = "error: '--hosts' is '*', or names of hosts without a scheme and a port: db.example,couch.example\n" + USAGE
 NO_LIST = "error: the list of documents has an id that is no text of 1 to 512 bytes\n" + USAGE
+
+# lists with a part that is no origin as a browser writes it, or no name of a host
+NO_ORIGINS = [
+    "",
+    "app.example",
+    "https://",
+    "https:/app.example",
+    "https://app.example/",
+    "https://app.example/page",
+    "HTTPS://app.example",
+]
+NO_ORIGINS += [
+    "https://App.example",
+    "https://ann@app.example",
+    "null",
+    "://app.example",
+    "*,https://app.example",
+    "https://app.example,",
+]
+NO_ORIGINS += ["https://app.example, https://b.example", "https://app.example;https://b.example", "**"]
+NO_HOSTS = [
+    "",
+    "https://db.example",
+    "db.example:5984",
+    "db.example/",
+    "db.example,",
+    ",db.example",
+    "db example",
+    "*,db.example",
+    "*.example",
+]
+NO_HOSTS += ["[::1]", "d\u00fc.example"]
 
 # what names a database at no place, with the text that says so
 NO_PLACES = [
@@ -242,6 +278,12 @@ REFUSED = [
     (["serve", "--data", "d", "--keep", "4294967296"], out_of_range("4294967296", "keep", 1, 4294967295, "FILES")),
     (["serve", "--data", "d", "--keep", "all"], no_number("all", "keep", "FILES")),
     (["serve", "--data", "d", "--workers", "64"], NO_SESSION),
+    *((["serve", "--origins", origins], NO_ORIGIN) for origins in NO_ORIGINS),
+    *((["serve", "--hosts", hosts], NO_HOST) for hosts in NO_HOSTS),
+    (["serve", "--data", "d", "--origins", "app.example", "--hosts", ":"], NO_ORIGIN),
+    (["serve", "--origins", "https://app.example", "--hosts", ":"], NO_HOST),
+    (["serve", "--origins"], "error: a value is required for '--origins <ORIGIN,..>' but none was supplied\n" + HINT),
+    (["serve", "--hosts"], "error: a value is required for '--hosts <NAME,..>' but none was supplied\n" + HINT),
     (["serve", "--version"], unexpected("--version", USAGE_OF_SERVE)),
     (["once", "--version"], unexpected("--version", USAGE_OF_ONCE)),
     (["version"], unknown_command("version")),

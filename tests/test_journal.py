@@ -2,14 +2,16 @@
 
     python3 tests/test_journal.py [--long] [COUCHD [REPLAY]]
 
-A disk that is full, also at a start, a folder that is only read, a file that is cut at each byte of its last two lines, a byte that is changed at each place of a small file,
-two servers on one folder, a folder that can't be made, and what goes on over a start: documents, update numbers, purges, limits
-and local documents. At last full histories: how many files stay, a next file that can't be made, and epochs of 1,000 places, one
-after another, under clients that write and follow. Each file of a folder is audited by `replay check`. With `--long` each byte
-and 20 epochs, else some. What ends leave is looked at by `tests/test_durability.py`.
+A disk that is full, also at a start, a folder that is only read, a file that is cut at each byte of its last two lines, a byte that is
+changed at each place of a small file, two servers on one folder, a folder that can't be made, files of large numbers, waits in vain, and
+what goes on over a start: documents, update numbers, purges, limits and local documents. At last full histories: how many files stay, a
+next file that can't be made, and epochs of 1,000 places, one after another, under clients that write and follow. Each file of a folder is
+audited by `replay check`. With `--long` each byte and 20 epochs, else some. What ends leave is looked at by `tests/test_durability.py`.
 """
+import json
 import os
 import resource
+import select
 import shutil
 import sys
 import tempfile
@@ -354,6 +356,53 @@ def told_of(connection):
     return [connection.ask("GET", target)[1] for target in targets]
 
 
+def late_epochs(checks, program, replay):
+    """A start goes on behind a file of any number."""
+    for number in (999, 1000, 65_536, 4_294_967_296):
+        with tempfile.TemporaryDirectory() as folder:
+            places = small(checks, program, folder)
+            os.remove(os.path.join(folder, "mark"))
+            os.rename(os.path.join(folder, FILE), os.path.join(folder, name_of(number)))
+            with Server(program, data=folder) as server:
+                checks.check(server.port is not None, "no start behind the file of %d: %r", number, server.reported())
+                connection = Connection(server.port)
+                checks.check(connection.ask("GET", "/db/a")[1].get("n") == 3, "a document of epoch %d isn't there", number)
+                checks.check(connection.ask("PUT", "/db/new", {})[0] == 201, "no write behind the file of %d", number)
+                seq = connection.ask("GET", "/db")[1]["update_seq"]
+                checks.check(seq > RAISE + 1, "update number %d behind %d entries and no mark", seq, places)
+            checks.check(files(folder) == [name_of(number), name_of(number + 1)], "behind %d are %r", number, files(folder))
+            audit(checks, replay, folder, may_raise=True)
+
+
+# ---- waits in vain
+
+QUIET_SECONDS = 3  # a wait that finds nothing lasts longer
+
+
+def waits_in_vain(checks, program, policy):
+    """A long poll and a feed that find nothing end neither as refused nor as empty, and have the row of the next write."""
+    with tempfile.TemporaryDirectory() as folder:
+        with Server(program, "--sync", policy, "--workers", "4", data=folder) as server:
+            writer, poll, feed = (Connection(server.port) for _ in range(3))
+            writer.ask("PUT", "/db/before", {})
+            since = writer.ask("GET", "/db")[1]["update_seq"]
+            poll.send("GET", "/db/_changes?feed=longpoll&since=%d" % since)
+            feed.send("GET", "/db/_changes?feed=continuous&limit=1&since=%d" % since)
+            ready, _, _ = select.select([poll.socket], [], [], QUIET_SECONDS)
+            checks.check(not ready, "with %s a long poll in vain is answered %r", policy, poll.answer() if ready else None)
+            rev = writer.ask("PUT", "/db/after", {})[1]["rev"]
+            status, page = poll.answer()
+            rows = [(row["id"], row["changes"][0]["rev"]) for row in page.get("results", [])]
+            checks.check((status, rows) == (200, [("after", rev)]), "with %s a long poll ends as %d, %r", policy, status, page)
+            head = feed.next_head()
+            while b'"last_seq"' not in feed.rest and feed.more():
+                pass
+            checks.check(head.startswith(b"HTTP/1.1 200 OK"), "with %s a feed begins with %r", policy, head)
+            lines = [json.loads(line) for line in feed.rest.split(b"\n") if line.startswith(b"{")]
+            seen = [line.get("id") for line in lines]
+            checks.check(seen == ["after", None] and "last_seq" in lines[-1], "with %s a feed in vain has %r", policy, lines)
+
+
 # ---- full histories
 
 PLACES = 1000  # of each epoch
@@ -547,6 +596,7 @@ def main():
     every = 1 if given.long else 7
     empty(checks, given.couchd)
     goes_on(checks, given.couchd, given.replay)
+    late_epochs(checks, given.couchd, given.replay)
     folders(checks, given.couchd)
     cuts(checks, given.couchd, every)
     changes(checks, given.couchd, given.replay, every)
@@ -554,6 +604,7 @@ def main():
         full_disk(checks, given.couchd, given.replay, policy)
         mended(checks, given.couchd, given.replay, policy)
         starts_full(checks, given.couchd, given.replay, policy)
+        waits_in_vain(checks, given.couchd, policy)
     reads_only(checks, given.couchd)
     keeps(checks, given.couchd, given.replay)
     no_next_epoch(checks, given.couchd, given.replay)

@@ -4,3 +4,5 @@ pub mod Runs
 pub mod Built
 pub mod Lists
 pub mod PlaceTexts
+pub mod Browsing
+pub mod Positions

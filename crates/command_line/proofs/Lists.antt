@@ -1,11 +1,12 @@
--- Lists of documents, read part by part.
+-- Lists, read part by part.
 use Rattle.std.proofs.Common.{◌≡◌, ◌∙◌, ℕ, ◌+◌, ◌<◌, suc, arith, refl, sym, ap, Bool, true, false, cond, not, List, [], ◌∷◌, ◌++◌, length, take, drop, map, append_assoc, length-drop, IsUtf8, Option, Some, None, option_map, option_and_then}
 use Rattle.std.specs.List.{after_first, before_first, onto_first, position_or_len, slice_split}
 use Rattle.std.specs.Str.{is_utf8}
 use Rattle.std.proofs.lemmas.Str.{is_utf8-from_IsUtf8, IsUtf8-from_is_utf8}
 use Rattle.percent_encoding.specs.Percent.{percent_decode}
 use Rattle.clap.specs.Words.{Text}
-use Rattle.command_line.specs.DocIds.{each_id, id_in, id_of, ids_listed, is_comma, text_of, IsSplit}
+use Rattle.command_line.specs.DocIds.{id_in, id_of, text_of}
+use Rattle.command_line.specs.Listed.{each_item, is_comma, items_listed, IsSplit}
 
 -- ---- the parts of a list
 
@@ -37,44 +38,6 @@ split-none p (x ∷ xs) h = at (split-none p xs) (p x) h
     at later true whole = absurd (omega (arith, whole))
     at later false whole = ap (onto_first x) (later (omega (arith, whole)))
 
--- ---- the ids of the parts
-
--- so far these ids were listed, and the rest is left
-abbrev pub IsListedTo : Text → List Text → Text → Type 0
-IsListedTo list ids rest = ids_listed list ≡ option_map (λ more. ids ++ more) (ids_listed rest)
-
-pub listed-start : (list : Text) → IsListedTo list [] list
-listed-start list = at (ids_listed list)
-  where
-    at : (o : Option (List Text)) → o ≡ option_map (λ more. [] ++ more) o
-    at None = refl
-    at (Some more) = refl
-
--- with the id of one part, where those behind it have these
-abbrev with_first : Option (List Text) → Option Text → Option (List Text)
-with_first behind first = option_and_then (λ id. option_map (λ ids. id ∷ ids) behind) first
-
-first-part : (rest : Text) → position_or_len is_comma rest < length rest → ids_listed rest ≡ with_first (ids_listed (after_first is_comma rest)) (id_of (before_first is_comma rest))
-first-part rest less = ap each_id (split-some is_comma rest less)
-
-last-part : (rest : Text) → position_or_len is_comma rest ≡ length rest → ids_listed rest ≡ with_first (Some []) (id_of rest)
-last-part rest whole = ap each_id (split-none is_comma rest whole)
-
-first-is : (rest part after : Text) (o : Option Text) → IsSplit rest part after → id_of part ≡ o → ids_listed rest ≡ with_first (ids_listed after) o
-first-is rest part after o split is = first-part rest split.there ∙ (λ i. with_first (ids_listed (sym split.rest_is i)) (id_of (sym split.first_is i))) ∙ ap (with_first (ids_listed after)) is
-
-pub listed-more : (list rest part after : Text) (ids : List Text) (id : Text) → IsListedTo list ids rest → IsSplit rest part after → id_of part ≡ Some id
-    → IsListedTo list (ids ++ id ∷ []) after
-listed-more list rest part after ids id so_far split is =
-    so_far ∙ ap (option_map (λ more. ids ++ more)) (first-is rest part after (Some id) split is) ∙ at (ids_listed after)
-  where
-    at : (o : Option (List Text)) → option_map (λ more. ids ++ more) (option_map (λ more. id ∷ more) o) ≡ option_map (λ more. (ids ++ id ∷ []) ++ more) o
-    at None = refl
-    at (Some more) = ap Some (sym (append_assoc ids (id ∷ []) more))
-
-pub listed-stopped : (list rest part after : Text) (ids : List Text) → IsListedTo list ids rest → IsSplit rest part after → id_of part ≡ None → ids_listed list ≡ None
-listed-stopped list rest part after ids so_far split is = so_far ∙ ap (option_map (λ more. ids ++ more)) (first-is rest part after None split is)
-
 -- what is left is shorter
 pub split-shorter : (rest part after : Text) → IsSplit rest part after → length after < length rest
 split-shorter rest part after split =
@@ -83,13 +46,52 @@ split-shorter rest part after split =
     let dropped = length-drop (position_or_len is_comma rest + 1) rest in
     omega (arith, less, size, dropped)
 
-pub listed-last : (list rest : Text) (ids : List Text) (id : Text) → IsListedTo list ids rest → position_or_len is_comma rest ≡ length rest
-    → id_of rest ≡ Some id → ids_listed list ≡ Some (ids ++ id ∷ [])
-listed-last list rest ids id so_far whole is = so_far ∙ ap (option_map (λ more. ids ++ more)) (last-part rest whole ∙ ap (with_first (Some [])) is)
+-- ---- what the parts stand for
 
-pub listed-ended : (list rest : Text) (ids : List Text) → IsListedTo list ids rest → position_or_len is_comma rest ≡ length rest
-    → id_of rest ≡ None → ids_listed list ≡ None
-listed-ended list rest ids so_far whole is = so_far ∙ ap (option_map (λ more. ids ++ more)) (last-part rest whole ∙ ap (with_first (Some [])) is)
+module _ (item : Text → Option Text) where
+  -- so far these texts were listed, and the rest is left
+  abbrev pub IsListedTo : Text → List Text → Text → Type 0
+  IsListedTo list ids rest = items_listed item list ≡ option_map (λ more. ids ++ more) (items_listed item rest)
+
+  pub listed-start : (list : Text) → IsListedTo list [] list
+  listed-start list = at (items_listed item list)
+    where
+      at : (o : Option (List Text)) → o ≡ option_map (λ more. [] ++ more) o
+      at None = refl
+      at (Some more) = refl
+
+  -- with what one part stands for, where those behind it stand for these
+  abbrev with_first : Option (List Text) → Option Text → Option (List Text)
+  with_first behind first = option_and_then (λ id. option_map (λ ids. id ∷ ids) behind) first
+
+  first-part : (rest : Text) → position_or_len is_comma rest < length rest → items_listed item rest ≡ with_first (items_listed item (after_first is_comma rest)) (item (before_first is_comma rest))
+  first-part rest less = ap (each_item item) (split-some is_comma rest less)
+
+  last-part : (rest : Text) → position_or_len is_comma rest ≡ length rest → items_listed item rest ≡ with_first (Some []) (item rest)
+  last-part rest whole = ap (each_item item) (split-none is_comma rest whole)
+
+  first-is : (rest part after : Text) (o : Option Text) → IsSplit rest part after → item part ≡ o → items_listed item rest ≡ with_first (items_listed item after) o
+  first-is rest part after o split is = first-part rest split.there ∙ (λ i. with_first (items_listed item (sym split.rest_is i)) (item (sym split.first_is i))) ∙ ap (with_first (items_listed item after)) is
+
+  pub listed-more : (list rest part after : Text) (ids : List Text) (id : Text) → IsListedTo list ids rest → IsSplit rest part after → item part ≡ Some id
+      → IsListedTo list (ids ++ id ∷ []) after
+  listed-more list rest part after ids id so_far split is =
+      so_far ∙ ap (option_map (λ more. ids ++ more)) (first-is rest part after (Some id) split is) ∙ at (items_listed item after)
+    where
+      at : (o : Option (List Text)) → option_map (λ more. ids ++ more) (option_map (λ more. id ∷ more) o) ≡ option_map (λ more. (ids ++ id ∷ []) ++ more) o
+      at None = refl
+      at (Some more) = ap Some (sym (append_assoc ids (id ∷ []) more))
+
+  pub listed-stopped : (list rest part after : Text) (ids : List Text) → IsListedTo list ids rest → IsSplit rest part after → item part ≡ None → items_listed item list ≡ None
+  listed-stopped list rest part after ids so_far split is = so_far ∙ ap (option_map (λ more. ids ++ more)) (first-is rest part after None split is)
+
+  pub listed-last : (list rest : Text) (ids : List Text) (id : Text) → IsListedTo list ids rest → position_or_len is_comma rest ≡ length rest
+      → item rest ≡ Some id → items_listed item list ≡ Some (ids ++ id ∷ [])
+  listed-last list rest ids id so_far whole is = so_far ∙ ap (option_map (λ more. ids ++ more)) (last-part rest whole ∙ ap (with_first (Some [])) is)
+
+  pub listed-ended : (list rest : Text) (ids : List Text) → IsListedTo list ids rest → position_or_len is_comma rest ≡ length rest
+      → item rest ≡ None → items_listed item list ≡ None
+  listed-ended list rest ids so_far whole is = so_far ∙ ap (option_map (λ more. ids ++ more)) (last-part rest whole ∙ ap (with_first (Some [])) is)
 
 -- ---- the text of a part
 

@@ -1,8 +1,9 @@
 -- The arguments of `couchd replicate`.
 use Rattle.std.specs.Prelude.{◌≡◌, ◌≢◌, ◌≤◌, List, [], ◌∷◌, map, Option, Some, None, option_map, length, codes, string_bytes}
 use Rattle.clap.specs.Words.{App, Row, Text, new_app, with_rule, first_of, one_of}
-use Rattle.command_line.specs.DocIds.{ids_listed}
+use Rattle.command_line.specs.DocIds.{id_of}
 use Rattle.command_line.specs.Flags.{flag, IsFlagOf}
+use Rattle.command_line.specs.Listed.{items_listed}
 use Rattle.command_line.specs.Numbers.{number_option, IsNumberOf}
 use Rattle.command_line.specs.Places.{IsPlaceOf}
 use Rattle.command_line.specs.Texts.{optional_text, text_option}
@@ -41,7 +42,7 @@ IsIdOf (Some text) id = (id ≡ Some text) × BeginsPlain text × (length text �
 -- the list has these ids, or none is given
 abbrev pub IsListOf : Option Text → Option (List Text) → Type 0
 IsListOf None ids = ids ≡ None
-IsListOf (Some list) ids = (listed : List Text) × (ids_listed list ≡ Some listed) × (ids ≡ Some listed)
+IsListOf (Some list) ids = (listed : List Text) × (items_listed id_of list ≡ Some listed) × (ids ≡ Some listed)
 
 -- each is the one that the arguments give, and the places are two
 pub record IsReplicatingOf (given : List Row) (replicating : Replicating) : Type 0 where

@@ -1,6 +1,7 @@
 -- The arguments of `couchd serve`.
 use Rattle.std.specs.Prelude.{◌≡◌, ◌≤◌, List, true, codes, is_some}
 use Rattle.clap.specs.Words.{App, Row, new_app, with_rule, first_of, one_of}
+use Rattle.command_line.specs.Browsers.{with_browsers, IsBrowsersOf}
 use Rattle.command_line.specs.Flags.{flag, IsFlagOf}
 use Rattle.command_line.specs.Journal.{with_journal, IsJournalOf}
 use Rattle.command_line.specs.Numbers.{number_option, IsNumberOf}
@@ -24,7 +25,7 @@ with_bounds app =
 
 -- `couchd serve` with its options
 abbrev pub serve : App
-serve = with_journal (with_rule (with_bounds serve_with_counts) (flag (codes "log")))
+serve = with_browsers (with_journal (with_rule (with_bounds serve_with_counts) (flag (codes "log"))))
 
 -- each number is the one that the arguments give, or else the default, and within its range
 pub record HasNumbersOf (given : List Row) (serving : Serving) : Type 0 where
@@ -41,9 +42,10 @@ pub record HasNumbersOf (given : List Row) (serving : Serving) : Type 0 where
   pub max_places : IsNumberOf (first_of (codes "max-places") given) 1000000 serving.max_places
   pub max_places_range : (1 ≤ serving.max_places) × (serving.max_places ≤ 4294967295)
 
--- the numbers, the flag and the journal are those that the arguments give, and a session is left for the journal
+-- the numbers, the flag, the journal and what browsers may are those that the arguments give, and a session is left for the journal
 pub record IsServingOf (given : List Row) (serving : Serving) : Type 0 where
   pub numbers : HasNumbersOf given serving
   pub log : IsFlagOf (one_of (codes "log") given) serving.log
   pub journal : IsJournalOf given serving.journal
+  pub browsers : IsBrowsersOf given serving.browsers
   pub session : is_some serving.journal ≡ true → serving.workers ≤ 63

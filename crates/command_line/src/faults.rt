@@ -116,6 +116,14 @@ pub(crate) const NO_ID: &str = "the id has not 1 to 512 bytes, or begins with '_
 pub(crate) const NO_DOC_IDS: &str =
     "the list of documents has an id that is no text of 1 to 512 bytes";
 
+/// What is said of a list of origins that has a part that is none.
+pub(crate) const NO_ORIGIN: &str =
+    "'--origins' is '*', or origins as a browser writes them: https://app.example,http://localhost:8080";
+
+/// What is said of a list of names of hosts that has a part that is none.
+pub(crate) const NO_HOST: &str =
+    "'--hosts' is '*', or names of hosts without a scheme and a port: db.example,couch.example";
+
 /// The fault that a parse ends with.
 pub(crate) fn fault(alloc: Global, error: &clap::Error) -> ArgumentsFault
     ensures memory { kind_of error.now ≡ OutOfMemory → result ≡ ArgumentsFault.Memory }

@@ -10,12 +10,15 @@ ghost use Rattle.command_line.specs.Couchd.{couchd, IsRunOf, NamesNoRun};
 ghost use Rattle.command_line.specs.Faults.{asks_version};
 
 mod arguments;
+mod browsers;
 mod doc_ids;
 mod faults;
 mod flags;
 mod journal;
 mod lines;
+mod listed;
 mod numbers;
+mod origins;
 mod places;
 mod repair;
 pub mod replay;
@@ -25,6 +28,7 @@ mod texts;
 mod version;
 
 pub use arguments::given_arguments;
+pub use browsers::{Allowed, BrowserOptions};
 use clap::Command;
 pub use faults::ArgumentsFault;
 use faults::{GivenFault, NOT_TEXT, fault, refuse};

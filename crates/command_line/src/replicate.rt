@@ -4,9 +4,9 @@ ghost use Rattle.clap.specs.Words.{Text, app_of, found_of, rows_of};
 ghost use Rattle.clap.specs.declared.builder.command.Command.TheViews.{out-Command as fields_of};
 ghost use Rattle.command_line.specs.Replicate.{replicate, replicate_all, replicate_within, BeginsPlain, IsIdOf, IsListOf, IsReplicatingOf};
 
-use crate::doc_ids::ids_listed;
 use crate::faults::{GivenFault, NO_DOC_IDS, NO_ID, ONE_PLACE, OUT_OF_RANGE};
 use crate::flags::{flag, flag_of};
+use crate::listed::{ListOf, texts_listed};
 use crate::numbers::{number_of, number_option, with_option};
 use crate::places::place_of;
 use crate::texts::{optional_text, text_of, text_option};
@@ -163,7 +163,7 @@ fn read_list(alloc: Global, list: Option<&str>) -> Result<Option<Vec<String>>, G
     let Some(list) = list else {
         return Ok(None);
     };
-    let Some(ids) = ids_listed(alloc, list)? else {
+    let Some(ids) = texts_listed(alloc, ListOf::Ids, list)? else {
         return Err(GivenFault::Refused(NO_DOC_IDS));
     };
     Ok(Some(ids))

@@ -5,6 +5,7 @@ ghost use Rattle.clap.specs.declared.builder.command.Command.TheViews.{out-Comma
 ghost use Rattle.command_line.specs.Numbers.{number_option};
 ghost use Rattle.command_line.specs.Serve.{serve, serve_with_counts, with_bounds, HasNumbersOf, IsServingOf};
 
+use crate::browsers::{BrowserOptions, browsers_of, with_browsers};
 use crate::faults::{GivenFault, NO_SESSION, OUT_OF_RANGE};
 use crate::flags::{flag, flag_of};
 use crate::journal::{JournalOptions, journal_of, with_journal};
@@ -35,6 +36,8 @@ pub struct Serving {
     pub log: bool,
     /// Where the history is kept, if it is to be.
     pub journal: Option<JournalOptions>,
+    /// Which pages may use the server; every request is answered where nothing is said.
+    pub browsers: Option<BrowserOptions>,
 }
 
 /// The subcommand, as `clap` takes it.
@@ -44,7 +47,8 @@ pub(crate) fn serve<'a>(alloc: Global) -> Result<Command<'a>, AllocError>
 {
     let log = flag(alloc, "log").help("Says each request on standard error");
     let serve = with_bounds(alloc, with_counts(alloc)?)?;
-    with_journal(alloc, with_option(serve, log)?)
+    let serve = with_journal(alloc, with_option(serve, log)?)?;
+    with_browsers(alloc, serve)
 }
 
 /// The subcommand with its port and what is counted.
@@ -119,7 +123,8 @@ pub(crate) fn serving_of(alloc: Global, options: &ArgMatches<'_>) -> Result<Serv
 {
     let log = flag_of(options, "log");
     let journal = journal_of(alloc, options)?;
-    let Some(serving) = numbers_of(options, log, journal) else {
+    let browsers = browsers_of(alloc, options)?;
+    let Some(serving) = numbers_of(options, log, journal, browsers) else {
         return Err(GivenFault::Refused(OUT_OF_RANGE));
     };
     if serving.journal.is_some() && serving.workers > WORKERS_WITH_JOURNAL {
@@ -133,10 +138,12 @@ fn numbers_of(
     options: &ArgMatches<'_>,
     log: bool,
     journal: Option<JournalOptions>,
+    browsers: Option<BrowserOptions>,
 ) -> Option<Serving>
     ensures given { IfSome result (HasNumbersOf (rows_of (found_of options.now))) }
     ensures log { IfSome result (λ serving. serving.log ≡ log) }
     ensures journal { IfSome result (λ serving. serving.journal ≡ journal) }
+    ensures browsers { IfSome result (λ serving. serving.browsers ≡ browsers) }
     ensures none { IfNone result ((serving : Serving)
         → HasNumbersOf (rows_of (found_of options.now)) serving → ⊥) }
 {
@@ -155,5 +162,6 @@ fn numbers_of(
         max_places: max_places as u32,
         log,
         journal,
+        browsers,
     })
 }

@@ -2,7 +2,8 @@
 ghost use Rattle.std.specs.Prelude.{◌≡◌, ◌≤◌};
 
 use crate::serving::{Notices, address, say_port, terms};
-use command_line::{JournalOptions, Serving, SyncPolicy as Policy};
+use command_line::{JournalOptions, Serving, SyncPolicy as Syncing};
+use http_front::Policy;
 use journal::{Access, Begun, DiskFile, Dropped, Folder, Journal, StartFault, Started};
 use journal_front::{Epoch, Epochs, Notices as JournalNotices, Service, SyncPolicy, run_kept};
 use snapshots::Version;
@@ -153,6 +154,7 @@ pub(crate) fn serve<A: AllocGlobal + Threads + Wait + Clock + Sync>(
     listener: &TcpListener,
     serving: &Serving,
     options: &JournalOptions,
+    policy: Option<&Policy>,
 ) -> io::Result<ExitCode>
     requires workers { (1 ≤ serving.now.workers) × (serving.now.workers ≤ 63) }
     requires places { 1 ≤ serving.now.max_places }
@@ -175,7 +177,9 @@ pub(crate) fn serve<A: AllocGlobal + Threads + Wait + Clock + Sync>(
         port,
     };
     let first = files.first(started);
-    let served = serve_from(rt, threads, listener, serving, options, first, &mut files);
+    let served = serve_from(
+        rt, threads, listener, serving, options, policy, first, &mut files,
+    );
     close(rt, files.folder, access);
     served
 }
@@ -187,6 +191,7 @@ fn serve_from<A: AllocGlobal + Threads + Wait + Clock + Sync>(
     listener: &TcpListener,
     serving: &Serving,
     options: &JournalOptions,
+    policy: Option<&Policy>,
     first: Epoch<DiskFile>,
     files: &mut Files<'_>,
 ) -> io::Result<ExitCode>
@@ -200,7 +205,7 @@ fn serve_from<A: AllocGlobal + Threads + Wait + Clock + Sync>(
         listener,
         workers: serving.workers,
         max_places: serving.max_places,
-        terms: terms(serving),
+        terms: terms(serving, policy),
         policy: policy_of(options.sync),
         notices: &Notices {
             rt,
@@ -219,7 +224,7 @@ fn access_of(options: &JournalOptions) -> Access {
         return Access::ReadOnly;
     }
     Access::ReadWrite {
-        shows_kept: matches!(options.sync, Policy::Always),
+        shows_kept: matches!(options.sync, Syncing::Always),
     }
 }
 
@@ -344,10 +349,10 @@ fn remove_old(rt: &HostRuntime, folder: &Folder, epoch: u64, keep: Option<u32>) 
 }
 
 /// The policy of the keeper.
-fn policy_of(policy: Policy) -> SyncPolicy {
+fn policy_of(policy: Syncing) -> SyncPolicy {
     match policy {
-        Policy::Always => SyncPolicy::Always,
-        Policy::EverySecond => SyncPolicy::EverySecond,
-        Policy::Never => SyncPolicy::Never,
+        Syncing::Always => SyncPolicy::Always,
+        Syncing::EverySecond => SyncPolicy::EverySecond,
+        Syncing::Never => SyncPolicy::Never,
     }
 }

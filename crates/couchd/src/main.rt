@@ -46,7 +46,10 @@ fn main(rt: HostRuntime) -> io::Result<ExitCode> {
             let status = run_dump(&mut reader, &mut writer, &rt);
             Ok(ended(&rt, &writer, status))
         }
-        Ok(Run::Serve(serving)) => serving::serve(&rt, &rt, &serving),
+        Ok(Run::Serve(mut serving)) => {
+            let policy = serving.browsers.take().map(serving::policy_of);
+            serving::serve(&rt, &rt, &serving, policy.as_ref())
+        }
         Ok(Run::Repair(repairing)) => Ok(repair::repair(&rt, repairing.folder.as_str())),
         Ok(Run::Replicate(replicating)) => Ok(replication::replicate(&rt, &replicating)),
         Err(fault) => Ok(fault.tell(&rt, UNREADABLE_ARGUMENTS)),

@@ -2,8 +2,8 @@
 ghost use Rattle.std.specs.Prelude.{◌≡◌, ◌≤◌, true, is_some};
 
 use crate::{journaled, unwritten};
-use command_line::Serving;
-use http_front::{Lines, Pace, Terms, Watch, run_server};
+use command_line::{Allowed as Listed, BrowserOptions, Serving};
+use http_front::{Allowed, Lines, Pace, Policy, Terms, Watch, run_server};
 use std::io;
 use std::net::{Ipv4Addr, SocketAddr, SocketAddrV4, TcpListener};
 use std::process::ExitCode;
@@ -50,12 +50,13 @@ impl Watch for Notices<'_> {
     }
 }
 
-/// Serves a database: an empty one, or what a journal holds. Threads are those of `threads`, since only `main` has them of the
-/// runtime.
+/// Serves a database: an empty one, or what a journal holds, and answers what the policy lets pass, if there is one. Threads are
+/// those of `threads`, since only `main` has them of the runtime.
 pub(crate) fn serve<A: AllocGlobal + Threads + Wait + Clock + Sync>(
     rt: &HostRuntime,
     threads: &A,
     serving: &Serving,
+    policy: Option<&Policy>,
 ) -> io::Result<ExitCode>
     requires workers { (1 ≤ serving.now.workers) × (serving.now.workers ≤ 64) }
     requires places { 1 ≤ serving.now.max_places }
@@ -65,7 +66,7 @@ pub(crate) fn serve<A: AllocGlobal + Threads + Wait + Clock + Sync>(
         return Ok(ExitCode::FAILURE);
     };
     if let Some(options) = &serving.journal {
-        return journaled::serve(rt, threads, &listener, serving, options);
+        return journaled::serve(rt, threads, &listener, serving, options, policy);
     }
     if !say_port(rt, &listener)? {
         return Ok(ExitCode::FAILURE);
@@ -78,7 +79,7 @@ pub(crate) fn serve<A: AllocGlobal + Threads + Wait + Clock + Sync>(
         &listener,
         serving.workers,
         serving.max_places,
-        terms(serving),
+        terms(serving, policy),
         &notices,
         threads,
     );
@@ -110,7 +111,7 @@ pub(crate) fn say_port(rt: &HostRuntime, listener: &TcpListener) -> io::Result<b
 }
 
 /// The terms on which connections are served.
-pub(crate) fn terms(serving: &Serving) -> Terms {
+pub(crate) fn terms<'p>(serving: &Serving, policy: Option<&'p Policy>) -> Terms<'p> {
     Terms {
         connections: serving.connections,
         pace: Pace {
@@ -119,5 +120,23 @@ pub(crate) fn terms(serving: &Serving) -> Terms {
         },
         log: serving.log,
         places: serving.max_places as u64,
+        policy,
+    }
+}
+
+/// What decides which requests are answered.
+pub(crate) fn policy_of(browsers: BrowserOptions) -> Policy {
+    let BrowserOptions { origins, hosts } = browsers;
+    Policy {
+        origins: allowed_of(origins),
+        hosts: allowed_of(hosts),
+    }
+}
+
+/// What is allowed by an option.
+fn allowed_of(listed: Listed) -> Allowed {
+    match listed {
+        Listed::All => Allowed::All,
+        Listed::Only(texts) => Allowed::Only(texts),
     }
 }

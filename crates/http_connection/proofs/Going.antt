@@ -17,7 +17,7 @@ use Rattle.http_connection.specs.Served.{Served, EndsInput, EndsBy, CountsReads,
 use Rattle.http_connection.specs.declared.outcome.Cause.{Cause}
 use Rattle.http_connection.specs.declared.outcome.Cause.TheVariants as cause
 
-is_open : (item closes : Bool) → (IsTrue item → IsTrue closes) → IsFalse closes → IsFalse item
+pub is_open : (item closes : Bool) → (IsTrue item → IsTrue closes) → IsFalse closes → IsFalse item
 is_open false closes h open_turn = refl
 is_open true closes h open_turn = let closed = h refl in cc
 
@@ -39,7 +39,7 @@ pub record Going {T : Type 0} (answers : T → Turn → T → Type 0) (before no
   pub failed_writes : now.failed_writes ≡ before.failed_writes
 
 module _ {T : Type 0} {answers : T → Turn → T → Type 0} where
-  pub going-start : {streams : Streams} {state : T} {rest : List ℕ} → rest ≡ [] → Going answers streams streams state state 0 [] rest
+  unfoldable pub going-start : {streams : Streams} {state : T} {rest : List ℕ} → rest ≡ [] → Going answers streams streams state state 0 [] rest
   going-start {streams = streams} none = record {
     read = [];
     reads = Consumes-nil streams.left;
@@ -57,7 +57,7 @@ module _ {T : Type 0} {answers : T → Turn → T → Type 0} where
   -- ---- one more item
 
   -- what a service has taken: one more item was read
-  splits-taken : {before now : Streams} {old state new : T} {n : ℕ} {turns : List Turn} {rest : List ℕ} {item : Item} {turn : Turn} (after : List ℕ)
+  pub splits-taken : {before now : Streams} {old state new : T} {n : ℕ} {turns : List Turn} {rest : List ℕ} {item : Item} {turn : Turn} (after : List ℕ)
       → (going : Going answers before now old state n turns rest) → TakesTurn answers state new item turn → Begins rest item after
       → Splits going.read (items_of (turns ++ turn ∷ [])) after
   splits-taken {turns = turns} {rest = rest} {item = item} {turn = turn} after going takes begins =
@@ -67,14 +67,14 @@ module _ {T : Type 0} {answers : T → Turn → T → Type 0} where
       (Splits-push going.read (items_of turns) rest item after going.are_open going.splits begins)
 
   -- and its response was written
-  writes-taken : {before now : Streams} {old state : T} {n : ℕ} {turns : List Turn} {rest : List ℕ} (turn : Turn) (taken : Option (List ℕ))
+  pub writes-taken : {before now : Streams} {old state : T} {n : ℕ} {turns : List Turn} {rest : List ℕ} (turn : Turn) (taken : Option (List ℕ))
       → Going answers before now old state n turns rest → Appends now.taken taken turn.text
       → Appends before.taken taken (responses_of (turns ++ turn ∷ []))
   writes-taken {before = before} {now = now} {turns = turns} turn taken going appends =
       subst (Appends before.taken taken) (sym (responses-push turns turn)) (Appends-trans before.taken now.taken taken _ _ going.writes appends)
 
   -- the connection goes on after the turn
-  pub going-on : {before now later : Streams} {old state new : T} {n : ℕ} {turns : List Turn} {rest : List ℕ} {item : Item} {turn : Turn} {after : List ℕ}
+  unfoldable pub going-on : {before now later : Streams} {old state new : T} {n : ℕ} {turns : List Turn} {rest : List ℕ} {item : Item} {turn : Turn} {after : List ℕ}
       → Going answers before now old state n turns rest → TakesTurn answers state new item turn → Begins rest item after → IsFalse turn.closes → IsTrue turn.whole
       → later.left ≡ now.left → later.failed_reads ≡ now.failed_reads → Appends now.taken later.taken turn.text → later.failed_writes ≡ now.failed_writes
       → Going answers before later old new (n + 1) (turns ++ turn ∷ []) after
@@ -97,7 +97,7 @@ module _ {T : Type 0} {answers : T → Turn → T → Type 0} where
       }
 
   -- the connection closes after the turn
-  pub served-closed : {before now later : Streams} {old state new : T} {n : ℕ} {turns : List Turn} {rest : List ℕ} {item : Item} {turn : Turn} (after : List ℕ)
+  unfoldable pub served-closed : {before now later : Streams} {old state new : T} {n : ℕ} {turns : List Turn} {rest : List ℕ} {item : Item} {turn : Turn} (after : List ℕ)
       → Going answers before now old state n turns rest → TakesTurn answers state new item turn → Begins rest item after → IsTrue turn.closes → IsTrue turn.whole
       → later.left ≡ now.left → later.failed_reads ≡ now.failed_reads → Appends now.taken later.taken turn.text → later.failed_writes ≡ now.failed_writes
       → Served answers before later old new (record { answered = n + 1; cause = cause.Closed })
@@ -121,7 +121,7 @@ module _ {T : Type 0} {answers : T → Turn → T → Type 0} where
   }
 
   -- the response of the turn was cut
-  pub served-cut : {before now later : Streams} {old state new : T} {n : ℕ} {turns : List Turn} {rest : List ℕ} {item : Item} {turn : Turn} (after : List ℕ)
+  unfoldable pub served-cut : {before now later : Streams} {old state new : T} {n : ℕ} {turns : List Turn} {rest : List ℕ} {item : Item} {turn : Turn} (after : List ℕ)
       → Going answers before now old state n turns rest → TakesTurn answers state new item turn → Begins rest item after → IsFalse turn.whole
       → later.left ≡ now.left → later.failed_reads ≡ now.failed_reads → ((sent : ℕ) × (sent < length turn.text) × Appends now.taken later.taken (take sent turn.text)) → CountRose now.failed_writes later.failed_writes
       → Served answers before later old new (record { answered = n; cause = cause.WriteFault })
@@ -146,7 +146,7 @@ module _ {T : Type 0} {answers : T → Turn → T → Type 0} where
 
   -- ---- more input, and its end
 
-  pub going-more : {before now later : Streams} {old state : T} {n : ℕ} {turns : List Turn} {rest more : List ℕ} (piece : List ℕ)
+  unfoldable pub going-more : {before now later : Streams} {old state : T} {n : ℕ} {turns : List Turn} {rest more : List ℕ} (piece : List ℕ)
       → Going answers before now old state n turns rest → more ≡ rest ++ piece → Consumes now.left later.left piece
       → later.failed_reads ≡ now.failed_reads → later.taken ≡ now.taken → later.failed_writes ≡ now.failed_writes
       → Going answers before later old state n turns more
@@ -165,7 +165,7 @@ module _ {T : Type 0} {answers : T → Turn → T → Type 0} where
   }
 
   -- a read failed, after some more had come
-  pub served-read_fault : {before now later : Streams} {old state : T} {n : ℕ} {turns : List Turn} {rest : List ℕ} (piece : List ℕ)
+  unfoldable pub served-read_fault : {before now later : Streams} {old state : T} {n : ℕ} {turns : List Turn} {rest : List ℕ} (piece : List ℕ)
       → Going answers before now old state n turns rest → Consumes now.left later.left piece
       → CountRose now.failed_reads later.failed_reads → later.taken ≡ now.taken → later.failed_writes ≡ now.failed_writes
       → IsUnfinished (rest ++ piece)
@@ -190,7 +190,7 @@ module _ {T : Type 0} {answers : T → Turn → T → Type 0} where
   }
 
   -- nothing failed, and no more is read
-  served-at_end : {before now : Streams} {old state : T} {n : ℕ} {turns : List Turn} {rest : List ℕ} (cause : Cause)
+  unfoldable pub served-at_end : {before now : Streams} {old state : T} {n : ℕ} {turns : List Turn} {rest : List ℕ} (cause : Cause)
       → Going answers before now old state n turns rest → EndsBy cause turns None rest now.left
       → CountsReads cause before.failed_reads now.failed_reads → CountsWrites cause before.failed_writes now.failed_writes
       → Served answers before now old state (record { answered = n; cause = cause })
@@ -214,7 +214,7 @@ module _ {T : Type 0} {answers : T → Turn → T → Type 0} where
   }
 
   -- the input ended with this rest
-  pub served-ended : {before now : Streams} {old state : T} {n : ℕ} {turns : List Turn} {rest : List ℕ} (cause : Cause)
+  unfoldable pub served-ended : {before now : Streams} {old state : T} {n : ℕ} {turns : List Turn} {rest : List ℕ} (cause : Cause)
       → Going answers before now old state n turns rest → EndsInput cause rest → IsUnfinished rest → IsAtEnd now.left
       → Served answers before now old state (record { answered = n; cause = cause })
   served-ended cause.AtEnd going none unfinished at_end =

@@ -30,13 +30,13 @@ pub fn run_server<A: AllocGlobal + Threads + Wait + Clock + Sync, V: Watch + Syn
     listener: &TcpListener,
     workers: u16,
     max_places: u32,
-    terms: Terms,
+    terms: Terms<'_>,
     watch: &V,
     rt: &A,
 ) -> u8
     requires workers { (1 ≤ workers) × (workers ≤ 64) }
     requires places { 1 ≤ max_places }
-    ensures { ServesListener None workers max_places terms.connections result }
+    ensures { ServesListener None workers max_places terms.entry.connections result }
 {
     let config = server_config(workers, max_places);
     let asked = workers as u64;
@@ -61,11 +61,11 @@ fn server_status(served: bool) -> u8
 fn serve_empty<A: AllocGlobal + Threads + Wait + Clock + Sync, V: Watch + Sync>(
     listener: &TcpListener,
     config: Config,
-    terms: Terms,
+    terms: Terms<'_>,
     workers: &Workers<'_, V>,
     rt: &A,
 ) -> bool
-    ensures { IsTrue result → ServesSessions None config server_turns terms.connections }
+    ensures { IsTrue result → ServesSessions None config server_turns terms.entry.connections }
 {
     let Ok(opened) = Opened::new(rt.alloc(), config) else {
         return false;
@@ -84,7 +84,7 @@ fn serve_all<
 >(
     listener: &TcpListener,
     config: Config,
-    terms: Terms,
+    terms: Terms<'_>,
     workers: &Workers<'_, V>,
     rt: &A,
     writer_rt: R,
@@ -92,7 +92,7 @@ fn serve_all<
 ) -> bool
     requires named { IsNamed J.book J.base J.table J.capacity J.sessions J.config opened }
     requires config { opened.config ≡ config }
-    ensures { IsTrue result → ServesSessions J.base config server_turns terms.connections }
+    ensures { IsTrue result → ServesSessions J.base config server_turns terms.entry.connections }
 {
     let Some((running, mut sessions)) = Running::<R, J, A>::start(
         rt.alloc(),

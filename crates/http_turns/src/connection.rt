@@ -102,8 +102,8 @@ impl<'s, 'c, X, S: Calls<X>> Service<Setting<'c, X>> for Lent<'s, S> {
 /// Serves the requests of the reader to the writer, in order, each as soon as it is whole. Other
 /// sessions of the database may have entries meanwhile. Room for the largest request is taken first;
 /// where that is refused, nothing is read. An answer with the revisions of a document that is longer than
-/// [`PIECE`](http_response::PIECE) is written in pieces as they are made: out of memory for one of them it is
-/// cut, counts as answered, and the connection closes.
+/// [`PIECE`](http_response::PIECE), and one with more than 1,000 rows of `_changes` or `_all_docs`, is written in
+/// pieces as they are made: out of memory for one of them it is cut, counts as answered, and the connection closes.
 pub fn serve<R: Source, W: Sink, X, S: Calls<X>>(
     alloc: Global,
     reader: &mut R,

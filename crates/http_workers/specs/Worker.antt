@@ -4,7 +4,10 @@ use Rattle.std.specs.List.{FoldsTo}
 use Rattle.streams.specs.Streams.{Streams}
 use Rattle.http_connection.specs.declared.outcome.Ended.{Ended}
 use Rattle.session_api.specs.Known.{Known}
+use Rattle.http_guard.specs.Guarded.{Guarded}
 use Rattle.http_turns.specs.Connection.{IsConnection}
+use Rattle.http_turns.specs.SessionTurn.{Answers}
+use Rattle.origin_policy.specs.declared.policy.Policy.{Policy}
 use Rattle.session_api.specs.SessionCall.{SessionCall}
 
 -- how many connections are accepted where no number ends them
@@ -16,7 +19,12 @@ abbrev pub most_connections : ℕ → ℕ
 most_connections connections = if connections == 0 then no_end else connections
 
 module _ {S : Type 0} (goes : S → SessionCall → S → Type 0) (known : S → Known) (turns : ℕ) where
-  -- a connection of a session, whatever its socket gave and took
+  -- a session served all requests of a connection, or those that a policy lets pass, where there is one
+  abbrev pub IsServedBy : Option Policy → Streams → Streams → S → Ended → S → Type 0
+  IsServedBy None before after old ended new = IsConnection goes known turns before after old new ended
+  IsServedBy (Some policy) before after old ended new = Guarded policy (Answers goes known turns) before after old new ended
+
+  -- a connection of a session, whatever its socket gave and took; where a policy decides, what passed of one
   pub record Serves (old : S) (ended : Ended) (new : S) : Type 0 where
     pub before : Streams
     pub after : Streams

@@ -6,6 +6,7 @@
 
 mod buffers;
 mod faults;
+mod guarding;
 mod listening;
 mod muster;
 mod noticing;
@@ -14,6 +15,7 @@ mod watch;
 mod workers;
 
 pub use listening::{Terms, listen};
+pub use origin_policy::{Allowed, Policy};
 pub use request_log::Lines;
 pub use sockets::Pace;
 pub use watch::Watch;

@@ -1,5 +1,6 @@
 //! Connections that come to a listener, each session with a worker of its own.
 ghost use Rattle.std.specs.Prelude.{◌≡◌, ℕ, ◌<◌, length, slice_index_or};
+ghost use Rattle.http_connection.specs.declared.outcome.Ended.{Ended};
 ghost use Rattle.session_api.specs.Known.{Known};
 ghost use Rattle.session_api.specs.SessionCall.{SessionCall};
 ghost use Rattle.http_workers.specs.Worker.{Serves, ServesUntil, most_connections};
@@ -12,6 +13,7 @@ use crate::watch::Watch;
 use crate::workers::Workers;
 use http_connection::{Cause, Ended};
 use http_turns::Setting;
+use origin_policy::Policy;
 use session_api::Calls;
 use sockets::{Pace, TimedReader, TimedWriter, hang_up, is_set};
 use std::net::{TcpListener, TcpStream};
@@ -23,7 +25,7 @@ use std::time::Clock;
 
 /// How the connections of a listener are served.
 #[derive(Clone, Copy, Debug, PartialEq, Eq)]
-pub struct Terms {
+pub struct Terms<'p> {
     /// How many connections each worker accepts, or 0 where no number ends them.
     pub connections: u32,
     /// How long a connection waits for its client.
@@ -32,6 +34,8 @@ pub struct Terms {
     pub log: bool,
     /// How many places the history has, of which it is said when nine tenths are taken, and when all are.
     pub places: u64,
+    /// Which requests are answered: all of them where there is no policy.
+    pub policy: Option<&'p Policy>,
 }
 
 /// Serves the connections that come to the listener: each session is lent to a worker of its own,
@@ -51,7 +55,7 @@ pub fn listen<R: Threads + Wait + Clock + Sync, X: Sync, S: Calls<X> + Send, V: 
     rt: &R,
     listener: &TcpListener,
     sessions: &mut [S],
-    terms: Terms,
+    terms: Terms<'_>,
     over: Option<&AtomicBool>,
     setting: &Setting<'_, X>,
     workers: &Workers<'_, V>,
@@ -60,7 +64,7 @@ where
     S::Opened: Send,
     ensures same_number { length sessions.new ≡ length sessions.old }
     ensures each { (i : ℕ) (d : S) → i < length sessions.old
-        → ServesUntil S.goes S.known setting.now over.entry terms.connections
+        → ServesUntil S.goes S.known setting.now over.entry terms.entry.connections
         (slice_index_or sessions.old i d) (slice_index_or sessions.new i d) }
 {
     listen_by::<R, X, S, V>(rt, listener, sessions, terms, over, setting, workers);
@@ -71,14 +75,14 @@ fn listen_by<R: Threads + Wait + Clock + Sync, X: Sync, S: Serving<X> + Send, V:
     rt: &R,
     listener: &TcpListener,
     sessions: &mut [S],
-    terms: Terms,
+    terms: Terms<'_>,
     over: Option<&AtomicBool>,
     setting: &Setting<'_, X>,
     workers: &Workers<'_, V>,
 )
     ensures same_number { length sessions.new ≡ length sessions.old }
     ensures each { (i : ℕ) (d : S) → i < length sessions.old
-        → ServesUntil S.goes S.known setting.now over.entry terms.connections
+        → ServesUntil S.goes S.known setting.now over.entry terms.entry.connections
         (slice_index_or sessions.old i d) (slice_index_or sessions.new i d) }
 {
     let asked = sessions.len();
@@ -123,12 +127,12 @@ trait Serving<X> {
         &mut self,
         rt: &R,
         index: usize,
-        terms: Terms,
+        terms: Terms<'_>,
         over: Option<&AtomicBool>,
         setting: &Setting<'_, X>,
         shared: &Shared<'_, '_, V>,
     )
-        ensures { ServesUntil goes known setting.now over.entry terms.connections self.old self.new };
+        ensures { ServesUntil goes known setting.now over.entry terms.entry.connections self.old self.new };
 }
 
 impl<X, S: Calls<X>> Serving<X> for S {
@@ -140,14 +144,14 @@ impl<X, S: Calls<X>> Serving<X> for S {
         &mut self,
         rt: &R,
         index: usize,
-        terms: Terms,
+        terms: Terms<'_>,
         over: Option<&AtomicBool>,
         setting: &Setting<'_, X>,
         shared: &Shared<'_, '_, V>,
     ) {
         let workers = shared.workers;
         let mut buffers = shared.muster.get_ready(rt, setting.alloc(), workers);
-        let noticing = workers.noticing(rt, shared.room, terms.log, index);
+        let noticing = workers.noticing(rt, shared.room, terms, index);
         work(
             &noticing,
             shared.listener,
@@ -167,11 +171,11 @@ fn work<R: Clock, X, S: Calls<X>, V: Watch>(
     listener: &TcpListener,
     buffers: &mut Buffers,
     session: &mut S,
-    terms: Terms,
+    terms: Terms<'_>,
     over: Option<&AtomicBool>,
     setting: &Setting<'_, X>,
 )
-    ensures { ServesUntil S.goes S.known setting.now over.entry terms.connections session.old session.new }
+    ensures { ServesUntil S.goes S.known setting.now over.entry terms.entry.connections session.old session.new }
 {
     for _ in 0..most_of(terms.connections) {
         if is_set(over) {
@@ -209,7 +213,7 @@ fn serve_socket<R: Clock, X, S: Calls<X>, V: Watch>(
     over: Option<&AtomicBool>,
     setting: &Setting<'_, X>,
 ) -> Ended
-    ensures { Serves S.goes S.known setting.now session.old result session.new }
+    ensures { (ended : Ended) × Serves S.goes S.known setting.now session.old ended session.new }
 {
     let clock = noticing.clock;
     let _nodelay = socket.set_nodelay(true);

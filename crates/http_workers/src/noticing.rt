@@ -1,15 +1,22 @@
 //! Connections of which an operator hears.
-ghost use Rattle.streams.specs.Streams.{streams_of};
+ghost use Rattle.std.specs.Prelude.{◌≡◌, option_map};
+ghost use Rattle.streams.specs.Streams.{Streams, streams_of};
+ghost use Rattle.http_guard.specs.Guarded.{Guarded};
 ghost use Rattle.http_turns.specs.Connection.{IsConnection};
-ghost use Rattle.http_workers.specs.Worker.{Serves};
+ghost use Rattle.http_turns.specs.SessionTurn.{Answers};
+ghost use Rattle.http_connection.specs.declared.outcome.Ended.{Ended};
+ghost use Rattle.http_workers.specs.Worker.{IsServedBy, Serves};
 
 use crate::faults::Faults;
+use crate::guarding::serve_guarded;
 use crate::room::Room;
 use crate::watch::Watch;
 use http_connection::{Ended, Service, Window};
 use http_framing::FramingFault;
 use http_framing::request::Request;
+use http_guard::Notes;
 use http_turns::{Borrows, Lent, Setting, serve_by};
+use origin_policy::Policy;
 use request_log::{Log, Watched};
 use session_api::Calls;
 use std::alloc::Global;
@@ -33,6 +40,8 @@ pub(crate) struct Noticing<'n, R, V> {
     pub(crate) room: &'n Room,
     /// The number of the worker, from 1, where its requests are logged.
     pub(crate) logged_as: Option<u64>,
+    /// What decides which requests are answered, if there is anything.
+    pub(crate) policy: Option<&'n Policy>,
 }
 
 impl<'n, R: Clock, V: Watch> Noticing<'n, R, V> {
@@ -133,18 +142,86 @@ pub(crate) fn serve_noticed<R: Source, W: Sink + Drop, X, S: Calls<X>, C: Clock,
     setting: &Setting<'_, X>,
     noticing: &Noticing<'_, C, V>,
 ) -> Ended
-    ensures { Serves S.goes S.known setting.now session.old result session.new }
+    ensures serves { (ended : Ended) × Serves S.goes S.known setting.now session.old ended session.new }
+    ensures decided { (before : Streams) × (after : Streams)
+        × (before.left ≡ R.left reader.old) × (after.left ≡ R.left reader.new)
+        × IsServedBy S.goes S.known setting.now (option_map (λ policy. policy.now) noticing.now.policy)
+        before after session.old result session.new }
 {
     let log = noticing.log(setting.alloc());
     let mut writer = Watched::new(writer, log.as_ref().map(|log| log.seen()));
-    serve_in_log(
+    match noticing.policy {
+        Some(policy) => {
+            let (ended, _writer) = serve_decided(
+                window, reader, writer, session, setting, noticing, &log, policy,
+            );
+            ended
+        }
+        None => serve_in_log(
+            window,
+            reader,
+            &mut writer,
+            session,
+            setting,
+            noticing,
+            &log,
+        ),
+    }
+}
+
+/// The log of requests that no service answers.
+#[derive(Drop)]
+struct OwnAnswers<'n, R, V> {
+    log: &'n Option<Log<'n, R, V>>,
+}
+
+impl<'n, R: Clock, V: Watch> Notes for OwnAnswers<'n, R, V> {
+    fn begin(&self) -> Option<Instant> {
+        begin(self.log)
+    }
+
+    fn end(&self, began: Option<Instant>, request: &Request<'_>) {
+        end(
+            self.log,
+            began,
+            request.method(),
+            request.target().as_bytes(),
+        );
+    }
+}
+
+/// Serves a connection whose requests a policy decides, and logs them where there is a log. The writer is returned.
+fn serve_decided<'l, R: Source, W: Sink, X, S: Calls<X>, C: Clock, V: Watch>(
+    window: &mut Window,
+    reader: &mut R,
+    writer: W,
+    session: &mut S,
+    setting: &Setting<'_, X>,
+    noticing: &Noticing<'l, C, V>,
+    log: &'l Option<Log<'l, C, V>>,
+    policy: &Policy,
+) -> (Ended, W)
+    ensures decided { Guarded policy.now (Answers S.goes S.known setting.now)
+        (streams_of (R.left reader.old) (R.failed_reads reader.old) (W.taken writer) (W.failed_writes writer))
+        (streams_of (R.left reader.new) (R.failed_reads reader.new) (W.taken result.1) (W.failed_writes result.1))
+        session.old session.new result.0 }
+    ensures serves { (ended : Ended) × Serves S.goes S.known setting.now session.old ended session.new }
+{
+    let mut noticed = Noticed {
+        inner: Lent { session },
+        watch: noticing.watch,
+        room: noticing.room,
+        log,
+    };
+    let notes = OwnAnswers { log };
+    serve_guarded(
         window,
         reader,
-        &mut writer,
-        session,
+        writer,
+        &mut noticed,
         setting,
-        noticing,
-        &log,
+        policy,
+        &notes,
     )
 }
 

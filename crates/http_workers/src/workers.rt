@@ -2,6 +2,7 @@
 
 use crate::buffers::Buffers;
 use crate::faults::Faults;
+use crate::listening::Terms;
 use crate::noticing::Noticing;
 use crate::room::Room;
 use crate::watch::Watch;
@@ -50,7 +51,7 @@ impl<'w, V: Watch> Workers<'w, V> {
         &'n self,
         clock: &'n R,
         room: &'n Room,
-        log: bool,
+        terms: Terms<'n>,
         index: usize,
     ) -> Noticing<'n, R, V> {
         let number = (index as u64).saturating_add(1);
@@ -59,7 +60,8 @@ impl<'w, V: Watch> Workers<'w, V> {
             watch: self.watch,
             faults: &self.faults,
             room,
-            logged_as: log.then_some(number),
+            logged_as: terms.log.then_some(number),
+            policy: terms.policy,
         }
     }
 

@@ -14,7 +14,7 @@ pub struct Service<'s, L> {
     /// The most entries of an epoch.
     pub max_places: u32,
     /// How connections are served.
-    pub terms: Terms,
+    pub terms: Terms<'s>,
     /// When the journal is synced.
     pub policy: SyncPolicy,
     /// What is said on standard error.

@@ -13,7 +13,7 @@ const WORKERS: u16 = 2;
 const SECONDS: u64 = 300;
 
 /// Each worker serves one connection, and waits long for its client.
-pub(crate) fn terms() -> Terms {
+pub(crate) fn terms() -> Terms<'static> {
     Terms {
         connections: 1,
         pace: Pace {
@@ -22,6 +22,7 @@ pub(crate) fn terms() -> Terms {
         },
         log: false,
         places: MAX_PLACES as u64,
+        policy: None,
     }
 }
 

@@ -7,6 +7,7 @@ mod arguments;
 mod calls;
 mod histories;
 mod limits;
+mod pages;
 mod peers;
 mod responses;
 mod scripts;
@@ -39,6 +40,9 @@ fn told(alloc: Global, words: &[&str]) -> Result<String, Fail> {
         ["reads", pace, script, calls] => waits::reads_told(alloc, pace, script, calls),
         ["writes", patience, script, calls] => waits::writes_told(alloc, patience, script, calls),
         ["drain", flag_at, script] => waits::drain_told(alloc, flag_at, script),
+        ["guard", origins, hosts, writing, input] => {
+            pages::guarded(alloc, origins, hosts, writing, input)
+        }
         ["cuts", input] => peers::responses_however_cut(alloc, input),
         ["calls", reading, writing, input, calls @ ..] => {
             calls::calls_told(alloc, reading, writing, input, calls)

@@ -148,8 +148,8 @@ impl<R: Wait + Drop, J: Opening> Core<R, J> {
         self.due.pop()
     }
 
-    /// Serves a session: rounds, at most so many, until the outcome of its last job is known, which it is
-    /// then returned, with the number of its jobs that were taken. There is no answer where the rounds ended.
+    /// Does rounds, at most so many, until the outcome of the last job of a session is known. Returns the outcome and how many of
+    /// the session's jobs were taken, or nothing if it isn't known after the last round.
     pub fn serve<W: Wait, G: Gate>(
         &mut self,
         rt: &W,

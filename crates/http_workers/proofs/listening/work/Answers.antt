@@ -12,7 +12,7 @@ loop-preserved g c =
     let known = g.S.Viewer.known in
     elim c.match-accept.branch [
       | in-Ok w ↦ subst (Accepted goes known c.args.setting.now (c.loop.counter + 1) c.args.session.now) (sym w.session-is)
-          (one_more goes known c.args.setting.now c.loop.counter _ c.loop.session _ (Some w.serve_socket.result) c.loop.invariant w.serve_socket.ensures)
+          (one_more goes known c.args.setting.now c.loop.counter _ c.loop.session _ (Some w.serve_socket.ensures.0) c.loop.invariant w.serve_socket.ensures.1)
       | in-Err w ↦ subst (Accepted goes known c.args.setting.now (c.loop.counter + 1) c.args.session.now) (sym w.session-is)
           (one_more goes known c.args.setting.now c.loop.counter _ c.loop.session _ None c.loop.invariant refl)
     ]

@@ -1,0 +1,4 @@
+pub mod Extended
+pub mod Weaving
+pub mod Passage
+pub mod Guarded

@@ -1,0 +1,5 @@
+use Rattle.streams.proofs.Both.{writes_then}
+use Rattle.origin_policy.proofs.answers.write_three.Goals as goal
+
+pub returns-clause-written : goal.returns-clause-written
+returns-clause-written g c = writes_then _ _ _ _ _ _ c.in_ok-write_all.ensures.written.0 c.write_two.ensures.written

@@ -1,0 +1,4 @@
+pub mod Allowed
+pub mod Names
+pub mod Verdict
+pub mod Answers
