@@ -12,6 +12,8 @@ use Rattle.model.proofs.CallLaws.{each_seat_once}
 use Rattle.sessions.specs.Known.{Known as KnownOfThreads, SeesOwn, seen}
 use Rattle.sessions.specs.Calls.{Looks as LooksOnThreads, Writes as WritesOnThreads, Told}
 use Rattle.sessions.specs.Compactions.{Leaves, OnlyLooks}
+use Rattle.updater_state.specs.Callers.{risen}
+use Rattle.sessions.specs.Faults.{IsOfWrite, IsOfCompaction}
 use Rattle.sessions.specs.declared.fault.Fault.{Fault}
 use Rattle.sessions.specs.declared.fault.Fault.TheVariants as of_threads
 use Rattle.session_api.specs.declared.fault.Unavailable.TheVariants as unavailable
@@ -152,16 +154,16 @@ module _ (base : Option Database) (config : Config) (sessions queue : ℕ) (new 
           → LeavesNone (Seen old) command (call_fault why) after
       refuses_edit of_threads.Memory edit same pushes forever =
           let kept = not_lost of_threads.Memory forever (λ is. cc) in
-          leaves_none fault.Memory (record old { pushes = new.pushes; entered = false }) (stays (record old { pushes = new.pushes; entered = false }) legal same) refl pushes (ap (λ (k : KnownOfThreads). k.lost) same ∙ kept) kept
+          leaves_none fault.Memory (record old { pushes = new.pushes }) (stays (record old { pushes = new.pushes }) legal same) refl pushes (ap (λ (k : KnownOfThreads). k.lost) same ∙ kept) kept
       refuses_edit of_threads.Busy edit (same, busy) pushes forever =
           let kept = not_lost of_threads.Busy forever (λ is. cc) in
-          leaves_none (fault.Unavailable unavailable.Busy) (record old { entered = false }) (stays (record old { entered = false }) legal same) refl pushes (ap (λ (k : KnownOfThreads). k.lost) same ∙ kept) (kept, edit, busy, ap Seen same)
+          leaves_none (fault.Unavailable unavailable.Busy) old (stays old legal same) refl pushes (ap (λ (k : KnownOfThreads). k.lost) same ∙ kept) (kept, edit, busy, ap Seen same)
       refuses_edit of_threads.Lost edit same pushes forever =
           leaves_none (fault.Unavailable unavailable.Lost) (record old { pushes = new.pushes; entered = new.entered; lost = true }) (stays (record old { pushes = new.pushes; entered = new.entered; lost = true }) legal same) refl pushes
           (ap (λ (k : KnownOfThreads). k.lost) same) (λ lost. ap Seen (forever lost).1)
       refuses_edit of_threads.Full edit (looks, full) pushes forever =
           let kept = not_lost of_threads.Full forever (λ is. cc) in
-          leaves_none (fault.Unavailable unavailable.Full) (record old { pushes = new.pushes; entered = false }) (looks_of (record old { pushes = new.pushes; entered = false }) owns looks) refl pushes
+          leaves_none (fault.Unavailable unavailable.Full) (record old { pushes = new.pushes }) (looks_of (record old { pushes = new.pushes }) owns looks) refl pushes
           (ap (λ (k : KnownOfThreads). k.lost) looks.same ∙ kept) (kept, full)
       refuses_edit of_threads.EntryRefused edit refused pushes forever = absurd refused
       refuses_edit of_threads.Behind edit refused pushes forever = absurd refused
@@ -174,19 +176,19 @@ module _ (base : Option Database) (config : Config) (sessions queue : ℕ) (new 
           (ap (λ (k : KnownOfThreads). k.lost) looks.same) (λ lost. ap Seen (forever lost).1)
       refuses_compaction of_threads.Full compacts (looks, full) pushes forever =
           let kept = not_lost of_threads.Full forever (λ is. cc) in
-          leaves_none (fault.Unavailable unavailable.Full) (record old { tried = new.tried; entered = false }) (looks_of (record old { tried = new.tried; entered = false }) owns looks) refl (omega (arith, pushes)) (ap (λ (k : KnownOfThreads). k.lost) looks.same ∙ kept) (kept, full)
+          leaves_none (fault.Unavailable unavailable.Full) (record old { tried = new.tried }) (looks_of (record old { tried = new.tried }) owns looks) refl (omega (arith, pushes)) (ap (λ (k : KnownOfThreads). k.lost) looks.same ∙ kept) (kept, full)
       refuses_compaction of_threads.Memory compacts looks pushes forever =
           let kept = not_lost of_threads.Memory forever (λ is. cc) in
-          leaves_none fault.Memory (record old { tried = new.tried; entered = false }) (looks_of (record old { tried = new.tried; entered = false }) owns looks) refl (omega (arith, pushes)) (ap (λ (k : KnownOfThreads). k.lost) looks.same ∙ kept) kept
+          leaves_none fault.Memory (record old { tried = new.tried }) (looks_of (record old { tried = new.tried }) owns looks) refl (omega (arith, pushes)) (ap (λ (k : KnownOfThreads). k.lost) looks.same ∙ kept) kept
       refuses_compaction of_threads.EntryRefused compacts looks pushes forever =
           let kept = not_lost of_threads.EntryRefused forever (λ is. cc) in
-          leaves_none (fault.Unavailable unavailable.Entry) (record old { tried = new.tried; entered = false }) (looks_of (record old { tried = new.tried; entered = false }) owns looks) refl (omega (arith, pushes)) (ap (λ (k : KnownOfThreads). k.lost) looks.same ∙ kept) (kept, compacts)
+          leaves_none (fault.Unavailable unavailable.Entry) (record old { tried = new.tried }) (looks_of (record old { tried = new.tried }) owns looks) refl (omega (arith, pushes)) (ap (λ (k : KnownOfThreads). k.lost) looks.same ∙ kept) (kept, compacts)
       refuses_compaction of_threads.Behind compacts (looks, tried) pushes forever =
           let kept = not_lost of_threads.Behind forever (λ is. cc) in
-          leaves_none (fault.Unavailable unavailable.Behind) (record old { tried = new.tried; entered = false }) (looks_of (record old { tried = new.tried; entered = false }) owns looks) refl (omega (arith, pushes)) (ap (λ (k : KnownOfThreads). k.lost) looks.same ∙ kept) (kept, compacts)
+          leaves_none (fault.Unavailable unavailable.Behind) (record old { tried = new.tried }) (looks_of (record old { tried = new.tried }) owns looks) refl (omega (arith, pushes)) (ap (λ (k : KnownOfThreads). k.lost) looks.same ∙ kept) (kept, compacts)
       refuses_compaction of_threads.Overrun compacts looks pushes forever =
           let kept = not_lost of_threads.Overrun forever (λ is. cc) in
-          leaves_none (fault.Unavailable unavailable.Overrun) (record old { tried = new.tried; entered = false }) (looks_of (record old { tried = new.tried; entered = false }) owns looks) refl (omega (arith, pushes)) (ap (λ (k : KnownOfThreads). k.lost) looks.same ∙ kept) (kept, compacts)
+          leaves_none (fault.Unavailable unavailable.Overrun) (record old { tried = new.tried }) (looks_of (record old { tried = new.tried }) owns looks) refl (omega (arith, pushes)) (ap (λ (k : KnownOfThreads). k.lost) looks.same ∙ kept) (kept, compacts)
 
       refuses_write : (compacts : Bool) → is_compact command ≡ compacts → (why : Fault) → RefusesWriteOnThreads base config sessions queue compacts old why new → IsLostForEver old why new
           → LeavesNone (Seen old) command (call_fault why) after
@@ -231,30 +233,30 @@ module _ (base : Option Database) (config : Config) (sessions queue : ℕ) (old 
       subst (λ (f : Fault). RefusesWait base config sessions queue old f new) (sym is) (is_not old.lost (λ true_so. let both : of_threads.EntryRefused ≡ of_threads.Lost = sym is ∙ forever true_so in cc), looks is)
 
   pub edit_refused : (e : Fault)
-      → (e ≡ of_threads.Memory → new ≡ record old { pushes = new.pushes; entered = false })
-      → (e ≡ of_threads.Busy → new ≡ record old { entered = false }) → (e ≡ of_threads.Busy → (queue < sessions) ⊎ (2 ^ 62 ≤ old.pushes))
-      → (e ≡ of_threads.Full → LooksOnThreads base (record old { pushes = new.pushes; entered = false }) new) → (e ≡ of_threads.Full → length (seen new) ≡ config.max_places)
+      → (e ≡ of_threads.Memory → new ≡ record old { pushes = new.pushes })
+      → (e ≡ of_threads.Busy → new ≡ old) → (e ≡ of_threads.Busy → (queue < sessions) ⊎ (2 ^ 62 ≤ old.pushes))
+      → (e ≡ of_threads.Full → LooksOnThreads base (record old { pushes = new.pushes }) new) → (e ≡ of_threads.Full → length (seen new) ≡ config.max_places)
       → (e ≡ of_threads.Lost → new ≡ record old { pushes = new.pushes; entered = new.entered; lost = true })
-      → (e ≡ of_threads.EntryRefused → ⊥) → (e ≡ of_threads.Behind → ⊥) → (e ≡ of_threads.Overrun → ⊥)
+      → IsOfWrite e
       → RefusesEdit base config sessions queue old e new
-  edit_refused of_threads.Memory memory busy when_busy full when_full lost entered behind overrun = memory refl
-  edit_refused of_threads.Busy memory busy when_busy full when_full lost entered behind overrun = (busy refl, when_busy refl)
-  edit_refused of_threads.Full memory busy when_busy full when_full lost entered behind overrun = (full refl, when_full refl)
-  edit_refused of_threads.Lost memory busy when_busy full when_full lost entered behind overrun = lost refl
-  edit_refused of_threads.EntryRefused memory busy when_busy full when_full lost entered behind overrun = absurd (entered refl)
-  edit_refused of_threads.Behind memory busy when_busy full when_full lost entered behind overrun = absurd (behind refl)
-  edit_refused of_threads.Overrun memory busy when_busy full when_full lost entered behind overrun = absurd (overrun refl)
+  edit_refused of_threads.Memory memory busy when_busy full when_full lost refused = memory refl
+  edit_refused of_threads.Busy memory busy when_busy full when_full lost refused = (busy refl, when_busy refl)
+  edit_refused of_threads.Full memory busy when_busy full when_full lost refused = (full refl, when_full refl)
+  edit_refused of_threads.Lost memory busy when_busy full when_full lost refused = lost refl
+  edit_refused of_threads.EntryRefused memory busy when_busy full when_full lost refused = absurd refused
+  edit_refused of_threads.Behind memory busy when_busy full when_full lost refused = absurd refused
+  edit_refused of_threads.Overrun memory busy when_busy full when_full lost refused = absurd refused
 
   pub compaction_refused : (e : Fault)
-      → (e ≡ of_threads.Memory → OnlyLooks base old new) → (e ≡ of_threads.Behind → OnlyLooks base old new) → (e ≡ of_threads.Behind → new.tried ≡ config.tries)
+      → (e ≡ of_threads.Memory → OnlyLooks base old new) → (e ≡ of_threads.Behind → OnlyLooks base old new) → (e ≡ of_threads.Behind → new.tried ≡ risen old.tried config.tries)
       → (e ≡ of_threads.Overrun → OnlyLooks base old new) → (e ≡ of_threads.EntryRefused → OnlyLooks base old new)
       → (e ≡ of_threads.Full → OnlyLooks base old new) → (e ≡ of_threads.Full → length (seen new) ≡ config.max_places)
-      → (e ≡ of_threads.Lost → LooksOnThreads base (record old { tried = new.tried; entered = new.entered; lost = true }) new) → (e ≡ of_threads.Busy → ⊥)
+      → (e ≡ of_threads.Lost → LooksOnThreads base (record old { tried = new.tried; entered = new.entered; lost = true }) new) → IsOfCompaction e
       → Leaves base config e old new
-  compaction_refused of_threads.Memory memory behind tried overrun entered full when_full lost busy = memory refl
-  compaction_refused of_threads.Behind memory behind tried overrun entered full when_full lost busy = (behind refl, tried refl)
-  compaction_refused of_threads.Overrun memory behind tried overrun entered full when_full lost busy = overrun refl
-  compaction_refused of_threads.EntryRefused memory behind tried overrun entered full when_full lost busy = entered refl
-  compaction_refused of_threads.Full memory behind tried overrun entered full when_full lost busy = (full refl, when_full refl)
-  compaction_refused of_threads.Lost memory behind tried overrun entered full when_full lost busy = lost refl
-  compaction_refused of_threads.Busy memory behind tried overrun entered full when_full lost busy = absurd (busy refl)
+  compaction_refused of_threads.Memory memory behind tried overrun entered full when_full lost refused = memory refl
+  compaction_refused of_threads.Behind memory behind tried overrun entered full when_full lost refused = (behind refl, tried refl)
+  compaction_refused of_threads.Overrun memory behind tried overrun entered full when_full lost refused = overrun refl
+  compaction_refused of_threads.EntryRefused memory behind tried overrun entered full when_full lost refused = entered refl
+  compaction_refused of_threads.Full memory behind tried overrun entered full when_full lost refused = (full refl, when_full refl)
+  compaction_refused of_threads.Lost memory behind tried overrun entered full when_full lost refused = lost refl
+  compaction_refused of_threads.Busy memory behind tried overrun entered full when_full lost refused = absurd refused

@@ -56,10 +56,10 @@ module _ (base : Option Database) (config : Config) (sessions queue : ℕ) where
   -- an edit is refused memory; room in the queue, where it has less than there are sessions, or after 2^62 pushes; room in
   -- the history, where that is full; or it is lost
   abbrev pub RefusesEdit : KnownOfThreads → Fault → KnownOfThreads → Type 0
-  RefusesEdit old of_threads.Memory new = new ≡ record old { pushes = new.pushes; entered = false }
-  RefusesEdit old of_threads.Busy new = (new ≡ record old { entered = false }) × ((queue < sessions) ⊎ (2 ^ 62 ≤ old.pushes))
+  RefusesEdit old of_threads.Memory new = new ≡ record old { pushes = new.pushes }
+  RefusesEdit old of_threads.Busy new = (new ≡ old) × ((queue < sessions) ⊎ (2 ^ 62 ≤ old.pushes))
   RefusesEdit old of_threads.Lost new = new ≡ record old { pushes = new.pushes; entered = new.entered; lost = true }
-  RefusesEdit old of_threads.Full new = Looks base (record old { pushes = new.pushes; entered = false }) new × (length (seen new) ≡ config.max_places)
+  RefusesEdit old of_threads.Full new = Looks base (record old { pushes = new.pushes }) new × (length (seen new) ≡ config.max_places)
   RefusesEdit old of_threads.EntryRefused new = ⊥
   RefusesEdit old of_threads.Behind new = ⊥
   RefusesEdit old of_threads.Overrun new = ⊥

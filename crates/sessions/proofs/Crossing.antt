@@ -15,7 +15,7 @@ use Rattle.std.proofs.Crossing as std
 use Rattle.job_queue.proofs.Crossing as turns
 use Rattle.job_queue.specs.declared.queue.Queued as Queued
 use Rattle.updater_state.specs.contracts.told.Told as Told
-use Rattle.updater_state.proofs.Crossing.{core-send, told-send}
+use Rattle.updater_state.proofs.Crossing.{caller-send, core-send, told-send}
 use Rattle.updater_state.specs.contracts.locked.Core as Core
 use Rattle.updater_state.specs.declared.naming.Opening as Opening
 
@@ -56,7 +56,7 @@ module _ (J : RattleType) (q : Queued.Ghosts J.Denot) (o : Opening.Ghosts J.Deno
     shared-sync c g = search (boxes-sync, parts) depth 60
 
     over-send : IsSend C → IsSend G → IsSync G → IsSend (Session.the_row C J G o n q)
-    over-send c g h = search (shared-send, shared-sync, parts) depth 60
+    over-send c g h = search (shared-send, shared-sync, caller-send, parts) depth 60
 
   -- A search finds it soon where J and what follows it are given.
   pub session-send : (R G : RattleType) → IsSend R → IsSend G → IsSync G → IsSend (Session.the_row (Core.the_row R J n o q) J G o n q)

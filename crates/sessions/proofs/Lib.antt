@@ -1,4 +1,5 @@
 pub mod Looking
+pub mod Settling
 pub mod Receipts
 pub mod LastTold
 pub mod Crossing

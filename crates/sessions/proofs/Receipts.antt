@@ -15,7 +15,7 @@ use Rattle.model.proofs.CallLaws.{calls-replay, calls-own, calls-other}
 use Rattle.snapshots.specs.Version.{entry_at}
 use Rattle.version_log.specs.Histories.{newest, Grows}
 use Rattle.version_log.proofs.Growing.{newest_grows, newest_legal}
-use Rattle.sessions.specs.Known.{Known, seen, SeesOwn}
+use Rattle.sessions.specs.Known.{Known, seen, SeesOwn, settled}
 use Rattle.sessions.specs.Calls.{Told, Writes, IsTold, next_seat}
 
 pub of_session-append : (s : ℕ) (xs ys : List Entry) → of_session s (xs ++ ys) ≡ of_session s xs ++ of_session s ys
@@ -136,8 +136,8 @@ first_publication (h ∷ hs) place e at = omega arith
 pub writes : (base : Option Database) → (base_of base).calls ≡ empty → (old new : Known) (found : List (List Entry)) (command : Command) (receipt : Told) (e : Entry)
     → SeesOwn old → IsPrefix old.published found → Grows base found → entry_at (newest found) receipt.place ≡ Some e → e ≡ record { seat = receipt.seat; command = command; reply = receipt.reply }
     → receipt.seat ≡ next_seat old → length (of_session old.number (newest found)) ≡ length old.receipts + 1 → receipt.publication ≡ length found → length found ≤ receipt.place
-    → new ≡ record old { published = found; receipts = of_session old.number (newest found); entered = true }
-    → Writes base old command receipt new
+    → new ≡ record (settled old) { published = found; receipts = of_session old.number (newest found); entered = length (of_session old.number (newest found)) }
+    → Writes base (settled old) command receipt new
 writes base uncalled old new found command receipt e own later grows at is seat_is one publication bound same =
     let s = old.number in
     let here = at_place (newest found) receipt.place e at in
@@ -168,7 +168,7 @@ writes base uncalled old new found command receipt e own later grows at is seat_
         pushes = new.pushes;
         waited = new.waited;
         tried = new.tried;
-        entered = (same i).entered;
+        entered = ((ap (λ (k : Known). k.entered) same ∙ ap length (sym receipts')) i);
         lost = (same i).lost;
       };
     }

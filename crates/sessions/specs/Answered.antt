@@ -4,8 +4,8 @@ use Rattle.updater_state.specs.Outcomes.{Fate, StoodAt, NoPlaceLeft, NoMemory, L
 use Rattle.sessions.specs.Calls.{Told}
 use Rattle.sessions.specs.declared.fault.Fault.{Fault}
 use Rattle.sessions.specs.declared.fault.Fault.TheVariants as fault
-use Rattle.sessions.specs.declared.swapping.Swapped.{Swapped}
-use Rattle.sessions.specs.declared.swapping.Swapped.TheVariants as swapped
+use Rattle.updater_state.specs.declared.trying.Swapped.{Swapped}
+use Rattle.updater_state.specs.declared.trying.Swapped.TheVariants as swapped
 
 -- by what became of its job: an entry gives a receipt, or the session is lost
 abbrev pub Answers : Fate → Result Told Fault → Type 0

@@ -1,5 +1,5 @@
 -- What the calls of a session do.
-use Rattle.std.specs.Prelude.{◌≡◌, ℕ, ◌+◌, ◌<◌, ◌≤◌, true, List, [], ◌∷◌, ◌++◌, length, Some, Option}
+use Rattle.std.specs.Prelude.{◌≡◌, ℕ, ◌+◌, ◌<◌, ◌≤◌, List, [], ◌∷◌, ◌++◌, length, Some, Option}
 use mathlib.Core.List.{IsPrefix}
 use Rattle.model.specs.Command.{Command, Entry, Reply, Seat}
 use Rattle.model.specs.Database.{Database}
@@ -30,7 +30,7 @@ pub record Told : Type 0 where
 
 -- After a receipt: a legal history over the base is seen, which extends what was seen, records the call, and has of this
 -- session exactly its earlier entries with a receipt and this one. The publication is the last that is seen, one of those
--- up to the place.
+-- up to the place. It learned of no entry but those with a receipt.
 pub record Writes (base : Option Database) (old : Known) (command : Command) (receipt : Told) (new : Known) : Type 0 where
   pub legal : IsLegal (base_of base) (seen new)
   pub extends : IsPrefix (seen old) (seen new)
@@ -41,7 +41,7 @@ pub record Writes (base : Option Database) (old : Known) (command : Command) (re
   pub first : 0 < receipt.publication
   pub bound : receipt.publication ≤ receipt.place
   pub counted : receipt.publication ≡ length new.published
-  pub same : new ≡ record old { published = new.published; receipts = new.receipts; pushes = new.pushes; waited = new.waited; tried = new.tried; entered = true }
+  pub same : new ≡ record old { published = new.published; receipts = new.receipts; pushes = new.pushes; waited = new.waited; tried = new.tried; entered = length new.receipts }
 
 -- the entry at the place has this seat and command, and is its session's last
 pub record IsTold (h : List Entry) (place : ℕ) (seat : Seat) (command : Command) : Type 0 where

@@ -1,22 +1,27 @@
 //! How a session compacts.
-ghost use Rattle.std.specs.Prelude.{◌≡◌, ◌≢◌, ◌+◌, ◌<◌, length, true, false, Err, IfOk, IfErr, IfSome, IfNone, IsSome};
+ghost use Rattle.std.specs.Prelude.{◌≡◌, ◌+◌, length, true, false, Err, IfOk, IfErr, IfSome, IfNone, IsSome};
 ghost use Rattle.model.specs.Command.{Compact};
 ghost use Rattle.model.specs.History.{Extends};
-ghost use Rattle.sessions.specs.Known.{seen};
+ghost use Rattle.version_log.specs.Histories.{newest};
+ghost use Rattle.updater_state.specs.Callers.{risen, after_trying};
+ghost use Rattle.updater_state.specs.Tries.{has_stood};
+ghost use Rattle.sessions.specs.Known.{seen, settled};
 ghost use Rattle.sessions.specs.Calls.{Looks, Writes, next_seat};
-ghost use Rattle.sessions.specs.Compactions.{Leaves, OnlyLooks, chronicle_of};
+ghost use Rattle.sessions.specs.Compactions.{Leaves, LeavesTry, OnlyLooks, after_try, entered_by, chronicle_of};
 ghost use Rattle.sessions.specs.Answered.{AnswersTry};
+ghost use Rattle.sessions.specs.Faults.{IsOfCompaction};
 ghost use Rattle.sessions.specs.declared.fault.Fault.TheVariants as fault;
 
 use crate::copying::{catch_up_all, slice_all};
 use crate::fault::Fault;
 use crate::receipt::Receipt;
 use crate::session::Session;
-use crate::swapping::{Swapped, swap};
+use crate::shared::Shared;
 use commands::{Command, Seat};
 use compactor::Compaction;
 use std::sync::Wait;
-use updater_state::{Answer, Core, Gate, Opening, Point};
+use updater_state::{Answer, Caller, Core, Gate, Opening, Point, Swapped};
+use version_log::Published;
 
 impl<R: Wait + Drop, J: Opening, G: Gate + Drop> Session<Core<R, J>, J, G> {
     /// Compacts the database, while others read and write. It makes a copy of what it sees, which
@@ -26,9 +31,10 @@ impl<R: Wait + Drop, J: Opening, G: Gate + Drop> Session<Core<R, J>, J, G> {
     /// After a fault but `Lost` it learned of no entry, and the next receipt has exactly the calls with a receipt.
     pub fn compact<W: Wait>(&mut self, rt: &W) -> Result<Receipt, Fault>
         ensures receipt { IfOk result (λ receipt. Writes J.base self.old Compact receipt self.new) }
+        ensures refused { IfErr result IsOfCompaction }
         ensures memory { result ≡ Err fault.Memory → OnlyLooks J.base self.old self.new }
         ensures behind { result ≡ Err fault.Behind → OnlyLooks J.base self.old self.new }
-        ensures tried { result ≡ Err fault.Behind → self.new.tried ≡ J.config.tries }
+        ensures tried { result ≡ Err fault.Behind → self.new.tried ≡ risen self.old.tried J.config.tries }
         ensures overrun { result ≡ Err fault.Overrun → OnlyLooks J.base self.old self.new }
         ensures entry_refused { result ≡ Err fault.EntryRefused → OnlyLooks J.base self.old self.new }
         ensures full { result ≡ Err fault.Full → OnlyLooks J.base self.old self.new }
@@ -36,15 +42,12 @@ impl<R: Wait + Drop, J: Opening, G: Gate + Drop> Session<Core<R, J>, J, G> {
         ensures lost { result ≡ Err fault.Lost → Looks J.base (record self.old { tried = self.new.tried; entered = self.new.entered; lost = true }) self.new }
         ensures for_ever { self.old.lost ≡ true → result ≡ Err fault.Lost }
         ensures for_ever_same { self.old.lost ≡ true → self.new ≡ self.old }
-        ensures not_busy { result ≢ Err fault.Busy }
         ensures pushes { self.new.pushes ≡ self.old.pushes }
     {
+        let _recalled = self.place();
         if self.lost {
-            let _recalled = self.place();
             return Err(Fault::Lost);
         }
-        self.begin_compaction();
-        let _recalled = self.place();
         self.refresh()?;
         self.compact_seen(rt)
     }
@@ -52,7 +55,6 @@ impl<R: Wait + Drop, J: Opening, G: Gate + Drop> Session<Core<R, J>, J, G> {
     /// Compacts what was seen.
     fn compact_seen<W: Wait>(&mut self, rt: &W) -> Result<Receipt, Fault>
         requires known { self.old.lost ≡ false }
-        requires begun { (self.old.tried ≡ 0) × (self.old.entered ≡ false) }
         ensures receipt { IfOk result (λ receipt. Writes J.base self.old Compact receipt self.new) }
         ensures fault { IfErr result (λ e. Leaves J.base J.config e self.old self.new) }
         ensures pushes { self.new.pushes ≡ self.old.pushes }
@@ -65,7 +67,6 @@ impl<R: Wait + Drop, J: Opening, G: Gate + Drop> Session<Core<R, J>, J, G> {
     /// Makes the copy and has it swapped in, as often as that may be tried.
     fn compact_with<W: Wait>(&mut self, rt: &W, copy: &mut Compaction) -> Result<Receipt, Fault>
         requires known { self.old.lost ≡ false }
-        requires begun { (self.old.tried ≡ 0) × (self.old.entered ≡ false) }
         requires follows { Extends (chronicle_of J.base self.old) copy.old.seen }
         ensures receipt { IfOk result (λ receipt. Writes J.base self.old Compact receipt self.new) }
         ensures fault { IfErr result (λ e. Leaves J.base J.config e self.old self.new) }
@@ -85,16 +86,13 @@ impl<R: Wait + Drop, J: Opening, G: Gate + Drop> Session<Core<R, J>, J, G> {
     /// too much meanwhile, and the session was behind once more.
     fn attempt<W: Wait>(&mut self, rt: &W, copy: &mut Compaction) -> Result<Option<Receipt>, Fault>
         requires known { self.old.lost ≡ false }
-        requires entered { self.old.entered ≡ false }
-        requires few { self.old.tried < J.config.tries }
         requires sliced { copy.old.left ≡ 0 }
         requires follows { Extends (chronicle_of J.base self.old) copy.old.seen }
         ensures receipt { IfOk result (λ found. IfSome found (λ receipt. Writes J.base self.old Compact receipt self.new)) }
-        ensures behind { IfOk result (λ found. IfNone found (Looks J.base (record self.old { tried = self.old.tried + 1 }) self.new)) }
+        ensures behind { IfOk result (λ found. IfNone found (Looks J.base (record self.old { tried = risen self.old.tried 1 }) self.new)) }
         ensures sliced { IfOk result (λ found. IfNone found (copy.new.left ≡ 0)) }
         ensures follows { IfOk result (λ found. IfNone found (Extends (chronicle_of J.base self.new) copy.new.seen)) }
-        ensures fault { IfErr result (λ e. Leaves J.base J.config e self.old self.new) }
-        ensures not_behind { result ≢ Err fault.Behind }
+        ensures fault { IfErr result (λ e. LeavesTry J.base J.config e self.old self.new) }
         ensures pushes { self.new.pushes ≡ self.old.pushes }
     {
         let _recalled = self.place();
@@ -108,55 +106,77 @@ impl<R: Wait + Drop, J: Opening, G: Gate + Drop> Session<Core<R, J>, J, G> {
         rt: &W,
         copy: &mut Compaction,
     ) -> Result<Option<Receipt>, Fault>
-        requires entered { self.old.entered ≡ false }
-        requires few { self.old.tried < J.config.tries }
+        requires known { self.old.lost ≡ false }
         requires sliced { copy.old.left ≡ 0 }
         requires follows { Extends (chronicle_of J.base self.old) copy.old.seen }
         ensures receipt { IfOk result (λ found. IfSome found (λ receipt. Writes J.base self.old Compact receipt self.new)) }
-        ensures behind { IfOk result (λ found. IfNone found (self.new ≡ record self.old { tried = self.old.tried + 1 })) }
+        ensures behind { IfOk result (λ found. IfNone found (self.new ≡ record self.old { tried = risen self.old.tried 1 })) }
         ensures sliced { IfOk result (λ found. IfNone found (copy.new.left ≡ 0)) }
         ensures follows { IfOk result (λ found. IfNone found (copy.new.seen ≡ chronicle_of J.base self.new)) }
-        ensures fault { IfErr result (λ e. Leaves J.base J.config e self.old self.new) }
-        ensures not_behind { result ≢ Err fault.Behind }
+        ensures fault { IfErr result (λ e. LeavesTry J.base J.config e self.old self.new) }
         ensures pushes { self.new.pushes ≡ self.old.pushes }
     {
         let _recalled = self.place();
         catch_up_all(&self.shared, copy, self.latest.version())?;
         self.shared.gate.at(Point::CaughtUp, self.number);
         let seat = self.seat();
-        let swapped = swap(rt, &self.shared, &self.latest, copy, seat);
+        let swapped = self.try_swap(rt, copy, seat);
         self.settle_swap(swapped, seat)
+    }
+
+    /// Takes the lock and tries to swap the copy in, which has seen what the session has seen. Where the compaction has
+    /// an entry, the session is lost until it has a receipt.
+    fn try_swap<W: Wait>(&mut self, rt: &W, copy: &mut Compaction, seat: Seat) -> Swapped<J>
+        requires known { self.old.lost ≡ false }
+        requires sliced { copy.old.left ≡ 0 }
+        requires seen { copy.old.seen ≡ chronicle_of J.base self.old }
+        requires seat { seat ≡ next_seat self.old }
+        ensures counted { self.new ≡ after_try self.old result }
+        ensures copy { copy.new ≡ record copy.old { visited = copy.new.visited } }
+    {
+        let _recalled = self.place();
+        let swapped = swap(rt, &self.shared, &mut self.caller, &self.latest, copy, seat);
+        self.lost = swapped.has_stood();
+        swapped
     }
 }
 
-impl<C: Drop, J: Opening, G: Drop> Session<C, J, G> {
-    /// A compaction begins: it has not yet learned of an entry, and was not yet behind.
-    fn begin_compaction(&mut self)
-        ensures { self.new ≡ record self.old { tried = 0; entered = false } }
-    {
-        self.begin_call();
-        self.tried = 0;
-    }
+/// Takes the lock and tries to swap the copy in, which has seen what the session has seen.
+fn swap<R: Wait + Drop, J: Opening, G: Gate + Drop, W: Wait>(
+    rt: &W,
+    shared: &Shared<Core<R, J>, J, G>,
+    caller: &mut Caller<J>,
+    seen: &Published<J>,
+    copy: &mut Compaction,
+    seat: Seat,
+) -> Swapped<J>
+    requires sliced { copy.old.left ≡ 0 }
+    requires seen { copy.old.seen ≡ record { base = J.base; entries = newest seen.now } }
+    requires next_call { seat.call ≡ caller.old.entered + 1 }
+    ensures counted { caller.new ≡ after_trying caller.old result }
+    ensures copy { copy.new ≡ record copy.old { visited = copy.new.visited } }
+{
+    let mut core = shared.core.lock(rt);
+    shared.gate.at(Point::Finishing, seat.session());
+    core.try_swap(caller, seen, copy, seat)
+}
 
-    /// What became of a try. Where that was behind, it counts.
+impl<C: Drop, J: Opening, G: Drop> Session<C, J, G> {
+    /// What became of a try.
     fn settle_swap(&mut self, swapped: Swapped<J>, seat: Seat) -> Result<Option<Receipt>, Fault>
         requires seat { seat ≡ next_seat self.old }
-        requires entered { self.old.entered ≡ false }
-        requires few { self.old.tried < J.config.tries }
+        requires entered { self.old.entered ≡ entered_by (length self.old.receipts) swapped }
+        requires lost { self.old.lost ≡ has_stood swapped }
         ensures answers { AnswersTry swapped result }
-        ensures receipt { IfOk result (λ found. IfSome found (λ receipt. Writes J.base self.old Compact receipt self.new)) }
-        ensures behind { IfOk result (λ found. IfNone found (self.new ≡ record self.old { tried = self.old.tried + 1 })) }
-        ensures fault { IfErr result (λ e. Leaves J.base J.config e self.old self.new) }
-        ensures not_behind { result ≢ Err fault.Behind }
+        ensures receipt { IfOk result (λ found. IfSome found (λ receipt. Writes J.base (settled self.old) Compact receipt self.new)) }
+        ensures behind { IfOk result (λ found. IfNone found (self.new ≡ settled self.old)) }
+        ensures fault { IfErr result (λ e. LeavesTry J.base J.config e (settled self.old) self.new) }
         ensures pushes { self.new.pushes ≡ self.old.pushes }
     {
         let _recalled = self.place();
         match swapped {
             Swapped::Stood(answer) => self.receive_swap(answer, seat),
-            Swapped::Behind => {
-                self.count_try();
-                Ok(None)
-            }
+            Swapped::Behind => Ok(None),
             Swapped::Overrun => Err(Fault::Overrun),
             Swapped::Memory => Err(Fault::Memory),
             Swapped::Full(filled) => Err(self.receive_full(filled)),
@@ -164,19 +184,11 @@ impl<C: Drop, J: Opening, G: Drop> Session<C, J, G> {
         }
     }
 
-    /// A try was behind.
-    fn count_try(&mut self)
-        requires few { self.old.tried < J.config.tries }
-        ensures { self.new ≡ record self.old { tried = self.old.tried + 1 } }
-    {
-        let _recalled = self.shared.tries();
-        self.tried += 1;
-    }
-
     /// The compaction has an entry.
     fn receive_swap(&mut self, answer: Answer<J>, seat: Seat) -> Result<Option<Receipt>, Fault>
         requires seat { seat ≡ next_seat self.old }
-        ensures receipt { IfOk result (λ found. IfSome found (λ receipt. Writes J.base self.old Compact receipt self.new)) }
+        requires entered { self.old.entered ≡ length self.old.receipts + 1 }
+        ensures receipt { IfOk result (λ found. IfSome found (λ receipt. Writes J.base (settled self.old) Compact receipt self.new)) }
         ensures some { IfOk result IsSome }
         ensures lost { IfErr result (λ e. e ≡ fault.Lost) }
         ensures lost_same { IfErr result (λ _. self.new ≡ record self.old { lost = true }) }

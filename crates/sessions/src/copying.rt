@@ -2,7 +2,7 @@
 ghost use Rattle.std.specs.Prelude.{◌≡◌, ◌-◌, ◌<◌, length, IfOk, IfErr, OnOk};
 ghost use Rattle.model.specs.History.{now, Extends};
 ghost use Rattle.model.specs.Compaction.{touched};
-ghost use Rattle.sessions.specs.Compactions.{IsOfCopy};
+ghost use Rattle.sessions.specs.Faults.{IsOfCopy};
 
 use crate::fault::Fault;
 use crate::shared::Shared;

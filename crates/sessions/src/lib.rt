@@ -12,7 +12,6 @@ mod receipt;
 mod session;
 mod shared;
 mod snapshot;
-mod swapping;
 mod waiting;
 mod writing;
 

@@ -4,7 +4,7 @@ ghost use Rattle.std.specs.Prelude.{◌≡◌, ◌↔◌, ◌⊎◌, ◌+◌, �
 ghost use mathlib.Core.List.{IsPrefix};
 ghost use Rattle.model.specs.History.{IsLegal, of_session, base_of};
 ghost use Rattle.version_log.specs.Histories.{newest, Grows, IsNewest};
-ghost use Rattle.sessions.specs.Known.{Known, seen, fresh, SeesOwn};
+ghost use Rattle.sessions.specs.Known.{Known, seen, fresh, SeesOwn, HasReceipts};
 ghost use Rattle.sessions.specs.Calls.{Looks};
 ghost use Rattle.sessions.specs.declared.fault.Fault.TheVariants as fault;
 
@@ -18,7 +18,7 @@ use snapshots::Version;
 use std::alloc::{AllocError, Global};
 use std::marker::Model;
 use std::sync::Arc;
-use updater_state::Opening;
+use updater_state::{Caller, Opening};
 use version_log::{Front, Published, Reader};
 
 /// A session over what the updater holds, `C`. Contracts see what it has seen, and its receipts.
@@ -32,10 +32,6 @@ pub struct Session<C: Drop, J: Opening, G: Drop> {
     pub(crate) waited: u64,
     /// How often its waits looked one after another, for the pauses between these looks.
     pub(crate) paced: u64,
-    /// How often its last compaction was behind.
-    pub(crate) tried: u16,
-    /// Whether its last write or compaction learned of an entry.
-    pub(crate) entered: bool,
     /// What was published with its last receipt. It takes no room but a count.
     pub(crate) receipted: Front<J>,
     pub(crate) latest: Published<J>,
@@ -43,7 +39,8 @@ pub struct Session<C: Drop, J: Opening, G: Drop> {
     pub(crate) looked: Option<Arc<Version, Global>>,
     /// Each look writes to it, and other sessions may lie beside this one.
     pub(crate) reader: CachePadded<Reader<J>>,
-    pub(crate) producer: Producer<J>,
+    /// What the updater knows it by, which counts the entries that it learns of.
+    pub(crate) caller: Caller<J>,
     pub(crate) shared: Arc<Shared<C, J, G>, Global>,
 }
 
@@ -56,13 +53,11 @@ impl<C: Drop, J: Opening, G: Drop> Drop for Session<C, J, G> {
             lost: _,
             waited: _,
             paced: _,
-            tried: _,
-            entered: _,
             receipted: _,
             latest: _,
             looked: _,
             reader: _,
-            producer: _,
+            caller: _,
             shared: _,
         } = self;
     }
@@ -81,9 +76,9 @@ impl<C: Drop, J: Opening, G: Drop> Model for Session<C, J, G> {
 
     ghost coded = { Prim.hlevel (codes, coded_members) };
 
-    ghost view = { λ s. record { number = s.number; published = s.latest; receipts = of_session s.number (newest s.receipted); pushes = s.producer.pushed; waited = s.waited; tried = s.tried; entered = s.entered; lost = s.lost } };
+    ghost view = { λ s. record { number = s.number; published = s.latest; receipts = of_session s.number (newest s.receipted); pushes = s.caller.turn.pushed; waited = s.waited; tried = s.caller.behind; entered = s.caller.entered; lost = s.lost } };
 
-    ghost invariant = { λ s. Holds J.base s.number s.calls s.lost s.latest s.receipted (option_map arc_value s.looked) s.producer };
+    ghost invariant = { λ s. Holds J.base s.number s.calls s.lost s.latest s.receipted (option_map arc_value s.looked) s.caller };
 }
 
 impl<C: Drop, J: Opening, G: Drop> Session<C, J, G> {
@@ -107,13 +102,11 @@ impl<C: Drop, J: Opening, G: Drop> Session<C, J, G> {
             lost: false,
             waited: 0,
             paced: 0,
-            tried: 0,
-            entered: false,
             receipted: latest.front().again(),
             latest,
             looked: None,
             reader: CachePadded::new(reader),
-            producer,
+            caller: Caller::new(producer),
             shared,
         }
     }
@@ -123,6 +116,7 @@ impl<C: Drop, J: Opening, G: Drop> Session<C, J, G> {
         ensures place { result ≡ length (seen self.now) }
         ensures legal { IsLegal (base_of J.base) (seen self.now) }
         ensures own { SeesOwn self.now }
+        ensures receipts { HasReceipts self.now }
     {
         self.latest.version().place()
     }
@@ -147,13 +141,11 @@ impl<C: Drop, J: Opening, G: Drop> Session<C, J, G> {
             lost,
             waited,
             paced: _,
-            tried,
-            entered,
             receipted,
             latest,
             looked: _,
             reader: _,
-            producer,
+            caller,
             shared: _,
         } = self;
         let _recalled = latest.publication();
@@ -161,10 +153,10 @@ impl<C: Drop, J: Opening, G: Drop> Session<C, J, G> {
         let ended = Ended {
             number,
             calls,
-            pushes: producer.pushed(),
+            pushes: caller.pushed(),
             waited,
-            tried,
-            entered,
+            tried: caller.behind(),
+            entered: caller.entered(),
             lost,
             receipted,
             seen,

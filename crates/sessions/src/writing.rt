@@ -1,13 +1,15 @@
 //! How a session writes.
-ghost use Rattle.std.specs.Prelude.{◌≡◌, ◌≢◌, ◌⊎◌, ◌+◌, ◌<◌, ◌≤◌, ◌^◌, length, true, false, Err, IfOk, IfErr, IfSome, IfNone, IsTrue};
+ghost use Rattle.std.specs.Prelude.{◌≡◌, ◌⊎◌, ◌+◌, ◌<◌, ◌≤◌, ◌^◌, length, true, false, Err, IfOk, IfErr, IfSome, IfNone, IsTrue};
 ghost use mathlib.Core.List.{IsPrefix};
 ghost use Rattle.model.specs.History.{of_session};
 ghost use Rattle.model.specs.World.{is_compact};
 ghost use Rattle.version_log.specs.Histories.{newest, Grows};
+ghost use Rattle.updater_state.specs.Callers.{entered_with};
 ghost use Rattle.updater_state.specs.Outcomes.{has_entry};
-ghost use Rattle.sessions.specs.Known.{seen};
+ghost use Rattle.sessions.specs.Known.{seen, settled};
 ghost use Rattle.sessions.specs.Answered.{Answers};
 ghost use Rattle.sessions.specs.Calls.{Looks, Writes, IsTold, next_seat};
+ghost use Rattle.sessions.specs.Faults.{IsOfWrite, IsOfOutcome};
 ghost use Rattle.sessions.specs.declared.fault.Fault.TheVariants as fault;
 
 use crate::ahead::prepare;
@@ -34,23 +36,21 @@ impl<R: Wait + Drop, J: Opening, G: Gate + Drop> Session<Core<R, J>, J, G> {
     pub fn write<W: Wait>(&mut self, rt: &W, command: Command) -> Result<Receipt, Fault>
         requires edits { is_compact command ≡ false }
         ensures receipt { IfOk result (λ receipt. Writes J.base self.old command receipt self.new) }
-        ensures memory { result ≡ Err fault.Memory → self.new ≡ record self.old { pushes = self.new.pushes; entered = false } }
-        ensures busy { result ≡ Err fault.Busy → self.new ≡ record self.old { entered = false } }
+        ensures refused { IfErr result IsOfWrite }
+        ensures memory { result ≡ Err fault.Memory → self.new ≡ record self.old { pushes = self.new.pushes } }
+        ensures busy { result ≡ Err fault.Busy → self.new ≡ self.old }
         ensures when_busy { result ≡ Err fault.Busy → (J.capacity < J.sessions) ⊎ (2 ^ 62 ≤ self.old.pushes) }
-        ensures full { result ≡ Err fault.Full → Looks J.base (record self.old { pushes = self.new.pushes; entered = false }) self.new }
+        ensures full { result ≡ Err fault.Full → Looks J.base (record self.old { pushes = self.new.pushes }) self.new }
         ensures when_full { result ≡ Err fault.Full → length (seen self.new) ≡ J.config.max_places }
         ensures lost { result ≡ Err fault.Lost → self.new ≡ record self.old { pushes = self.new.pushes; entered = self.new.entered; lost = true } }
         ensures for_ever { self.old.lost ≡ true → result ≡ Err fault.Lost }
         ensures for_ever_same { self.old.lost ≡ true → self.new ≡ self.old }
         ensures pushes { self.new.pushes ≤ self.old.pushes + 1 }
-        ensures entered { result ≢ Err fault.EntryRefused }
-        ensures not_behind { result ≢ Err fault.Behind }
-        ensures not_overrun { result ≢ Err fault.Overrun }
     {
         if self.lost {
             return Err(Fault::Lost);
         }
-        self.begin_call();
+        let _recalled = self.place();
         let Ok(asked) = command.copy(self.alloc) else {
             return Err(Fault::Memory);
         };
@@ -58,7 +58,7 @@ impl<R: Wait + Drop, J: Opening, G: Gate + Drop> Session<Core<R, J>, J, G> {
         if !self.ask(rt, Job { seat, command }) {
             return Err(Fault::Busy);
         }
-        let Some(outcome) = self.wait_for_outcome(rt, &asked) else {
+        let Some(outcome) = self.wait_for_outcome(rt, &asked, seat) else {
             return Err(Fault::Lost);
         };
         self.settle(outcome, &asked, seat)
@@ -72,24 +72,29 @@ impl<R: Wait + Drop, J: Opening, G: Gate + Drop> Session<Core<R, J>, J, G> {
         ensures kept { result ≡ false → self.new ≡ self.old }
         ensures busy { result ≡ false → (J.capacity < J.sessions) ⊎ (2 ^ 62 ≤ self.old.pushes) }
     {
-        if self.producer.push(rt, &self.shared.queue, job).is_err() {
+        if self.caller.push(rt, &self.shared.queue, job).is_err() {
             return false;
         }
         self.lost = true;
         true
     }
 
-    /// Waits until the session learns what became of its job.
-    fn wait_for_outcome<W: Wait>(&mut self, rt: &W, asked: &Command) -> Option<Outcome<J>>
-        ensures some { IfSome result (λ outcome. self.new ≡ record self.old { entered = has_entry outcome; lost = false }) }
+    /// Waits until the session learns what became of its job. Where that has an entry, the session is lost until it
+    /// has a receipt.
+    fn wait_for_outcome<W: Wait>(
+        &mut self,
+        rt: &W,
+        asked: &Command,
+        seat: Seat,
+    ) -> Option<Outcome<J>>
+        requires seat { seat ≡ next_seat self.old }
+        requires receipts { self.old.entered ≡ length self.old.receipts }
+        ensures some { IfSome result (λ outcome. self.new ≡ record self.old { entered = entered_with self.old.entered outcome; lost = has_entry outcome }) }
         ensures none { IfNone result (self.new ≡ record self.old { lost = true }) }
     {
         self.lost = true;
         self.shared.gate.at(Point::Pushed, self.number);
-        let Told {
-            outcome,
-            taken_count,
-        } = await_told(
+        let told = await_told(
             rt,
             self.alloc,
             &self.shared,
@@ -97,11 +102,8 @@ impl<R: Wait + Drop, J: Opening, G: Gate + Drop> Session<Core<R, J>, J, G> {
             self.latest.version(),
             asked,
         )?;
-        if !self.producer.hear(&self.shared.queue, taken_count) {
-            return None;
-        }
-        self.entered = outcome.has_entry();
-        self.lost = false;
+        let outcome = self.caller.learn(&self.shared.queue, told, seat.call())?;
+        self.lost = outcome.has_entry();
         Some(outcome)
     }
 }
@@ -163,27 +165,19 @@ impl<C: Drop, J: Opening, G: Drop> Session<C, J, G> {
         seat
     }
 
-    /// A write or a compaction begins, which has not yet learned of an entry.
-    pub(crate) fn begin_call(&mut self)
-        ensures { self.new ≡ record self.old { entered = false } }
-    {
-        self.entered = false;
-    }
-
     /// What became of the call, by what became of its job.
     fn settle(&mut self, outcome: Outcome<J>, asked: &Command, seat: Seat) -> Result<Receipt, Fault>
         requires seat { seat ≡ next_seat self.old }
+        requires entered { self.old.entered ≡ entered_with (length self.old.receipts) outcome }
+        requires lost { self.old.lost ≡ has_entry outcome }
         ensures answers { Answers outcome result }
-        ensures receipt { IfOk result (λ receipt. Writes J.base self.old asked.now receipt self.new) }
-        ensures memory { result ≡ Err fault.Memory → self.new ≡ self.old }
-        ensures full { result ≡ Err fault.Full → Looks J.base self.old self.new }
+        ensures receipt { IfOk result (λ receipt. Writes J.base (settled self.old) asked.now receipt self.new) }
+        ensures refused { IfErr result IsOfOutcome }
+        ensures memory { result ≡ Err fault.Memory → self.new ≡ settled self.old }
+        ensures full { result ≡ Err fault.Full → Looks J.base (settled self.old) self.new }
         ensures when_full { result ≡ Err fault.Full → length (seen self.new) ≡ J.config.max_places }
         ensures lost { result ≡ Err fault.Lost → self.new ≡ record self.old { lost = true } }
         ensures pushes { self.new.pushes ≡ self.old.pushes }
-        ensures not_busy { result ≢ Err fault.Busy }
-        ensures entered { result ≢ Err fault.EntryRefused }
-        ensures not_behind { result ≢ Err fault.Behind }
-        ensures not_overrun { result ≢ Err fault.Overrun }
     {
         match outcome.into_kind() {
             OutcomeKind::Stood(answer) => self.receive(answer, asked, seat),
@@ -201,7 +195,8 @@ impl<C: Drop, J: Opening, G: Drop> Session<C, J, G> {
         seat: Seat,
     ) -> Result<Receipt, Fault>
         requires seat { seat ≡ next_seat self.old }
-        ensures receipt { IfOk result (λ receipt. Writes J.base self.old asked.now receipt self.new) }
+        requires entered { self.old.entered ≡ length self.old.receipts + 1 }
+        ensures receipt { IfOk result (λ receipt. Writes J.base (settled self.old) asked.now receipt self.new) }
         ensures lost { IfErr result (λ e. e ≡ fault.Lost) }
         ensures lost_same { IfErr result (λ _. self.new ≡ record self.old { lost = true }) }
         ensures pushes { self.new.pushes ≡ self.old.pushes }
@@ -241,15 +236,18 @@ impl<C: Drop, J: Opening, G: Drop> Session<C, J, G> {
         Fault::Full
     }
 
-    /// What was found has been seen, with a receipt for each of the session's entries in it.
+    /// What was found has been seen, with a receipt for each of the session's entries in it, the one that it learned of
+    /// among them: it is lost no more.
     fn keep(&mut self, found: Published<J>, calls: u64)
         requires later { IsPrefix self.old.published found }
         requires grows { Grows J.base found }
         requires calls { calls ≡ length (of_session self.old.number (newest found)) }
-        ensures { self.new ≡ record self.old { published = found; receipts = of_session self.old.number (newest found); entered = true } }
+        requires entered { self.old.entered ≡ length self.old.receipts + 1 }
+        requires one { calls ≡ self.old.entered }
+        ensures { self.new ≡ record self.old { published = found; receipts = of_session self.old.number (newest found); lost = false } }
     {
         self.calls = calls;
-        self.entered = true;
+        self.lost = false;
         self.looked = None;
         self.receipted = found.front().again();
         self.latest = found;

@@ -10,6 +10,7 @@ use Rattle.job_queue.proofs.Crossing as turns
 use Rattle.job_queue.specs.declared.queue.Queued as Queued
 use Rattle.updater_state.specs.contracts.answer.Answer as Answer
 use Rattle.updater_state.specs.contracts.answer.Filled as Filled
+use Rattle.updater_state.specs.contracts.caller.Caller as Caller
 use Rattle.updater_state.specs.contracts.draft.Draft as Draft
 use Rattle.updater_state.specs.contracts.locked.Core as Core
 use Rattle.updater_state.specs.contracts.outcome.Outcome as Outcome
@@ -33,6 +34,9 @@ module _ (J : RattleType) (q : Queued.Ghosts J.Denot) (o : Opening.Ghosts J.Deno
 
   pub told-send : IsSend (Told.the_row J o n q)
   told-send = search (outcome-send, parts) depth 60
+
+  pub caller-send : IsSend (Caller.the_row J o n q)
+  caller-send = search parts depth 60
 
   pub core-send : (R : RattleType) → IsSend R → IsSend (Core.the_row R J n o q)
   core-send R r = search (outcome-send, draft-send, parts) depth 60

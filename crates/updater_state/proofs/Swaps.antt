@@ -1,6 +1,6 @@
 -- A compaction that is swapped in, over the batch and as the model's event.
 use Rattle.std.proofs.Common.{◌≡◌, ℕ, suc, ◌+◌, ◌==◌, ◌<◌, ◌≤◌, ◌||◌, Bool, true, false, cond, List, [], ◌∷◌, ◌++◌, length, Some, slice_get, refl, ap, sym, ◌∙◌, subst, arith, length-append}
-use Rattle.std.specs.Prelude.{◌≢◌, ◌&&◌, not, nat_lt, Result, Ok, Err, IsErrAnd, option_map, unwrap_or, if◌then◌else◌, Option}
+use Rattle.std.specs.Prelude.{◌&&◌, not, nat_lt, option_map, unwrap_or, if◌then◌else◌, Option}
 use Rattle.std.proofs.lemmas.Bool.{false_from_ne_true, and_parts, and_from, lt-ltb, le-ltb}
 use Rattle.std.proofs.lemmas.Bool.Decides.{nat_tests}
 use Rattle.model.specs.Map.{same_key, same_key-equal}
@@ -189,8 +189,3 @@ refused_is_swap base c copy session old Full sliced place over behind full memor
 refused_is_swap base c copy session old Behind sliced place over behind full memory = let b = behind refl in behind_is_swap base c copy session old sliced place b.0 b.1
 refused_is_swap base c copy session old Overrun sliced place over behind full memory = overrun_is_swap base c copy session old sliced place (over refl)
 refused_is_swap base c copy session old Memory sliced place over behind full memory = absurd (memory refl)
-
--- what is passed on is not that memory was refused, where that was not answered
-pub passed_on : {T : Type 0} (r : Result T SwapFault) (e : SwapFault) → IsErrAnd r (λ f. f ≡ e) → r ≢ Err Memory → e ≡ Memory → ⊥
-passed_on (Ok x) e is none memory = absurd is
-passed_on (Err f) e is none memory = none (ap Err (is ∙ memory))

@@ -6,3 +6,5 @@ pub mod State
 pub mod Worlds
 pub mod SwapFaults
 pub mod Swaps
+pub mod Tries
+pub mod Callers

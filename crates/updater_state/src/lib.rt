@@ -3,6 +3,7 @@
 #![tactic(auto)]
 
 mod answer;
+mod caller;
 mod draft;
 mod fault;
 mod gate;
@@ -14,11 +15,14 @@ mod publication;
 mod rounds;
 mod swapping;
 mod told;
+mod trying;
 
 pub use answer::{Answer, Filled};
+pub use caller::Caller;
 pub use fault::{PutFault, SwapFault};
 pub use gate::{Gate, NoGate, Point};
 pub use locked::Core;
 pub use naming::Opening;
 pub use outcome::{Outcome, OutcomeKind};
 pub use told::Told;
+pub use trying::Swapped;

@@ -6,11 +6,13 @@ ghost use Rattle.model.specs.History.{now, replay, Extends, base_of};
 ghost use Rattle.model.specs.Compaction.{touched};
 ghost use Rattle.model.specs.PurgeLog.{is_overrun};
 ghost use Rattle.version_log.specs.Histories.{newest};
+ghost use Rattle.updater_state.specs.Callers.{after_swapping};
 ghost use Rattle.updater_state.specs.State.{published_with};
 ghost use Rattle.updater_state.specs.Swaps.{HasPlace, Swaps, IsSwap, latest_of, compaction_of, may_swap, is_past, behind_by};
 ghost use Rattle.updater_state.specs.declared.fault.SwapFault.TheVariants.{Full, Behind, Overrun, Memory};
 
 use crate::answer::{Answer, Filled};
+use crate::caller::Caller;
 use crate::fault::SwapFault;
 use crate::locked::Core;
 use crate::naming::Opening;
@@ -82,14 +84,21 @@ impl<R: Wait + Drop, J: Opening> Core<R, J> {
     /// The copy takes over what was touched since, which is at most the configuration's slack. Where no place is left, the
     /// copy is behind or overrun, or memory is refused, all stays as it was.
     ///
-    /// All that grows, grows before the entry is added.
-    pub fn swap(&mut self, copy: &mut Compaction, seat: Seat) -> Result<Answer<J>, SwapFault>
+    /// All that grows, grows before the entry is added. The caller counts the entry, or that the copy was behind.
+    pub fn swap(
+        &mut self,
+        caller: &mut Caller<J>,
+        copy: &mut Compaction,
+        seat: Seat,
+    ) -> Result<Answer<J>, SwapFault>
         requires sliced { copy.old.left ≡ 0 }
         requires follows { Extends (latest_of J.base self.old) copy.old.seen }
         requires next { may_swap J.base self.old seat ≡ true }
+        requires next_call { seat.call ≡ caller.old.entered + 1 }
         ensures swaps { OnOk result (Swaps J.base J.config copy.old seat self.old self.new) }
         ensures answer { IfOk result (λ answer. answer ≡ record { published = self.new.published; place = length (newest self.old.published) + 1; reply = Done }) }
         ensures kept { OnErr result (self.new ≡ self.old) }
+        ensures counted { caller.new ≡ after_swapping caller.old result }
         ensures event { result ≢ Err Memory → IsSwap J.base J.config copy.old seat.session self.old self.new }
         ensures full { (result ≡ Err Full) ↔ (J.config.max_places ≤ length (newest self.old.published)) }
         ensures overrun { (result ≡ Err Overrun) ↔ (HasPlace J.config.max_places self.old × (is_past J.base copy.old self.old ≡ true)) }
@@ -102,16 +111,24 @@ impl<R: Wait + Drop, J: Opening> Core<R, J> {
         if self.room() == 0 {
             return Err(SwapFault::Full);
         }
-        let (found, answer) = publish_copy(
+        match publish_copy(
             self.alloc,
             &self.book,
             &self.current,
             copy,
             seat,
             self.slack as u64,
-        )?;
-        put_in_place(&mut self.current, found);
-        Ok(answer)
+        ) {
+            Ok((found, answer)) => {
+                put_in_place(&mut self.current, found);
+                caller.count_entry(seat.call());
+                Ok(answer)
+            }
+            Err(fault) => {
+                caller.count_fault(fault);
+                Err(fault)
+            }
+        }
     }
 
     /// The version that was published last, which has no place left.

@@ -17,7 +17,7 @@ returns-in-Err-clause-goes g c =
     let told = c.in-Err.ensures in
     let why = c.in-Err.fault in
     let refused = compaction_refused g.J.Naming.base g.J.Opening.config g.J.Queued.sessions g.J.Queued.capacity c.args.session.now c.compact.new.self why (λ is. told.memory (ap Err is)) (λ is. told.behind (ap Err is)) (λ is. told.tried (ap Err is)) (λ is. told.overrun (ap Err is)) (λ is. told.entry_refused (ap Err is))
-    (λ is. told.full (ap Err is)) (λ is. told.when_full (ap Err is)) (λ is. told.lost (ap Err is)) (λ is. told.not_busy (ap Err is)) in (
+    (λ is. told.full (ap Err is)) (λ is. told.when_full (ap Err is)) (λ is. told.lost (ap Err is)) told.refused in (
       why,
       c.call_fault.ensures,
       (refused, told.pushes),

@@ -19,7 +19,7 @@ returns-in-Err-clause-goes g c =
     let old = c.args.session.now in
     let new = c.write.new.self in
     let refused = edit_refused g.J.Naming.base g.J.Opening.config g.J.Queued.sessions g.J.Queued.capacity old new why (λ is. told.memory (ap Err is)) (λ is. told.busy (ap Err is)) (λ is. told.when_busy (ap Err is)) (λ is. told.full (ap Err is)) (λ is. told.when_full (ap Err is))
-    (λ is. told.lost (ap Err is)) (λ is. told.entered (ap Err is)) (λ is. told.not_behind (ap Err is)) (λ is. told.not_overrun (ap Err is)) in (
+    (λ is. told.lost (ap Err is)) told.refused in (
       why,
       c.call_fault.ensures,
       subst (λ (compacts : Bool). RefusesWrite g.J.Naming.base g.J.Opening.config g.J.Queued.sessions g.J.Queued.capacity compacts old why new) (sym c.requires.edit) (refused, told.pushes),

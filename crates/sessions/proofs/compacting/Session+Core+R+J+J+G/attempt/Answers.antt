@@ -1,7 +1,7 @@
 use Rattle.model.specs.Command.{Compact}
 use Rattle.std.proofs.lemmas.Result.{IfErr-weaker}
-use Rattle.sessions.specs.Compactions.{Leaves, chronicle_of}
-use Rattle.sessions.proofs.Looking.{leaves_then, try_behind, try_receipt, try_follows}
+use Rattle.sessions.specs.Compactions.{LeavesTry, chronicle_of}
+use Rattle.sessions.proofs.Looking.{leaves_try_then, try_behind, try_receipt, try_follows}
 use Rattle.sessions.proofs.compacting.Session+Core+R+J+J+G.attempt.Goals as goal
 
 pub returns-clause-receipt : goal.returns-clause-receipt
@@ -15,5 +15,5 @@ returns-clause-follows g c = try_follows c.swap_seen.result c.swap_seen.new.copy
 
 pub returns-clause-fault : goal.returns-clause-fault
 returns-clause-fault g c =
-    IfErr-weaker c.swap_seen.result (λ e. Leaves g.J.Naming.base g.J.Opening.config e c.refresh.new.self c.swap_seen.new.self) (λ e. Leaves g.J.Naming.base g.J.Opening.config e c.args.self.now c.swap_seen.new.self)
-    (λ e. leaves_then g.J.Naming.base g.J.Opening.config e c.args.self.now c.refresh.new.self c.swap_seen.new.self c.in_ok-refresh.ensures.looks) c.swap_seen.ensures.fault
+    IfErr-weaker c.swap_seen.result (λ e. LeavesTry g.J.Naming.base g.J.Opening.config e c.refresh.new.self c.swap_seen.new.self) (λ e. LeavesTry g.J.Naming.base g.J.Opening.config e c.args.self.now c.swap_seen.new.self)
+    (λ e. leaves_try_then g.J.Naming.base g.J.Opening.config e c.args.self.now c.refresh.new.self c.swap_seen.new.self c.in_ok-refresh.ensures.looks) c.swap_seen.ensures.fault

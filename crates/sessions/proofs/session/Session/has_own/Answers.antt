@@ -1,4 +1,4 @@
-use Rattle.std.proofs.Common.{◌≡◌, ◌==◌, ◌∙◌, true, ap, refl, subst, length, arith}
+use Rattle.std.proofs.Common.{◌≡◌, ◌==◌, ◌∙◌, true, ap, subst, length, arith}
 use Rattle.std.proofs.lemmas.Bool.Decides.{nat_tests}
 use Rattle.model.specs.History.{Chronicle, of_session}
 use Rattle.version_log.specs.Histories.{newest}

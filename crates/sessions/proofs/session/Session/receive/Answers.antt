@@ -1,4 +1,4 @@
-use Rattle.std.proofs.Common.{ap, sym, ◌∙◌, refl, subst, arith, ◌≡◌, ◌+◌, List, length}
+use Rattle.std.proofs.Common.{ap, sym, ◌∙◌, refl, subst, arith, false, ◌≡◌, ◌+◌, List, length}
 use mathlib.Core.List.{IsPrefix}
 use Rattle.model.specs.Map.{empty}
 use Rattle.model.specs.Command.{Entry, Seat}
@@ -33,4 +33,4 @@ returns-clause-receipt g c =
     count
     c.publication-publication.ensures.count
     (omega (arith, c.publication-publication.ensures.count, parts.counted))
-    c.keep.ensures
+    (c.keep.ensures ∙ (λ i. record old { published = found; receipts = of_session old.number (newest found); entered = (c.requires.entered ∙ sym count) i; lost = false }))

@@ -19,6 +19,8 @@ invariant_of-self g c =
       session = holds.session;
       ticket_is = holds.ticket_is;
       gone = holds.gone;
+      heard = holds.heard;
+      entered = holds.entered;
       looked_is = tt;
     }
 

@@ -4,26 +4,26 @@ use Rattle.version_log.specs.Histories.{newest}
 use Rattle.updater.specs.Batches.{MayFollow, joins}
 use Rattle.updater_state.specs.State.{State, published_with, database_of}
 use Rattle.updater_state.specs.Swaps.{compaction_of, is_past, behind_by}
-use Rattle.updater_state.proofs.Swaps.{passed_on, full_is_swap, swaps_is_swap, refused_is_swap, MayFollow-swapped, length-newest_with}
+use Rattle.updater_state.proofs.Swaps.{full_is_swap, swaps_is_swap, refused_is_swap, MayFollow-swapped, length-newest_with}
 use Rattle.updater_state.proofs.locked.Core.swap.Goals as goal
 
 pub returns-then-room-eq0-clause-event : goal.returns-then-room-eq0-clause-event
 returns-then-room-eq0-clause-event g c =
     λ _. full_is_swap g.J.Naming.base g.J.Opening.config c.args.copy.now c.args.seat.session c.args.self.now (omega (arith, c.if-room-eq0.true, c.room.ensures))
 
-pub returns-in_err-found-clause-event : goal.returns-in_err-found-clause-event
-returns-in_err-found-clause-event g c =
+pub returns-in-Err-clause-event : goal.returns-in-Err-clause-event
+returns-in-Err-clause-event g c =
     let copy = c.args.copy.now in
     let old = c.args.self.now in
     let view = c.self.view_is in
-    let e = c.in_err-found.field-0.0 in
-    let h = c.in_err-found.ensures in
+    let e = c.in-Err.fault in
+    let h = c.in-Err.ensures in
     λ memory. refused_is_swap g.J.Naming.base g.J.Opening.config copy c.args.seat.session old e c.requires.sliced
     (omega (arith, c.if-room-eq0.false, c.room.ensures))
     (λ is. ap (is_past g.J.Naming.base copy) (sym view) ∙ h.overrun.0 (ap Err is))
     (λ is. let b = h.behind.0 (ap Err is) in (ap (is_past g.J.Naming.base copy) (sym view) ∙ b.0, omega (arith, b.1, c.self.invariant.6, ap (behind_by g.J.Naming.base copy) view)))
     (λ is. h.room_left (ap Err is))
-    (passed_on c.from_residual.result e c.from_residual.ensures.1 memory)
+    (λ is. memory (ap Err is))
 
 pub invariant_of-self : goal.invariant_of-self
 invariant_of-self g c =
@@ -47,6 +47,6 @@ invariant_of-self g c =
       old.9,
     )
 
-pub returns-clause-event : goal.returns-clause-event
-returns-clause-event g c =
+pub returns-in-Ok-clause-event : goal.returns-in-Ok-clause-event
+returns-in-Ok-clause-event g c =
     λ _. swaps_is_swap g.J.Naming.base g.J.Opening.config c.args.copy.now c.args.seat c.args.self.now _ c.requires.sliced c.requires.next (search rules)

@@ -1,5 +1,5 @@
 -- How a try of a compaction ends under the lock.
-use Rattle.std.specs.Prelude.{◌≡◌, ◌⊎◌, ◌+◌, ◌<◌, ◌≤◌, true, false, List, length, Option}
+use Rattle.std.specs.Prelude.{◌≡◌, ◌⊎◌, ◌+◌, ◌<◌, ◌≤◌, Bool, true, false, List, length, Option}
 use mathlib.Core.List.{IsPrefix}
 use Rattle.model.specs.Command.{Entry, Seat, Done}
 use Rattle.model.specs.Database.{Database}
@@ -8,8 +8,8 @@ use Rattle.version_log.specs.Histories.{newest}
 use Rattle.compactor.specs.Copy.{CopyView}
 use Rattle.updater_state.specs.State.{State}
 use Rattle.updater_state.specs.Swaps.{HasPlace, Swaps, may_swap, is_past, behind_by}
-use Rattle.sessions.specs.declared.swapping.Swapped.{Swapped}
-use Rattle.sessions.specs.declared.swapping.Swapped.TheVariants as swapped
+use Rattle.updater_state.specs.declared.trying.Swapped.{Swapped}
+use Rattle.updater_state.specs.declared.trying.Swapped.TheVariants as swapped
 
 -- what was published last is not later than what the session has seen, or more was touched since than the slack allows
 abbrev pub IsBehind : Option Database → Config → CopyView → List (List Entry) → State → Type 0
@@ -23,3 +23,12 @@ EndsTry base config copy seat seen old new swapped.Behind = (new ≡ old) × IsB
 EndsTry base config copy seat seen old new swapped.Overrun = (new ≡ old) × HasPlace config.max_places old × (is_past base copy old ≡ true)
 EndsTry base config copy seat seen old new swapped.Memory = new ≡ old
 EndsTry base config copy seat seen old new swapped.Lost = (new ≡ old) × (may_swap base old seat ≡ false)
+
+-- the compaction has an entry
+abbrev pub has_stood : {J : Type 0} → Swapped J → Bool
+has_stood (swapped.Stood s) = true
+has_stood swapped.Behind = false
+has_stood (swapped.Full found) = false
+has_stood swapped.Overrun = false
+has_stood swapped.Memory = false
+has_stood swapped.Lost = false
