@@ -1,23 +1,28 @@
 -- Calls of a session whose entries a journal keeps.
 use Rattle.std.specs.Prelude.{◌≡◌, ◌≢◌, ◌⊎◌, ℕ, ◌<◌, ◌≤◌, max, Bool, true, false, List, length, Result, Ok, Err, IfOk, ⊤}
 use Rattle.std.specs.List.{FoldsTo}
-use Rattle.model.specs.Command.{Command}
+use mathlib.Core.List.{IsPrefix}
+use Rattle.model.specs.Command.{Command, Entry}
 use Rattle.session_api.specs.declared.fault.Unavailable.TheVariants as unavailable
 use Rattle.session_api.specs.SessionCall.{SessionCall, Refreshed, Wrote, Waited}
 use Rattle.session_api.specs.Known.{Known, update_seq_of}
 use Rattle.session_api.specs.declared.fault.CallFault.{CallFault}
 use Rattle.session_api.specs.declared.fault.CallFault.TheVariants as fault
 
--- the entries up to the place, of which there are some, are among those up to a place of which this is known
-abbrev pub IsPast : (ℕ → Type 0) → ℕ → Type 0
-IsPast is_known place = 0 < place → (known : ℕ) × (place ≤ known) × is_known known
+-- Entries up to the place, of which there are some, are among those of which this is known, with which these begin.
+abbrev pub IsPast : (List Entry → Type 0) → ℕ → List Entry → Type 0
+IsPast is_known place journaled = 0 < place → (known : List Entry) × IsPrefix known journaled × (place ≤ length known) × is_known known
 
--- What has so many entries and this update number may be shown: the entries are appended to the journal, kept too where that
--- is awaited, and the number is within a limit.
-pub record IsShown (is_appended is_kept is_limit : ℕ → Type 0) (awaits : Bool) (place number : ℕ) : Type 0 where
-  pub appended : IsPast is_appended place
-  pub kept : awaits ≡ true → IsPast is_kept place
-  pub within : (limit : ℕ) × (number ≤ limit) × is_limit limit
+-- the number is within a limit, of which this is known with entries that these begin with
+abbrev pub IsWithin : (ℕ → List Entry → Type 0) → ℕ → List Entry → Type 0
+IsWithin is_limit number journaled = (limit : ℕ) × (known : List Entry) × IsPrefix known journaled × (number ≤ limit) × is_limit limit known
+
+-- What has so many entries and this update number may be shown, where the journal is known to have these: so many are appended to
+-- it, kept too where that is awaited, and the number is within a limit.
+pub record IsShown (is_appended is_kept : List Entry → Type 0) (is_limit : ℕ → List Entry → Type 0) (awaits : Bool) (place number : ℕ) (journaled : List Entry) : Type 0 where
+  pub appended : IsPast is_appended place journaled
+  pub kept : awaits ≡ true → IsPast is_kept place journaled
+  pub within : IsWithin is_limit number journaled
 
 -- the journal failed
 abbrev pub journal_fault : CallFault
@@ -55,41 +60,50 @@ module _ {S : Type 0} (goes : S → SessionCall → S → Type 0) where
     pub runs : FoldsTo (WaitsInVain goes seq) old passed here
     pub ends : EndsWait seq turns passed here answer new
 
--- by what a session knows, what is known of the places up to which a journal has entries, and of the limits of its numbers
-module _ {S : Type 0} (known : S → Known) (is_appended is_kept is_limit : ℕ → Type 0) where
+-- What a session that answers what a journal has consists of: the session, whether it awaits what is kept, and the entries which it
+-- knows that the journal has.
+abbrev pub Answering : Type 0 → Type 0
+Answering S = S × (Bool × List Entry)
+
+-- it stays, or knows of more entries, which go on from those
+abbrev pub LearnsOf : Bool × List Entry → Bool × List Entry → Type 0
+LearnsOf old new = (new ≡ old) ⊎ ((new.0 ≡ old.0) × IsPrefix old.1 new.1)
+
+-- by what a session knows, what is known of the entries that a journal has, and of the limits of its numbers
+module _ {S : Type 0} (known : S → Known) (is_appended is_kept : List Entry → Type 0) (is_limit : ℕ → List Entry → Type 0) where
   -- all that the session has seen may be shown
-  abbrev pub Shows : Bool → S → Type 0
-  Shows awaits s = IsShown is_appended is_kept is_limit awaits (length (known s).seen) (update_seq_of (known s))
+  abbrev pub Shows : Answering S → Type 0
+  Shows s = IsShown is_appended is_kept is_limit s.1.0 (length (known s.0).seen) (update_seq_of (known s.0)) s.1.1
 
   -- What is answered to a write that the session answered so: its place, where all that was seen may be shown; or that the
   -- journal has not kept it.
-  abbrev pub IsKeptAs : Bool → S → Result ℕ CallFault → Result ℕ CallFault → Type 0
-  IsKeptAs awaits new (Ok place) answer = ((answer ≡ Ok place) × Shows awaits new) ⊎ (answer ≡ Err journal_fault)
-  IsKeptAs awaits new (Err why) answer = answer ≡ Err why
+  abbrev pub IsKeptAs : Answering S → Result ℕ CallFault → Result ℕ CallFault → Type 0
+  IsKeptAs new (Ok place) answer = ((answer ≡ Ok place) × Shows new) ⊎ (answer ≡ Err journal_fault)
+  IsKeptAs new (Err why) answer = answer ≡ Err why
 
   -- all that the session has seen may be shown, or the journal has failed
-  abbrev pub ShowsUnless : Type 0 → Bool → S → Type 0
-  ShowsUnless has_failed awaits s = Shows awaits s ⊎ has_failed
+  abbrev pub ShowsUnless : Type 0 → Answering S → Type 0
+  ShowsUnless has_failed s = Shows s ⊎ has_failed
 
 -- the same, by what a session does too, and what is known once the journal has failed
-module _ {S : Type 0} (goes : S → SessionCall → S → Type 0) (known : S → Known) (is_appended is_kept is_limit : ℕ → Type 0) (has_failed : Type 0) where
+module _ {S : Type 0} (goes : S → SessionCall → S → Type 0) (known : S → Known) (is_appended is_kept : List Entry → Type 0) (is_limit : ℕ → List Entry → Type 0) (has_failed : Type 0) where
   -- the journal had failed before, and it only looked
   abbrev pub RefusesKept : S → Result ℕ CallFault → S → Type 0
   RefusesKept old answer new = has_failed × ((looked : Result ⊤ CallFault) × goes old (Refreshed looked) new × (answer ≡ Err (refused_by looked)))
 
   -- it wrote, and answers its place when that may be shown
-  abbrev pub WritesKept : Command → Bool → S → Result ℕ CallFault → S → Type 0
-  WritesKept command awaits old answer new =
-      (wrote : Result ℕ CallFault) × goes old (Wrote command wrote) new × IsKeptAs known is_appended is_kept is_limit awaits new wrote answer
+  abbrev pub WritesKept : Command → Answering S → Result ℕ CallFault → Answering S → Type 0
+  WritesKept command old answer new =
+      (wrote : Result ℕ CallFault) × goes old.0 (Wrote command wrote) new.0 × IsKeptAs known is_appended is_kept is_limit new wrote answer
 
-  -- by this call with this answer it goes from one state to another, and whether it awaits what is kept stays
-  abbrev pub GoesKept : S × Bool → SessionCall → S × Bool → Type 0
+  -- by this call with this answer it goes from one state to another
+  abbrev pub GoesKept : Answering S → SessionCall → Answering S → Type 0
   GoesKept old (Refreshed answer) new =
       goes old.0 (Refreshed answer) new.0
-      × IfOk answer (λ _. ShowsUnless known is_appended is_kept is_limit has_failed old.1 new.0)
-      × (new.1 ≡ old.1)
-  GoesKept old (Wrote command answer) new = (RefusesKept old.0 answer new.0 ⊎ WritesKept command old.1 old.0 answer new.0) × (new.1 ≡ old.1)
+      × IfOk answer (λ _. ShowsUnless known is_appended is_kept is_limit has_failed new)
+      × LearnsOf old.1 new.1
+  GoesKept old (Wrote command answer) new = (RefusesKept old.0 answer new.0 ⊎ WritesKept command old answer new) × LearnsOf old.1 new.1
   GoesKept old (Waited seq turns answer) new =
       WaitsKept goes seq turns old.0 answer new.0
-      × IfOk answer (λ _. ShowsUnless known is_appended is_kept is_limit has_failed old.1 new.0)
-      × (new.1 ≡ old.1)
+      × IfOk answer (λ _. ShowsUnless known is_appended is_kept is_limit has_failed new)
+      × LearnsOf old.1 new.1

@@ -1,14 +1,13 @@
 //! A session that answers only what a journal has.
-ghost use Rattle.std.specs.Prelude.{◌≡◌, ⊤, Ok, Err, Result, IfOk};
+ghost use Rattle.std.specs.Prelude.{◌≡◌, ⊤, Result};
 ghost use Rattle.model.specs.Command as model;
 ghost use Rattle.session_api.specs.Learns.{Learns};
 ghost use Rattle.session_api.specs.SessionCall as call;
 ghost use Rattle.session_api.specs.declared.fault.CallFault as declared;
-ghost use Rattle.durable_calls.specs.Kept.{GoesKept, IsKeptAs, Shows, ShowsUnless, WaitsKept, refused_by};
-ghost use Rattle.durable_calls.specs.declared.kept_place.NotShown.TheVariants as not_shown;
+ghost use Rattle.durable_calls.specs.Kept.{GoesKept, WaitsKept, refused_by};
 
-use crate::keeping::Keeping;
-use crate::kept_place::{KeptPlace, NotShown};
+use crate::keeping::Progress;
+use crate::kept_place::KeptPlace;
 use crate::passes::Passes;
 use commands::{Command, Entry};
 use document_id::DocIds;
@@ -19,17 +18,19 @@ use std::marker::Model;
 use std::sync::Wait;
 
 /// A session whose entries a journal keeps, and whose calls are answered when what they show is appended, and where that is
-/// awaited kept too. Contracts see the session, and whether it awaits what is kept.
-pub struct Durable<'p, S, N: Keeping, P, R> {
+/// awaited kept too. Contracts see the session, whether it awaits what is kept, and the entries which it knows that the journal has.
+pub struct Durable<'p, S, G: Progress, P, R> {
     session: S,
-    place: &'p KeptPlace<N>,
+    place: &'p KeptPlace<G>,
     passes: &'p P,
     /// By this it waits, in calls too that are given no context.
     rt: &'p R,
     awaits: bool,
+    /// How far it knows that the journal has come.
+    known: G,
 }
 
-impl<'p, S: Drop, N: Keeping, P, R> Drop for Durable<'p, S, N, P, R> {
+impl<'p, S: Drop, G: Progress, P, R> Drop for Durable<'p, S, G, P, R> {
     fn drop(self) {
         let Durable {
             session: _,
@@ -37,29 +38,35 @@ impl<'p, S: Drop, N: Keeping, P, R> Drop for Durable<'p, S, N, P, R> {
             passes: _,
             rt: _,
             awaits: _,
+            known: _,
         } = self;
     }
 }
 
-impl<'p, S, N: Keeping, P, R> Model for Durable<'p, S, N, P, R> {
-    ghost use Rattle.std.specs.Prelude.{Bool};
+impl<'p, S, G: Progress, P, R> Model for Durable<'p, S, G, P, R> {
+    ghost use Rattle.std.specs.Coded.{codes, coded×, coded_bool};
+    ghost use Rattle.model.specs.JsonCode.{coded_members};
+    ghost use Rattle.durable_calls.specs.Kept.{Answering};
 
-    ghost Value = { S × Bool };
+    ghost Value = { Answering S };
 
-    ghost view = { λ d. (d.session, d.awaits) };
+    ghost coded = { coded× S.code (coded× coded_bool (Prim.hlevel (codes, coded_members))) };
+
+    ghost view = { λ d. (d.session, (d.awaits, G.journaled d.known)) };
 }
 
-impl<'p, S, N: Keeping, P, R> Durable<'p, S, N, P, R> {
-    /// A session whose journal says by this place what it has, by whose passes entries come there, and whether what is answered
-    /// has to be kept.
+impl<'p, S, G: Progress, P, R> Durable<'p, S, G, P, R> {
+    /// A session whose journal says by this place what it has, by whose passes entries come there, whether what is answered has to be
+    /// kept, and how far it knows that the journal has come.
     pub fn new(
         session: S,
-        place: &'p KeptPlace<N>,
+        place: &'p KeptPlace<G>,
         passes: &'p P,
         rt: &'p R,
         awaits: bool,
-    ) -> Durable<'p, S, N, P, R>
-        ensures { result ≡ (session, awaits) }
+        known: G,
+    ) -> Durable<'p, S, G, P, R>
+        ensures { result ≡ (session, (awaits, G.journaled known)) }
     {
         Durable {
             session,
@@ -67,12 +74,14 @@ impl<'p, S, N: Keeping, P, R> Durable<'p, S, N, P, R> {
             passes,
             rt,
             awaits,
+            known,
         }
     }
 
-    /// The session.
-    pub fn into_session(self) -> S
-        ensures { result ≡ self.entry.0 }
+    /// The session, and how far it knows that the journal has come.
+    pub fn into_parts(self) -> (S, G)
+        ensures session { result.0 ≡ self.entry.0 }
+        ensures known { G.journaled result.1 ≡ self.entry.1.1 }
     {
         let Durable {
             session,
@@ -80,50 +89,13 @@ impl<'p, S, N: Keeping, P, R> Durable<'p, S, N, P, R> {
             passes: _,
             rt: _,
             awaits: _,
+            known,
         } = self;
-        session
+        (session, known)
     }
 }
 
-impl<'p, S: Viewer, N: Keeping, P: Passes<R>, R: Wait> Durable<'p, S, N, P, R> {
-    /// Waits until all that the session has seen may be shown.
-    ///
-    /// # Errors
-    ///
-    /// As [`KeptPlace::wait_for`].
-    fn wait_to_show(&self) -> Result<(), NotShown>
-        ensures shown { IfOk result (λ _. Shows S.known N.is_appended N.is_kept N.is_limit self.now.1 self.now.0) }
-        ensures failed { result ≡ Err not_shown.Failed → N.has_failed }
-    {
-        let number = self.session.update_seq();
-        let place = self.session.place();
-        self.place
-            .wait_for(self.rt, self.passes, place, number, self.awaits)
-    }
-
-    /// Waits until all that the session has seen may be shown, or the journal has failed.
-    fn show(&self)
-        ensures { ShowsUnless S.known N.is_appended N.is_kept N.is_limit N.has_failed self.now.1 self.now.0 }
-    {
-        for _ in self.rt.forever() {
-            match self.wait_to_show() {
-                Ok(()) | Err(NotShown::Failed) => return,
-                Err(NotShown::Refused) => {}
-            }
-        }
-        unreachable!()
-    }
-
-    /// What is answered to a write whose entry has this place.
-    fn answer_kept(&self, place: u64) -> Result<u64, CallFault>
-        ensures kept { IsKeptAs S.known N.is_appended N.is_kept N.is_limit self.now.1 self.now.0 (Ok place) result }
-    {
-        match self.wait_to_show() {
-            Ok(()) => Ok(place),
-            Err(_) => Err(CallFault::Unavailable(Unavailable::Journal)),
-        }
-    }
-
+impl<'p, S: Viewer, G: Progress, P: Passes<R>, R: Wait> Durable<'p, S, G, P, R> {
     /// Why nothing is written once the journal has failed: a session that is lost says so.
     fn refuse(&mut self) -> CallFault
         ensures refused { (looked : Result ⊤ declared.CallFault) × S.goes self.old.0 (call.Refreshed looked) self.new.0
@@ -140,12 +112,12 @@ impl<'p, S: Viewer, N: Keeping, P: Passes<R>, R: Wait> Durable<'p, S, N, P, R> {
     }
 }
 
-impl<'p, S: Viewer, N: Keeping, P: Passes<R>, R: Wait> Viewer for Durable<'p, S, N, P, R> {
+impl<'p, S: Viewer, G: Progress, P: Passes<R>, R: Wait> Viewer for Durable<'p, S, G, P, R> {
     type Opened = S::Opened;
 
     ghost known = { λ d. S.known d.0 };
 
-    ghost goes = { λ old call new. GoesKept S.goes S.known N.is_appended N.is_kept N.is_limit N.has_failed old call new };
+    ghost goes = { λ old call new. GoesKept S.goes S.known G.is_appended G.is_kept G.is_limit G.has_failed old call new };
 
     fn place(&self) -> u64 {
         self.session.place()
@@ -183,19 +155,36 @@ impl<'p, S: Viewer, N: Keeping, P: Passes<R>, R: Wait> Viewer for Durable<'p, S,
     /// It waits until what it sees may be shown.
     fn refresh(&mut self) -> Result<(), CallFault> {
         self.session.refresh()?;
-        self.show();
+        self.place.wait_until_shown(
+            self.rt,
+            self.passes,
+            &self.session,
+            &mut self.known,
+            self.awaits,
+        );
         Ok(())
     }
 }
 
-impl<'p, X: Wait, S: Calls<X>, N: Keeping, P: Passes<R>, R: Wait> Calls<X>
-    for Durable<'p, S, N, P, R> {
+impl<'p, X: Wait, S: Calls<X>, G: Progress, P: Passes<R>, R: Wait> Calls<X>
+    for Durable<'p, S, G, P, R> {
     fn write(&mut self, context: &X, command: Command) -> Result<u64, CallFault> {
         if self.place.has_failed() {
             return Err(self.refuse());
         }
         match self.session.write(context, command) {
-            Ok(place) => self.answer_kept(place),
+            Ok(place) => {
+                match self.place.wait_for(
+                    self.rt,
+                    self.passes,
+                    &self.session,
+                    &mut self.known,
+                    self.awaits,
+                ) {
+                    Ok(()) => Ok(place),
+                    Err(_) => Err(CallFault::Unavailable(Unavailable::Journal)),
+                }
+            }
             Err(fault) => {
                 if fault == CallFault::Unavailable(Unavailable::Full) {
                     self.place.ask();
@@ -208,16 +197,22 @@ impl<'p, X: Wait, S: Calls<X>, N: Keeping, P: Passes<R>, R: Wait> Calls<X>
     /// It waits turn by turn, ends as refused once the epoch ends, and waits then until what it sees may be shown.
     fn wait_past(&mut self, context: &X, seq: u64, turns: u64) -> Result<bool, CallFault> {
         let past = wait_by_turns(context, &mut self.session, self.place, seq, turns)?;
-        self.show();
+        self.place.wait_until_shown(
+            self.rt,
+            self.passes,
+            &self.session,
+            &mut self.known,
+            self.awaits,
+        );
         Ok(past)
     }
 }
 
 /// Waits turn by turn, and ends as refused once the epoch ends.
-fn wait_by_turns<X: Wait, S: Calls<X>, N: Keeping>(
+fn wait_by_turns<X: Wait, S: Calls<X>, G: Progress>(
     context: &X,
     session: &mut S,
-    place: &KeptPlace<N>,
+    place: &KeptPlace<G>,
     seq: u64,
     turns: u64,
 ) -> Result<bool, CallFault>

@@ -1,76 +1,59 @@
-//! What is known of a journal by the words that it shares with sessions.
-ghost use Rattle.std.specs.Prelude.{ℕ};
+//! What is known of a journal.
+ghost use Rattle.std.specs.Prelude.{◌≡◌, ℕ, List, true};
+ghost use mathlib.Core.List.{IsPrefix};
+ghost use Rattle.model.specs.Command.{Entry};
+ghost use Rattle.durable_calls.specs.Kept.{IsShown};
 
-use std::marker::{Brand, PhantomData};
+use std::marker::PhantomData;
 use std::sync::atomic::Rule;
 
-/// Names a journal. No value of it is made.
-pub trait Keeping {
-    /// What is known once the entries up to a place, which is above 0, are appended to the journal: they are there after
-    /// the end of the process.
-    ghost is_appended: { ℕ → Type 0 };
+/// How far a journal has come, as far as somebody knows. The entries which one knows that a journal has are a beginning of those
+/// which another one knows of, or go on from them.
+pub trait Progress: Drop {
+    /// What is known once the journal has these entries, of which there are some: they are there after the end of the process.
+    ghost is_appended: { List Entry → Type 0 };
 
-    /// What is known once the entries up to a place, which is above 0, are kept: they are there after the end of the
-    /// machine.
-    ghost is_kept: { ℕ → Type 0 };
+    /// What is known once these entries are kept, of which there are some: they are there after the end of the machine.
+    ghost is_kept: { List Entry → Type 0 };
 
-    /// What is known of a limit up to which update numbers may be shown.
-    ghost is_limit: { ℕ → Type 0 };
+    /// What is known of a limit up to which update numbers may be shown, once these entries are kept.
+    ghost is_limit: { ℕ → List Entry → Type 0 };
 
     /// What is known once the journal has failed.
     ghost has_failed: { Type 0 };
-}
 
-impl Keeping for Brand {
-    ghost use Rattle.std.specs.Prelude.{⊤};
+    /// The entries which it is known that the journal has.
+    ghost journaled: { Self → List Entry };
 
-    ghost is_appended = { λ _. ⊤ };
+    /// The same once more.
+    fn again(&self) -> Self
+        ensures same { journaled result ≡ journaled self.now };
 
-    ghost is_kept = { λ _. ⊤ };
+    /// Knows afterwards what the other one knows, where that is more.
+    fn learn(&mut self, other: &Self)
+        ensures more { IsPrefix (journaled self.old) (journaled self.new) };
 
-    ghost is_limit = { λ _. ⊤ };
+    /// Whether what has so many entries and this update number may be shown.
+    fn covers(&self, place: u64, number: u64, awaits: bool) -> bool
+        ensures shown { result ≡ true → IsShown is_appended is_kept is_limit awaits place number (journaled self.now) };
 
-    ghost has_failed = { ⊤ };
-}
+    /// How many entries are appended.
+    fn appended(&self) -> u64;
 
-/// The rule of a word that is a place up to which entries are appended, or 0.
-pub struct AppendedTo<N> {
-    name: PhantomData<N>,
-}
+    /// How many of them are kept.
+    fn kept(&self) -> u64;
 
-impl<N: Keeping> Rule for AppendedTo<N> {
-    ghost use Rattle.std.specs.Prelude.{◌<◌};
-
-    ghost invariant = { λ place. 0 < place → N.is_appended place };
-}
-
-/// The rule of a word that is a place up to which entries are kept, or 0.
-pub struct KeptTo<N> {
-    name: PhantomData<N>,
-}
-
-impl<N: Keeping> Rule for KeptTo<N> {
-    ghost use Rattle.std.specs.Prelude.{◌<◌};
-
-    ghost invariant = { λ place. 0 < place → N.is_kept place };
-}
-
-/// The rule of a word that is a limit up to which update numbers may be shown.
-pub struct LimitOf<N> {
-    name: PhantomData<N>,
-}
-
-impl<N: Keeping> Rule for LimitOf<N> {
-    ghost invariant = { λ limit. N.is_limit limit };
+    /// Up to which number updates may be shown.
+    fn limit(&self) -> u64;
 }
 
 /// The rule of a word that is above 0 once the journal has failed.
-pub struct FailureOf<N> {
-    name: PhantomData<N>,
+pub struct FailureOf<G> {
+    of: PhantomData<G>,
 }
 
-impl<N: Keeping> Rule for FailureOf<N> {
+impl<G: Progress> Rule for FailureOf<G> {
     ghost use Rattle.std.specs.Prelude.{◌<◌};
 
-    ghost invariant = { λ failures. 0 < failures → N.has_failed };
+    ghost invariant = { λ failures. 0 < failures → G.has_failed };
 }

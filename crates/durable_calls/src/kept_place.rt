@@ -1,15 +1,18 @@
 //! Up to which place of a history a journal has its entries, and what may be shown of it.
-ghost use Rattle.std.specs.Prelude.{◌≡◌, ◌<◌, ◌≤◌, ℕ, true, IfOk, Err};
+ghost use Rattle.std.specs.Prelude.{◌≡◌, ◌⊎◌, length, true, IfOk, Err};
+ghost use mathlib.Core.List.{IsPrefix};
+ghost use Rattle.session_api.specs.Known.{update_seq_of};
 ghost use Rattle.durable_calls.specs.Kept.{IsShown};
 ghost use Rattle.durable_calls.specs.declared.kept_place.NotShown.TheVariants as not_shown;
 
 use crate::gathering::Gathering;
-use crate::keeping::{AppendedTo, FailureOf, Keeping, KeptTo, LimitOf};
+use crate::keeping::{FailureOf, Progress};
 use crate::passes::{Pass, Passes};
+use session_api::Viewer;
 use std::hint::spin_loop;
-use std::sync::Wait;
 use std::sync::atomic::Ordering::SeqCst;
 use std::sync::atomic::{AtomicBool, AtomicIn, AtomicU64};
+use std::sync::{Mutex, Wait};
 use std::time::Duration;
 
 /// The low bits of a count, by which those that sleep know it.
@@ -34,11 +37,14 @@ pub enum NotShown {
 }
 
 /// What those who keep a journal and the sessions say to one another. They share it by reference.
-pub struct KeptPlace<N: Keeping> {
-    appended: AtomicIn<AppendedTo<N>>,
-    kept: AtomicIn<KeptTo<N>>,
-    limit: AtomicIn<LimitOf<N>>,
-    failed: AtomicIn<FailureOf<N>>,
+pub struct KeptPlace<G: Progress> {
+    /// How far the journal has come.
+    progress: Mutex<G>,
+    /// The numbers of it, which are looked at before it is locked.
+    appended: AtomicU64,
+    kept: AtomicU64,
+    limit: AtomicU64,
+    failed: AtomicIn<FailureOf<G>>,
     /// How many passes have ended.
     ends: AtomicU64,
     /// How many sessions sleep until a pass ends, or are about to.
@@ -55,9 +61,10 @@ pub struct KeptPlace<N: Keeping> {
     ended: AtomicBool,
 }
 
-impl<N: Keeping> Drop for KeptPlace<N> {
+impl<G: Progress> Drop for KeptPlace<G> {
     fn drop(self) {
         let KeptPlace {
+            progress: _,
             appended: _,
             kept: _,
             limit: _,
@@ -73,15 +80,14 @@ impl<N: Keeping> Drop for KeptPlace<N> {
     }
 }
 
-impl<N: Keeping> KeptPlace<N> {
-    /// No entry is appended yet, and numbers up to this limit may be shown.
-    pub fn new(limit: u64) -> KeptPlace<N>
-        requires limit { N.is_limit limit }
-    {
+impl<G: Progress> KeptPlace<G> {
+    /// Of a journal that has come so far.
+    pub fn new(progress: &G) -> KeptPlace<G> {
         KeptPlace {
-            appended: AtomicIn::new(0),
-            kept: AtomicIn::new(0),
-            limit: AtomicIn::new(limit),
+            progress: Mutex::new(progress.again()),
+            appended: AtomicU64::new(progress.appended()),
+            kept: AtomicU64::new(progress.kept()),
+            limit: AtomicU64::new(progress.limit()),
             failed: AtomicIn::new(0),
             ends: AtomicU64::new(0),
             sleepers: AtomicU64::new(0),
@@ -110,18 +116,17 @@ impl<N: Keeping> KeptPlace<N> {
         self.begun.load(SeqCst)
     }
 
-    /// Says that the entries up to this place are appended. In a pass.
-    pub fn append_up_to(&self, place: u64)
-        requires appended { 0 < place → N.is_appended place }
-    {
-        self.appended.store(place, SeqCst);
+    /// Says how far the journal has come. In a pass.
+    pub fn say<X: Wait>(&self, rt: &X, progress: &G) {
+        *self.progress.lock(rt) = progress.again();
+        self.appended.store(progress.appended(), SeqCst);
+        self.kept.store(progress.kept(), SeqCst);
+        self.limit.store(progress.limit(), SeqCst);
     }
 
-    /// Says that the entries up to this place are kept. In a pass, behind its sync.
-    pub fn keep_up_to(&self, place: u64)
-        requires kept { 0 < place → N.is_kept place }
-    {
-        self.kept.store(place, SeqCst);
+    /// Says how far the journal has come by a sync. In a pass, behind it.
+    pub fn say_synced<X: Wait>(&self, rt: &X, progress: &G) {
+        self.say(rt, progress);
         self.gathering.expect_all();
     }
 
@@ -130,16 +135,9 @@ impl<N: Keeping> KeptPlace<N> {
         self.gathering.gather();
     }
 
-    /// Says that update numbers up to this limit may be shown. In a pass.
-    pub fn show_up_to(&self, limit: u64)
-        requires limit { N.is_limit limit }
-    {
-        self.limit.store(limit, SeqCst);
-    }
-
     /// Says that the journal has failed, to all that wait and to each write until it is mended.
     pub fn fail(&self)
-        requires failed { N.has_failed }
+        requires failed { G.has_failed }
     {
         self.failed.store(1, SeqCst);
         self.end_pass();
@@ -160,36 +158,87 @@ impl<N: Keeping> KeptPlace<N> {
 
     /// Whether the journal has failed.
     pub fn has_failed(&self) -> bool
-        ensures failed { result ≡ true → N.has_failed }
+        ensures failed { result ≡ true → G.has_failed }
     {
         self.failed.load(SeqCst) > 0
     }
 
-    /// Waits until what has so many entries and this update number may be shown. Passes are made here, unless somebody else
-    /// makes one.
+    /// Waits until all that the session has seen may be shown, and learns how far the journal has come then. Passes are made here,
+    /// unless somebody else makes one. Where enough is known already, nobody is asked.
     ///
     /// # Errors
     ///
     /// [`NotShown::Failed`] where the journal has failed, and [`NotShown::Refused`] where passes were refused for about a
     /// second.
-    pub fn wait_for<X: Wait, P: Passes<X>>(
+    pub fn wait_for<S: Viewer, X: Wait, P: Passes<X>>(
         &self,
         rt: &X,
         passes: &P,
+        session: &S,
+        known: &mut G,
+        awaits: bool,
+    ) -> Result<(), NotShown>
+        ensures shown { IfOk result (λ _. IsShown G.is_appended G.is_kept G.is_limit awaits
+            (length (S.known session.now).seen) (update_seq_of (S.known session.now)) (G.journaled known.new)) }
+        ensures learns { IsPrefix (G.journaled known.old) (G.journaled known.new) }
+        ensures failed { result ≡ Err not_shown.Failed → G.has_failed }
+    {
+        let number = session.update_seq();
+        let place = session.place();
+        if known.covers(place, number, awaits) {
+            return Ok(());
+        }
+        if !self.covers(place, number, awaits) {
+            if awaits {
+                self.gathering.begin_wait();
+            }
+            self.wait_by_passes(rt, passes, place, number, awaits)?;
+        }
+        self.learn(rt, known, place, number, awaits)
+    }
+
+    /// Waits until all that the session has seen may be shown, as long as that takes, or until the journal has failed. It learns how
+    /// far the journal has come then.
+    pub fn wait_until_shown<S: Viewer, X: Wait, P: Passes<X>>(
+        &self,
+        rt: &X,
+        passes: &P,
+        session: &S,
+        known: &mut G,
+        awaits: bool,
+    )
+        ensures shown { IsShown G.is_appended G.is_kept G.is_limit awaits
+            (length (S.known session.now).seen) (update_seq_of (S.known session.now)) (G.journaled known.new) ⊎ G.has_failed }
+        ensures learns { IsPrefix (G.journaled known.old) (G.journaled known.new) }
+    {
+        for _ in rt.forever() {
+            match self.wait_for(rt, passes, session, known, awaits) {
+                Ok(()) => return,
+                Err(NotShown::Failed) => return,
+                Err(NotShown::Refused) => {}
+            }
+        }
+        unreachable!()
+    }
+
+    /// Learns how far the journal has come, which is far enough for what has so many entries and this update number to be shown.
+    fn learn<X: Wait>(
+        &self,
+        rt: &X,
+        known: &mut G,
         place: u64,
         number: u64,
         awaits: bool,
     ) -> Result<(), NotShown>
-        ensures shown { IfOk result (λ _. IsShown N.is_appended N.is_kept N.is_limit awaits place number) }
-        ensures failed { result ≡ Err not_shown.Failed → N.has_failed }
+        ensures shown { IfOk result (λ _. IsShown G.is_appended G.is_kept G.is_limit awaits place number (G.journaled known.new)) }
+        ensures learns { IsPrefix (G.journaled known.old) (G.journaled known.new) }
+        ensures failed { result ≡ Err not_shown.Failed → G.has_failed }
     {
-        if self.covers(place, number, awaits) {
-            return Ok(());
+        known.learn(&self.progress.lock(rt));
+        if !known.covers(place, number, awaits) {
+            return Err(NotShown::Refused);
         }
-        if awaits {
-            self.gathering.begin_wait();
-        }
-        self.wait_by_passes(rt, passes, place, number, awaits)
+        Ok(())
     }
 
     /// Makes passes, or waits for those of others, until what has so many entries and this update number may be shown.
@@ -201,8 +250,7 @@ impl<N: Keeping> KeptPlace<N> {
         number: u64,
         awaits: bool,
     ) -> Result<(), NotShown>
-        ensures shown { IfOk result (λ _. IsShown N.is_appended N.is_kept N.is_limit awaits place number) }
-        ensures failed { result ≡ Err not_shown.Failed → N.has_failed }
+        ensures failed { result ≡ Err not_shown.Failed → G.has_failed }
     {
         let mut refused = 0u32;
         for _ in rt.forever() {
@@ -229,20 +277,14 @@ impl<N: Keeping> KeptPlace<N> {
         unreachable!()
     }
 
-    /// Whether what has so many entries and this update number may be shown.
-    fn covers(&self, place: u64, number: u64, awaits: bool) -> bool
-        ensures { result ≡ true → IsShown N.is_appended N.is_kept N.is_limit awaits place number }
-    {
+    /// Whether the numbers say that what has so many entries and this update number may be shown.
+    fn covers(&self, place: u64, number: u64, awaits: bool) -> bool {
         let appended = self.appended.load(SeqCst);
         let limit = self.limit.load(SeqCst);
         if appended < place || limit < number {
             return false;
         }
-        if !awaits {
-            return true;
-        }
-        let kept = self.kept.load(SeqCst);
-        kept >= place
+        !awaits || self.kept.load(SeqCst) >= place
     }
 
     /// Looks for a while whether a pass has ended since so many had, and then sleeps until one has.

@@ -2,6 +2,7 @@
 use Rattle.std.proofs.Common.{◌≡◌, ◌⊎◌, ◌+◌, ℕ, ◌≤◌, [], ◌++◌, length, true, false, Ok, Err, Some, None, inl, inr, refl, ap, sym, ◌∙◌, subst, arith, append_assoc, length-append}
 use Rattle.std.specs.Prelude.{List, IfSome, OnOk, Option, Result, is_some, option_map, ⊤}
 use Rattle.std.proofs.lemmas.List.{append-nil, nil_from_length}
+use mathlib.Core.List.{IsPrefix}
 use Rattle.model.specs.Command.{Entry}
 use Rattle.model.specs.Database.{Database}
 use Rattle.model.specs.History.{Chronicle, IsLegal, base_of, now, successor}
@@ -13,7 +14,8 @@ use Rattle.journal.specs.Kept.{Kept}
 use Rattle.replay_cli.specs.Successors.{raise}
 use Rattle.journal.specs.Held.{AreDump, BeginsDump, HoldsDump}
 use Rattle.journal.proofs.Grown.{begins_more}
-use Rattle.journal_front.specs.Keeping.{HoldsAll, IsBehind, IsKeptIn, IsLimitIn, IsRound, IsToldIn, Names}
+use Rattle.version_log.proofs.Prefixes.{prefix_self, prefix_trans, prefix_whole}
+use Rattle.journal_front.specs.Keeping.{HoldsAll, IsAccounted, IsBehind, IsKeptIn, IsLimitIn, IsRound, Names}
 
 -- what holds after a call that succeeded gives what follows from it
 pub on_ok : {A E P Q : Type 0} (r : Result A E) → (P → Q) → OnOk r P → OnOk r Q
@@ -80,22 +82,41 @@ holds_behind k known holds = record {
 }
 
 -- what an append or a sync has told, of the dump of all that was seen
-pub told_in : (told : Option (List ℕ) → Type 0) (k : Kept) (known : Known) → HoldsAll k known → told k.taken → IsToldIn told known.base (history_of known)
-told_in told k known all told_so = record { kept = k; holds = all.holds; told_so = told_so; legal = all.legal; base_is = refl }
+pub kept_in : (told : Option (List ℕ) → Type 0) (base : Option Database) (k : Kept) (known : Known) (entries : List Entry) → HoldsAll k known → told k.taken → known.base ≡ base → entries ≡ known.seen → IsKeptIn told base entries
+kept_in told base k known entries all told_so base_is entries_is =
+    subst (λ (b : Option Database). IsKeptIn told b entries) base_is
+    (subst (λ (es : List Entry). IsKeptIn told known.base es) (sym entries_is) (record { kept = k; holds = all.holds; told_so = told_so; legal = all.legal }))
 
-pub kept_in : (told : Option (List ℕ) → Type 0) (k : Kept) (known : Known) (place : ℕ) → HoldsAll k known → told k.taken → place ≡ k.place → IsKeptIn told known.base place
-kept_in told k known place all told_so is = (history_of known, told_in told k known all told_so, is ∙ all.holds.place_is)
+pub limit_in : (told : Option (List ℕ) → Type 0) (base : Option Database) (k : Kept) (known : Known) (limit : ℕ) (entries : List Entry) → HoldsAll k known → told k.taken → known.base ≡ base → entries ≡ known.seen
+    → limit ≤ (now (history_of known)).update_seq + raise → IsLimitIn told base limit entries
+limit_in told base k known limit entries all told_so base_is entries_is within =
+    subst (λ (b : Option Database). IsLimitIn told b limit entries) base_is
+    (subst (λ (es : List Entry). IsLimitIn told known.base limit es) (sym entries_is) (inr (record { kept = k; holds = all.holds; told_so = told_so; legal = all.legal }, within)))
 
-pub limit_in : (told : Option (List ℕ) → Type 0) (k : Kept) (known : Known) (limit : ℕ) → HoldsAll k known → told k.taken → limit ≤ (now (history_of known)).update_seq + raise → IsLimitIn told known.base limit
-limit_in told k known limit all told_so within = inr (history_of known, told_in told k known all told_so, within)
+-- what is known to be in the journal, of a session that has seen more
+pub accounted_more : (base : Option Database) (old new : Known) (journaled : List Entry) → IsAccounted base old journaled → new.base ≡ old.base → IsPrefix old.seen new.seen → IsAccounted base new journaled
+accounted_more base old new journaled accounted same more = record {
+  base_is = same ∙ accounted.base_is;
+  begins = prefix_trans journaled old.seen new.seen accounted.begins more;
+}
 
--- names over the same base
-module _ (said told : Option (List ℕ) → Type 0) (reported : Type 0) (is_appended is_kept is_limit : ℕ → Type 0) (has_failed : Type 0) where
-  pub names_over : (old new : Option Database) → Names said told reported is_appended is_kept is_limit has_failed old → new ≡ old → Names said told reported is_appended is_kept is_limit has_failed new
-  names_over old new names same = subst (λ (b : Option Database). Names said told reported is_appended is_kept is_limit has_failed b) (sym same) names
+-- all that a session has seen
+pub accounted_all : (base : Option Database) (known : Known) (journaled : List Entry) → known.base ≡ base → journaled ≡ known.seen → IsAccounted base known journaled
+accounted_all base known journaled base_is all = record {
+  base_is = base_is;
+  begins = subst (λ (es : List Entry). IsPrefix es known.seen) (sym all) (prefix_self known.seen);
+}
+
+-- as many entries as a session has seen are all of them
+pub all_accounted : (base : Option Database) (known : Known) (journaled : List Entry) (places : ℕ) → IsAccounted base known journaled → places ≡ length journaled → places ≡ length known.seen → journaled ≡ known.seen
+all_accounted base known journaled places accounted journaled_is seen_is = prefix_whole journaled known.seen accounted.begins (omega (arith, journaled_is, seen_is))
+
+-- what was seen more goes on from what was seen
+pub looks_grows : (old new : Known) → Looks old new → IsPrefix old.seen new.seen
+looks_grows old new looks = (looks.more, sym (ap (λ (k : Known). k.seen) looks.extends))
 
 -- names by one of two reports
-pub names_first : (said told : Option (List ℕ) → Type 0) (one other : Type 0) (is_appended is_kept is_limit : ℕ → Type 0) (has_failed : Type 0) (base : Option Database)
+pub names_first : (said told : Option (List ℕ) → Type 0) (one other : Type 0) (is_appended is_kept : List Entry → Type 0) (is_limit : ℕ → List Entry → Type 0) (has_failed : Type 0) (base : Option Database)
     → Names said told (one ⊎ other) is_appended is_kept is_limit has_failed base → Names said told one is_appended is_kept is_limit has_failed base
 names_first said told one other is_appended is_kept is_limit has_failed base names =
     record { appended = names.appended; kept = names.kept; limit = names.limit; failed = λ reported. names.failed (inl reported) }

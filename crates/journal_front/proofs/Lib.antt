@@ -1,4 +1,5 @@
 pub mod Crossing
 pub mod Ending
 pub mod Keeping
+pub mod Progress
 pub mod Served

@@ -6,10 +6,10 @@ ghost use Rattle.journal_front.specs.Server.{ClosesKept};
 
 use crate::completing::complete;
 use crate::epochs::Epoch;
+use crate::naming::Keeping;
 use crate::notices::Notices;
 use crate::pen::Left;
 use crate::service::Service;
-use durable_calls::Keeping;
 use http_front::Running;
 use journal::{Appended, Journal};
 use session_api::Viewer;

@@ -5,10 +5,10 @@ ghost use Rattle.journal.specs.Held.{BeginsDump, HoldsDump};
 ghost use Rattle.journal.specs.declared.fault.JournalFault.TheVariants as fault;
 ghost use Rattle.journal_front.specs.Server.{EndsWhole, syncs};
 
+use crate::naming::Keeping;
 use crate::notices::Notices;
 use crate::policy::SyncPolicy;
 use crate::service::Service;
-use durable_calls::Keeping;
 use journal::{Appended, Journal, JournalFault};
 use snapshots::Version;
 use std::alloc::{AllocError, Global};

@@ -4,10 +4,12 @@ ghost use Rattle.std.specs.Time.{instant_nanos};
 ghost use Rattle.journal_front.specs.Server.{sync_nanoseconds};
 
 use crate::epochs::Epochs;
+use crate::journaled::Journaled;
+use crate::naming::Keeping;
 use crate::notices::Notices;
 use crate::retry::Retry;
 use crate::service::Service;
-use durable_calls::{Keeping, KeptPlace};
+use durable_calls::KeptPlace;
 use journal::Appended;
 use std::sync::Wait;
 use std::time::{Clock, Duration, Instant};
@@ -52,7 +54,7 @@ pub(crate) fn keep<
     N: Keeping,
     L: Notices<F>,
     E: Epochs<F>,
->(rt: &R, service: &Service<'_, L>, pen: &P, place: &KeptPlace<N>, epochs: &mut E) {
+>(rt: &R, service: &Service<'_, L>, pen: &P, place: &KeptPlace<Journaled<N>>, epochs: &mut E) {
     let mut synced = Instant::now(rt).ok();
     let mut retry = Retry::new();
     place.begin();

@@ -1,14 +1,16 @@
 //! The pen of a journal, by which one at a time appends to it.
-ghost use Rattle.std.specs.Prelude.{◌≡◌, option_map};
-ghost use Rattle.journal_front.specs.Keeping.{IsBehind, IsRound, Names};
+ghost use Rattle.std.specs.Prelude.{◌≡◌, [], option_map};
+ghost use Rattle.journal_front.specs.Keeping.{IsAccounted, IsBehind, IsRound, Names};
 
 use crate::appending::{pass, sync_all};
 use crate::epochs::{Epoch, Epochs};
+use crate::journaled::{Account, Journaled};
 use crate::keeper::{Turn, Upkeep};
 use crate::mending::rewrite;
+use crate::naming::Keeping;
 use crate::notices::Notices;
 use crate::service::Service;
-use durable_calls::{Keeping, KeptPlace, Pass, Passes};
+use durable_calls::{KeptPlace, Pass, Passes, Progress};
 use journal::{Appended, Journal, JournalFault};
 use session_calls::SeesVersion;
 use std::alloc::Global;
@@ -16,12 +18,13 @@ use std::marker::{Model, PhantomData};
 use std::sync::{Mutex, Wait};
 
 /// What lies under a pen: the journal of an epoch, the session that sees what is to be appended to it, and the next epoch once it has
-/// begun. Contracts see the session and the journal.
+/// begun. Contracts see the session, the journal, and what is known to be in that.
 pub(crate) struct Round<K: SeesVersion, F: Appended, N: Keeping, L: Notices<F>, E: Epochs<F>> {
     session: K,
     journal: Journal<F>,
     next: Option<Epoch<F>>,
-    of: PhantomData<(N, L, E)>,
+    account: Account<N>,
+    of: PhantomData<(L, E)>,
 }
 
 impl<K: SeesVersion + Drop, F: Appended, N: Keeping, L: Notices<F>, E: Epochs<F>> Drop
@@ -31,6 +34,7 @@ impl<K: SeesVersion + Drop, F: Appended, N: Keeping, L: Notices<F>, E: Epochs<F>
             session: _,
             journal: _,
             next: _,
+            account: _,
             of: _,
         } = self;
     }
@@ -38,16 +42,22 @@ impl<K: SeesVersion + Drop, F: Appended, N: Keeping, L: Notices<F>, E: Epochs<F>
 
 impl<K: SeesVersion, F: Appended, N: Keeping, L: Notices<F>, E: Epochs<F>> Model
     for Round<K, F, N, L, E> {
-    ghost use Rattle.std.specs.Prelude.{option_map};
+    ghost use Rattle.std.specs.Prelude.{List, option_map};
+    ghost use Rattle.std.specs.Coded.{codes, coded×};
+    ghost use Rattle.model.specs.JsonCode.{coded_members};
+    ghost use Rattle.model.specs.Command.{Entry};
     ghost use Rattle.journal.specs.Kept.{Kept};
-    ghost use Rattle.journal_front.specs.Keeping.{IsRound, Names};
+    ghost use Rattle.journal_front.specs.Keeping.{IsAccounted, IsRound, Names};
 
-    ghost Value = { K × Kept };
+    ghost Value = { K × (Kept × List Entry) };
 
-    ghost view = { λ r. (r.session, r.journal) };
+    ghost coded = { coded× K.code (Prim.hlevel (codes, coded_members)) };
+
+    ghost view = { λ r. (r.session, (r.journal, r.account)) };
 
     ghost invariant = { λ r.
-        Names F.said F.told L.reported N.is_appended N.is_kept N.is_limit N.has_failed (K.known r.session).base
+        Names F.said F.told L.reported N.is_appended N.is_kept N.is_limit N.has_failed N.base
+        × IsAccounted N.base (K.known r.session) r.account
         × (E.reported → N.has_failed)
         × IsRound N.has_failed (K.known r.session) r.journal (option_map (λ next. next.version.base) r.next) };
 }
@@ -64,8 +74,9 @@ pub(crate) struct Left<K, F: Appended> {
 
 impl<K: SeesVersion, F: Appended, N: Keeping, L: Notices<F>, E: Epochs<F>> Round<K, F, N, L, E> {
     /// Over a journal that is the dump of a beginning of what the session has seen.
-    pub(crate) fn new(session: K, journal: Journal<F>) -> Round<K, F, N, L, E>
-        requires named { Names F.said F.told L.reported N.is_appended N.is_kept N.is_limit N.has_failed (K.known session).base }
+    pub(crate) fn new(session: K, journal: Journal<F>, account: Account<N>) -> Round<K, F, N, L, E>
+        requires named { Names F.said F.told L.reported N.is_appended N.is_kept N.is_limit N.has_failed N.base }
+        requires accounted { IsAccounted N.base (K.known session) account }
         requires unready { E.reported → N.has_failed }
         requires behind { IsBehind journal (K.known session) }
     {
@@ -73,6 +84,7 @@ impl<K: SeesVersion, F: Appended, N: Keeping, L: Notices<F>, E: Epochs<F>> Round
             session,
             journal,
             next: None,
+            account,
             of: PhantomData,
         }
     }
@@ -84,16 +96,32 @@ impl<K: SeesVersion, F: Appended, N: Keeping, L: Notices<F>, E: Epochs<F>> Round
         let _journal = &self.journal;
     }
 
+    /// What was known of the journal at first: that it has no entries.
+    pub(crate) fn at_first(&self) -> Journaled<N>
+        ensures none { result ≡ [] }
+    {
+        self.account.at_first()
+    }
+
+    /// How far the journal is known to have come.
+    pub(crate) fn known(&self) -> Journaled<N>
+        ensures known { result ≡ self.now.1.1 }
+    {
+        self.account.journaled().again()
+    }
+
     /// Its parts.
     pub(crate) fn into_left(self) -> Left<K, F>
         ensures session { result.session ≡ self.0 }
-        ensures journal { result.journal ≡ self.1 }
+        ensures journal { result.journal ≡ self.1.0 }
+        ensures accounted { IsAccounted N.base (K.known result.session) self.1.1 }
         ensures round { IsRound N.has_failed (K.known result.session) result.journal (option_map (λ next. next.version.base) result.next) }
     {
         let Round {
             session,
             journal,
             next,
+            account: _,
             of: _,
         } = self;
         Left {
@@ -105,7 +133,7 @@ impl<K: SeesVersion, F: Appended, N: Keeping, L: Notices<F>, E: Epochs<F>> Round
 
     /// Syncs what the epoch begins with. Where that fails, as where its file could not be made, the journal is broken from the start,
     /// which is reported and said.
-    pub(crate) fn check(&mut self, place: &KeptPlace<N>, notices: &L) {
+    pub(crate) fn check(&mut self, place: &KeptPlace<Journaled<N>>, notices: &L) {
         if self.journal.is_broken() || self.next.is_some() {
             return;
         }
@@ -117,17 +145,26 @@ impl<K: SeesVersion, F: Appended, N: Keeping, L: Notices<F>, E: Epochs<F>> Round
 
     /// A pass: what is new is appended, and with `syncs` made durable, which is said. Where the journal breaks by it, that is
     /// reported and said. While it is broken, or once the next epoch has begun, nothing is done.
-    pub(crate) fn pass(
+    pub(crate) fn pass<R: Wait>(
         &mut self,
         alloc: Global,
-        place: &KeptPlace<N>,
+        rt: &R,
+        place: &KeptPlace<Journaled<N>>,
         notices: &L,
         syncs: bool,
     ) -> Pass {
         if self.journal.is_broken() || self.next.is_some() {
             return Pass::Made;
         }
-        match pass(alloc, &mut self.session, &mut self.journal, place, syncs) {
+        match pass(
+            alloc,
+            rt,
+            &mut self.session,
+            &mut self.journal,
+            place,
+            &mut self.account,
+            syncs,
+        ) {
             Ok(()) => Pass::Made,
             Err(JournalFault::Memory) => Pass::Refused,
             Err(JournalFault::Failed) => {
@@ -139,27 +176,41 @@ impl<K: SeesVersion, F: Appended, N: Keeping, L: Notices<F>, E: Epochs<F>> Round
     }
 
     /// What a disk is asked for besides passes: the journal anew where it is broken, and the next epoch where the history is full.
-    pub(crate) fn settle(
+    pub(crate) fn settle<R: Wait>(
         &mut self,
+        rt: &R,
         service: &Service<'_, L>,
-        place: &KeptPlace<N>,
+        place: &KeptPlace<Journaled<N>>,
         epochs: &mut E,
     ) -> Turn {
         if self.next.is_some() {
             return Turn::Over;
         }
         if self.journal.is_broken() {
-            return self.mend(service, place, epochs);
+            return self.mend(rt, service, place, epochs);
         }
-        self.end_epoch(service, place, epochs)
+        self.end_epoch(rt, service, place, epochs)
     }
 
     /// Writes a broken journal anew, with all that the session sees, and says so.
-    fn mend(&mut self, service: &Service<'_, L>, place: &KeptPlace<N>, epochs: &mut E) -> Turn {
+    fn mend<R: Wait>(
+        &mut self,
+        rt: &R,
+        service: &Service<'_, L>,
+        place: &KeptPlace<Journaled<N>>,
+        epochs: &mut E,
+    ) -> Turn {
         if self.next.is_some() || !self.journal.is_broken() {
             return Turn::Done;
         }
-        match rewrite(&mut self.session, &self.journal, place, epochs) {
+        match rewrite(
+            rt,
+            &mut self.session,
+            &self.journal,
+            place,
+            &mut self.account,
+            epochs,
+        ) {
             Some(whole) => {
                 self.journal = whole;
                 place.mend();
@@ -172,10 +223,11 @@ impl<K: SeesVersion, F: Appended, N: Keeping, L: Notices<F>, E: Epochs<F>> Round
 
     /// Begins the next epoch where the history is full, and ends this one, after all of it is made durable. Where none can begin,
     /// or the journal breaks by the sync, that is reported and said.
-    fn end_epoch(
+    fn end_epoch<R: Wait>(
         &mut self,
+        rt: &R,
         service: &Service<'_, L>,
-        place: &KeptPlace<N>,
+        place: &KeptPlace<Journaled<N>>,
         epochs: &mut E,
     ) -> Turn {
         if self.journal.is_broken() || self.next.is_some() {
@@ -185,7 +237,18 @@ impl<K: SeesVersion, F: Appended, N: Keeping, L: Notices<F>, E: Epochs<F>> Round
         if seen < service.max_places as u64 || self.journal.place() != seen {
             return Turn::Done;
         }
-        if sync_all(&self.session, &mut self.journal, place).is_err() {
+        if self.account.places() != seen {
+            return Turn::Done;
+        }
+        if sync_all(
+            rt,
+            &self.session,
+            &mut self.journal,
+            place,
+            &mut self.account,
+        )
+        .is_err()
+        {
             service.notices.failed(&self.journal);
             place.fail();
             return Turn::Done;
@@ -205,7 +268,7 @@ impl<K: SeesVersion, F: Appended, N: Keeping, L: Notices<F>, E: Epochs<F>> Round
 pub(crate) struct Pen<'s, K: SeesVersion, F: Appended, N: Keeping, L: Notices<F>, E: Epochs<F>> {
     alloc: Global,
     round: Mutex<Round<K, F, N, L, E>>,
-    place: &'s KeptPlace<N>,
+    place: &'s KeptPlace<Journaled<N>>,
     notices: &'s L,
 }
 
@@ -233,7 +296,7 @@ impl<'s, K: SeesVersion, F: Appended, N: Keeping, L: Notices<F>, E: Epochs<F>> P
     pub(crate) fn new(
         alloc: Global,
         round: Round<K, F, N, L, E>,
-        place: &'s KeptPlace<N>,
+        place: &'s KeptPlace<Journaled<N>>,
         notices: &'s L,
     ) -> Pen<'s, K, F, N, L, E> {
         Pen {
@@ -242,6 +305,12 @@ impl<'s, K: SeesVersion, F: Appended, N: Keeping, L: Notices<F>, E: Epochs<F>> P
             place,
             notices,
         }
+    }
+
+    /// How far the journal is known to have come.
+    pub(crate) fn known<R: Wait>(&self, rt: &R) -> Journaled<N> {
+        let round = self.round.lock(rt);
+        round.known()
     }
 
     /// What lies under it.
@@ -272,9 +341,9 @@ impl<'s, R: Wait, K: SeesVersion, F: Appended, N: Keeping, L: Notices<F>, E: Epo
         tries: bool,
     ) -> Turn {
         let mut round = self.round.lock(rt);
-        round.pass(self.alloc, self.place, self.notices, syncs);
+        round.pass(self.alloc, rt, self.place, self.notices, syncs);
         let turn = if tries {
-            round.settle(service, self.place, epochs)
+            round.settle(rt, service, self.place, epochs)
         } else {
             Turn::Done
         };
@@ -284,16 +353,16 @@ impl<'s, R: Wait, K: SeesVersion, F: Appended, N: Keeping, L: Notices<F>, E: Epo
     }
 }
 
-impl<X, K: SeesVersion, F: Appended, N: Keeping, L: Notices<F>, E: Epochs<F>> Passes<X>
+impl<X: Wait, K: SeesVersion, F: Appended, N: Keeping, L: Notices<F>, E: Epochs<F>> Passes<X>
     for Pen<'_, K, F, N, L, E> {
-    fn try_pass(&self, _context: &X, syncs: bool) -> Pass {
+    fn try_pass(&self, context: &X, syncs: bool) -> Pass {
         let Some(mut round) = self.round.try_lock() else {
             return Pass::Busy;
         };
         if syncs {
             self.place.gather();
         }
-        let pass = round.pass(self.alloc, self.place, self.notices, syncs);
+        let pass = round.pass(self.alloc, context, self.place, self.notices, syncs);
         drop(round);
         self.place.end_pass();
         pass

@@ -10,11 +10,13 @@ ghost use Rattle.journal_front.specs.Server.{EndsEpoch, EndsEpochOver, ServesEpo
 
 use crate::closing::close_kept;
 use crate::epochs::{Epoch, Epochs};
+use crate::journaled::Account;
+use crate::naming::Keeping;
 use crate::notices::Notices;
 use crate::pen::Round;
 use crate::service::Service;
 use crate::serving::serve_kept;
-use durable_calls::{Keeping, KeptPlace};
+use durable_calls::KeptPlace;
 use history_lock::Opened;
 use http_front::{Running, SERVER_TURNS, server_config};
 use http_workers::{Watch, Workers};
@@ -25,6 +27,7 @@ use std::sync::Wait;
 use std::thread::Threads;
 use std::time::Clock;
 use updater_state::Opening;
+use version_log::Opened as OpenedLog;
 
 /// Serves a database, each worker with a session of its own, while a journal keeps its history. When the history is full the
 /// next epoch begins: what the workers have begun is answered, their connections end, and clients come again.
@@ -87,7 +90,15 @@ fn serve_epoch<
         return None;
     };
     serve_running::<Brand, Brand, &A, A, F, L, E>(
-        service, workers, opened, journal, limit, epochs, rt, rt,
+        service,
+        workers,
+        opened,
+        journal,
+        OpenedLog::new(),
+        limit,
+        epochs,
+        rt,
+        rt,
     )
 }
 
@@ -106,6 +117,7 @@ fn serve_running<
     workers: &Workers<'_, L>,
     opened: Opened,
     journal: Journal<F>,
+    log: OpenedLog,
     limit: u64,
     epochs: &mut E,
     rt: &A,
@@ -113,13 +125,16 @@ fn serve_running<
 ) -> Option<(Journal<F>, Option<Epoch<F>>)>
     requires named { IsNamed J.book J.base J.table J.capacity J.sessions J.config opened }
     requires some { 0 < opened.config.sessions }
-    requires names { Names F.said F.told (L.reported ⊎ E.reported) N.is_appended N.is_kept N.is_limit N.has_failed J.base }
+    requires names { Names F.said F.told (L.reported ⊎ E.reported) N.is_appended N.is_kept N.is_limit N.has_failed N.base }
+    requires log { log ≡ N.book }
+    requires base { N.base ≡ J.base }
     requires limit { limit ≡ (base_of J.base).update_seq }
     requires held { HoldsDump journal (begun J.base) }
     ensures { IfSome result (λ left. EndsEpochOver opened.config N.is_appended N.is_kept N.is_limit N.has_failed service.now.policy
         server_turns service.now.terms.connections J.base left.0
         (option_map (λ next. next.version.base) left.1)) }
 {
+    let account = Account::open(log, limit);
     let Some((running, mut sessions)) = Running::<R, J, A>::start(
         rt.alloc(),
         writer_rt,
@@ -132,8 +147,8 @@ fn serve_running<
     let Some(keeper) = sessions.pop() else {
         return None;
     };
-    let mut round = Round::new(keeper, journal);
-    let place = KeptPlace::new(limit);
+    let place = KeptPlace::new(account.journaled());
+    let mut round = Round::new(keeper, journal, account);
     round.check(&place, service.notices);
     let Some((sessions, left)) = serve_kept::<A, _, _, N, F, L, E>(
         service,

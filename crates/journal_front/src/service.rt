@@ -1,14 +1,13 @@
 //! How a database is served whose history a journal keeps.
 
 use crate::policy::SyncPolicy;
-use http_workers::Terms;
-use std::net::TcpListener;
+use http_workers::{Entrance, Terms};
 
 /// How a database is served whose history a journal keeps.
 #[derive(Drop)]
 pub struct Service<'s, L> {
     /// Where connections come to.
-    pub listener: &'s TcpListener,
+    pub entrance: &'s Entrance,
     /// How many workers there are, 1 to 63: the keeper has a session too.
     pub workers: u16,
     /// The most entries of an epoch.

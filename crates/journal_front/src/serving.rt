@@ -1,16 +1,18 @@
 //! Workers that serve connections, and beside them the keeper of the journal.
 ghost use Rattle.std.specs.Prelude.{◌≡◌, ◌<◌, ◌≤◌, ◌+◌, ℕ, [], length, option_map, slice_index_or, vec_capacity, IfSome};
-ghost use Rattle.http_workers.specs.Worker.{ServesSome};
+ghost use Rattle.http_workers.specs.Worker.{ServesFew};
 ghost use Rattle.journal_front.specs.Keeping.{IsRound};
 ghost use Rattle.journal_front.specs.Server.{ServesDurably, awaits};
 
 use crate::epochs::Epochs;
+use crate::journaled::Journaled;
 use crate::keeper::{Upkeep, keep};
+use crate::naming::Keeping;
 use crate::notices::Notices;
 use crate::pen::{Left, Pen, Round};
 use crate::service::Service;
 use crate::waiting::{all_durable, all_inner};
-use durable_calls::{Keeping, KeptPlace};
+use durable_calls::KeptPlace;
 use http_turns::Setting;
 use http_workers::{Watch, Workers, listen};
 use journal::Appended;
@@ -24,8 +26,8 @@ use std::time::{Clock, Duration};
 /// So many seconds the keeper is waited for at its start.
 const KEEPER_SECONDS: u64 = 10;
 
-/// Serves connections by sessions that answer what a journal has, until no more entries come. It answers the sessions, with room
-/// for one more, and what then lies under the pen. It answers nothing where memory was refused.
+/// Serves connections by sessions that answer what a journal has, until no more entries come. At first nothing is known to be in
+/// it. It answers the sessions, with room for one more, and what then lies under the pen. It answers nothing where memory was refused.
 pub(crate) fn serve_kept<
     A: AllocGlobal + Threads + Wait + Clock + Sync,
     S: Calls<A> + Send + Drop,
@@ -40,7 +42,7 @@ pub(crate) fn serve_kept<
     setting: &Setting<'_, A>,
     sessions: Vec<S>,
     round: Round<K, F, N, L, E>,
-    place: &KeptPlace<N>,
+    place: &KeptPlace<Journaled<N>>,
     epochs: &mut E,
     rt: &A,
 ) -> Option<(Vec<S>, Left<K, F>)>
@@ -48,7 +50,7 @@ where
     S::Opened: Send,
     K::Opened: Send,
     ensures served { IfSome result (λ served. ServesDurably S.goes S.known N.is_appended N.is_kept N.is_limit N.has_failed
-        (awaits service.now.policy) setting.now service.now.terms.connections sessions.items served.0.items) }
+        (awaits service.now.policy) setting.now service.now.terms.connections (K.known served.1.session).seen sessions.items served.0.items) }
     ensures room { IfSome result (λ served. length served.0.items + 1 ≤ vec_capacity served.0) }
     ensures round { IfSome result (λ served. IsRound N.has_failed (K.known served.1.session) served.1.journal
         (option_map (λ next. next.version.base) served.1.next)) }
@@ -78,7 +80,7 @@ fn serve_by_pen<
     setting: &Setting<'_, A>,
     sessions: Vec<S>,
     round: Round<K, F, N, L, E>,
-    place: &KeptPlace<N>,
+    place: &KeptPlace<Journaled<N>>,
     room: Vec<S>,
     epochs: &mut E,
     rt: &A,
@@ -88,22 +90,39 @@ where
     K::Opened: Send,
     requires room { (room.items ≡ []) × (length sessions.items + 1 ≤ vec_capacity room) }
     ensures served { IfSome result (λ served. ServesDurably S.goes S.known N.is_appended N.is_kept N.is_limit N.has_failed
-        (awaits service.now.policy) setting.now service.now.terms.connections sessions.items served.0.items) }
+        (awaits service.now.policy) setting.now service.now.terms.connections (K.known served.1.session).seen sessions.items served.0.items) }
     ensures room { IfSome result (λ served. length served.0.items + 1 ≤ vec_capacity served.0) }
     ensures round { IfSome result (λ served. IsRound N.has_failed (K.known served.1.session) served.1.journal
         (option_map (λ next. next.version.base) served.1.next)) }
 {
     let alloc = rt.alloc();
     round.recall();
+    let known = round.at_first();
     let pen = Pen::new(alloc, round, place, service.notices);
-    let Ok(durable) = all_durable(alloc, sessions, place, &pen, rt, service.policy.awaits()) else {
+    let Ok(durable) = all_durable(
+        alloc,
+        sessions,
+        place,
+        &pen,
+        rt,
+        service.policy.awaits(),
+        &known,
+    ) else {
         return None;
     };
     let served = serve_beside::<A, _, _, F, N, L, E>(
         service, workers, setting, durable, &pen, place, epochs, rt,
     );
-    let sessions = all_inner(served, room);
-    Some((sessions, pen.into_round().into_left()))
+    let last = pen.known(rt);
+    let Some(sessions) = all_inner(served, &last, room) else {
+        return None;
+    };
+    let round = pen.into_round();
+    let journaled = round.known();
+    if !last.precedes(&journaled) {
+        return None;
+    }
+    Some((sessions, round.into_left()))
 }
 
 /// Serves connections by sessions, while the keeper does what time brings.
@@ -121,7 +140,7 @@ fn serve_beside<
     setting: &Setting<'_, A>,
     sessions: Vec<S>,
     pen: &P,
-    place: &KeptPlace<N>,
+    place: &KeptPlace<Journaled<N>>,
     epochs: &mut E,
     rt: &A,
 ) -> Vec<S>
@@ -130,7 +149,7 @@ where
     requires reported { L.reported → N.has_failed }
     ensures same_number { length result.items ≡ length sessions.items }
     ensures each { (i : ℕ) (d : S) → i < length sessions.items
-        → ServesSome S.goes S.known setting.now service.now.terms.connections
+        → ServesFew S.goes S.known setting.now service.now.terms.connections
         (slice_index_or sessions.items i d) (slice_index_or result.items i d) }
 {
     let ((), served) = thread::join(
@@ -155,7 +174,7 @@ fn serve_all<
     workers: &Workers<'_, L>,
     setting: &Setting<'_, A>,
     sessions: Vec<S>,
-    place: &KeptPlace<N>,
+    place: &KeptPlace<Journaled<N>>,
     rt: &A,
 ) -> Vec<S>
 where
@@ -163,7 +182,7 @@ where
     requires reported { L.reported → N.has_failed }
     ensures same_number { length result.items ≡ length sessions.items }
     ensures each { (i : ℕ) (d : S) → i < length sessions.items
-        → ServesSome S.goes S.known setting.now service.now.terms.connections
+        → ServesFew S.goes S.known setting.now service.now.terms.connections
         (slice_index_or sessions.items i d) (slice_index_or result.items i d) }
 {
     if !place.wait_for_keeper(rt, Duration::from_secs(KEEPER_SECONDS)) {
@@ -173,7 +192,7 @@ where
     let mut sessions = sessions;
     listen(
         rt,
-        service.listener,
+        service.entrance,
         sessions.as_mut_slice(),
         service.terms,
         Some(place.over()),

@@ -3,7 +3,7 @@ use Rattle.model.specs.History.{Chronicle, Extends}
 use Rattle.journal.specs.Held.{BeginsDump, HoldsDump}
 use Rattle.journal.specs.Kept.{Kept}
 use Rattle.journal_front.specs.Keeping.{IsBehind}
-use Rattle.journal_front.proofs.Keeping.{behind_begins, looked, looks_behind, on_ok}
+use Rattle.journal_front.proofs.Keeping.{behind_begins, looked, looks_behind, looks_grows, on_ok}
 use Rattle.journal_front.proofs.appending.append_seen.Goals as goal
 
 pub returns-then-is_err-clause-begins : goal.returns-then-is_err-clause-begins
@@ -34,3 +34,15 @@ returns-clause-all g c =
     let behind = looks_behind c.args.journal.now old new c.requires.behind (looked old new c.refresh.result c.refresh.ensures.learns) in
     on_ok c.append.result (λ holds. record { holds = subst (λ (h : Chronicle). HoldsDump c.append.new.self h) c.version.ensures.version holds; legal = c.place-recalled.ensures.legal })
     (c.append.ensures.held behind.history behind.holds (subst (λ (h : Chronicle). Extends h behind.history) (sym c.version.ensures.version) behind.extends))
+
+pub returns-then-is_err-clause-grows : goal.returns-then-is_err-clause-grows
+returns-then-is_err-clause-grows g c =
+    let old = g.K.Viewer.known c.args.session.now in
+    let new = g.K.Viewer.known c.refresh.new.self in
+    looks_grows old new (looked old new c.refresh.result c.refresh.ensures.learns)
+
+pub returns-clause-grows : goal.returns-clause-grows
+returns-clause-grows g c =
+    let old = g.K.Viewer.known c.args.session.now in
+    let new = g.K.Viewer.known c.refresh.new.self in
+    looks_grows old new (looked old new c.refresh.result c.refresh.ensures.learns)

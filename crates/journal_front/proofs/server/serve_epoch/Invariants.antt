@@ -12,6 +12,10 @@ ghosts-serve_running-J-Queued g a = record { table = a.opened.table; capacity = 
 abbrev pub ghosts-serve_running-J-Opening : goal.ghosts-serve_running-J-Opening
 ghosts-serve_running-J-Opening g a = record { config = a.opened.config }
 
+-- the log of what the journal has, which was just opened
+abbrev pub ghosts-serve_running-N-Naming : goal.ghosts-serve_running-N-Naming
+ghosts-serve_running-N-Naming g a = record { book = a.log; base = a.opened.base }
+
 -- what the journal's appends have said and its syncs have told of it, and what was reported
 abbrev pub ghosts-serve_running-N-Keeping : goal.ghosts-serve_running-N-Keeping
 ghosts-serve_running-N-Keeping g a = record {
