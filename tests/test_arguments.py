@@ -55,8 +55,9 @@ HELP_OF_ONCE = ONCE + "\n\nUsage: couchd once\n" + OPTIONS
 OPTIONS_OF_SERVE = (
     "\nOptions:\n"
     "      --port <PORT>                The port, or 0 for any that is free [default: 5984]\n"
-    "      --workers <WORKERS>          How many connections are served at a time [default: 4]\n"
+    "      --workers <WORKERS>          How many requests are served at a time [default: 4]\n"
     "      --connections <CONNECTIONS>  How many connections each worker serves before it ends, or 0 for no end [default: 0]\n"
+    "      --clients <CLIENTS>          How many connections are open at most, unless a number ends each worker [default: 4096]\n"
     "      --idle <SECONDS>             How long a connection may send nothing of a next request [default: 15]\n"
     "      --patience <SECONDS>         How long a request may take to come, and a response to be taken [default: 60]\n"
     "      --max-places <PLACES>        How many entries a history may have [default: 1000000]\n"
@@ -243,6 +244,8 @@ REFUSED = [
     (["serve", "--workers=65"], out_of_range("65", "workers", 1, 64)),
     (["serve", "--connections", "4294967296"], out_of_range("4294967296", "connections", 0, 4294967295)),
     (["serve", "--connections", "many"], no_number("many", "connections")),
+    (["serve", "--clients", "0"], out_of_range("0", "clients", 1, 65536)),
+    (["serve", "--clients", "65537"], out_of_range("65537", "clients", 1, 65536)),
     (["serve", "--port"], "error: a value is required for '--port <PORT>' but none was supplied\n" + HINT),
     (
         ["serve", "--port", "1", "--port", "2"],

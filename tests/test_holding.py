@@ -2,8 +2,8 @@
 
     python3 tests/test_holding.py [--workers N] [--idle SECONDS] [--patience SECONDS] [COUCHD]
 
-As many clients as there are workers say nothing, send a byte at a time, or never read; one more client is served as soon as their
-time is over. Others are refused and go on sending, or end by `Connection: close` and stay. Clients that keep their connections,
+As many clients as there are workers send a byte at a time, or never read, or say nothing to workers that accept connections
+themselves; one more client is served as soon as their time is over, and beside others that say nothing at once. Others are refused and go on sending, or end by `Connection: close` and stay. Clients that keep their connections,
 more than there are workers, are served in turn. Long polls and feeds go on while nothing comes, and so does a client whose pauses
 are short. A server that gets fewer threads than it wants says how many workers serve. The short form has 4 workers; the times of
 the program and as many workers as it may have are given so: --workers 64 --idle 15 --patience 60.
@@ -33,9 +33,9 @@ class Times:
     def __init__(self, given):
         self.program, self.workers, self.idle, self.patience = given.couchd, given.workers, given.idle, given.patience
 
-    def server(self, workers=None):
+    def server(self, workers=None, connections=0):
         words = ["--workers", str(workers or self.workers), "--idle", str(self.idle), "--patience", str(self.patience)]
-        return Server(self.program, *words)
+        return Server(self.program, *words, "--connections", str(connections))
 
 
 def plain(port, data=b"", buffer=None):
@@ -94,9 +94,19 @@ def say_nothing(checks, times):
     with times.server() as server:
         held = [plain(server.port) for _ in range(times.workers)]
         time.sleep(0.1)
-        waits(checks, "clients that say nothing", server.port, times.idle * 0.5, times.idle)
+        waits(checks, "clients that say nothing", server.port, 0, 0)
         for one in held:
             checks.check(end_of(one) == b"", "a client that said nothing got an answer")
+
+
+def say_nothing_to_workers(checks, times):
+    """Workers that accept connections themselves have each until it ends."""
+    with times.server(connections=1000) as server:
+        held = [plain(server.port) for _ in range(times.workers)]
+        time.sleep(0.1)
+        waits(checks, "clients that say nothing to workers", server.port, times.idle * 0.5, times.idle)
+        for one in held:
+            checks.check(end_of(one) == b"", "a client that said nothing to a worker got an answer")
 
 
 def send_slowly(checks, times, what, beginning):
@@ -287,8 +297,9 @@ FEW = re.compile(r"couchd: (\d+) of 4 workers serve: threads or memory are refus
 
 
 def limited(times, kilobytes):
-    """A server with so much room for addresses, which wants 4 workers."""
-    return Server(times.program, "--workers", "4", limits={"as": kilobytes * 1024}, seconds=SLACK)
+    """A server with so much room for addresses, which wants 4 workers that accept connections themselves."""
+    words = ["--workers", "4", "--connections", "1000000"]
+    return Server(times.program, *words, limits={"as": kilobytes * 1024}, seconds=SLACK)
 
 
 def serving_of(checks, server, kilobytes):
@@ -347,6 +358,7 @@ def main():
     times = Times(reader.parse_args())
     steps = [
         (say_nothing,),
+        (say_nothing_to_workers,),
         (send_slowly, "a head", b"GET /"),
         (send_slowly, "a body", b"PUT /db/a HTTP/1.1\r\nHost: db\r\nContent-Length: 5000\r\n\r\n"),
         (never_read,),

@@ -132,7 +132,12 @@ def check_rules(checks, couchd):
 
 def check_answers(checks, couchd):
     """What passes is answered as by a server that looks at no origin, but for the lines."""
-    with Server(couchd) as plain, Server(couchd, *ALLOWED) as own, Server(couchd, *ALLOWED) as server:
+    one_worker = ["--workers", "1"]  # another one would answer `/` at the position that it has seen
+    with (
+        Server(couchd, *one_worker) as plain,
+        Server(couchd, *ALLOWED, *one_worker) as own,
+        Server(couchd, *ALLOWED, *one_worker) as server,
+    ):
         for method, target, body in SEED + ASKED:
             wanted = one(plain.port, method, target, body)
             for port, headers, made in ((own.port, [], wanted), (server.port, ["Origin: " + APP], extended(wanted, APP))):

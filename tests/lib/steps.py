@@ -66,6 +66,7 @@ STEPS = [
     python("tests/test_trees.py", PROGRAMS),
     python("tests/test_sockets.py", PROGRAMS),
     python("tests/test_holding.py", PROGRAMS),
+    python("tests/test_waiting.py", PROGRAMS),
     python("tests/test_log.py", PROGRAMS),
     python("tests/test_journal.py", PROGRAMS),
     python("tests/test_durability.py", PROGRAMS, COMPILER),

@@ -7,13 +7,17 @@ use Rattle.command_line.specs.Journal.{with_journal, IsJournalOf}
 use Rattle.command_line.specs.Numbers.{number_option, IsNumberOf}
 use Rattle.command_line.specs.declared.serving.Serving.{Serving}
 
--- `couchd serve` with its port and what is counted
-abbrev pub serve_with_counts : App
-serve_with_counts =
+-- `couchd serve` with its port and its workers
+abbrev pub serve_with_workers : App
+serve_with_workers =
     with_rule (with_rule (with_rule (new_app (codes "serve"))
     (number_option (codes "port") 0 65535 (codes "5984")))
     (number_option (codes "workers") 1 64 (codes "4")))
     (number_option (codes "connections") 0 4294967295 (codes "0"))
+
+-- the same with all that is counted
+abbrev pub serve_with_counts : App
+serve_with_counts = with_rule serve_with_workers (number_option (codes "clients") 1 65536 (codes "4096"))
 
 -- the command with the options for its times and its history
 abbrev pub with_bounds : App → App
@@ -35,6 +39,8 @@ pub record HasNumbersOf (given : List Row) (serving : Serving) : Type 0 where
   pub workers_range : (1 ≤ serving.workers) × (serving.workers ≤ 64)
   pub connections : IsNumberOf (first_of (codes "connections") given) 0 serving.connections
   pub connections_range : serving.connections ≤ 4294967295
+  pub clients : IsNumberOf (first_of (codes "clients") given) 4096 serving.clients
+  pub clients_range : (1 ≤ serving.clients) × (serving.clients ≤ 65536)
   pub idle : IsNumberOf (first_of (codes "idle") given) 15 serving.idle
   pub idle_range : (1 ≤ serving.idle) × (serving.idle ≤ 86400)
   pub patience : IsNumberOf (first_of (codes "patience") given) 60 serving.patience

@@ -3,7 +3,7 @@ ghost use Rattle.std.specs.Prelude.{◌≡◌, false, Err, IfOk, IfSome, IfNone,
 ghost use Rattle.clap.specs.Words.{app_of, found_of, rows_of, rule_of};
 ghost use Rattle.clap.specs.declared.builder.command.Command.TheViews.{out-Command as fields_of};
 ghost use Rattle.command_line.specs.Numbers.{number_option};
-ghost use Rattle.command_line.specs.Serve.{serve, serve_with_counts, with_bounds, HasNumbersOf, IsServingOf};
+ghost use Rattle.command_line.specs.Serve.{serve, serve_with_counts, serve_with_workers, with_bounds, HasNumbersOf, IsServingOf};
 
 use crate::browsers::{BrowserOptions, browsers_of, with_browsers};
 use crate::faults::{GivenFault, NO_SESSION, OUT_OF_RANGE};
@@ -21,10 +21,12 @@ const WORKERS_WITH_JOURNAL: u16 = 63;
 pub struct Serving {
     /// The port, or 0 for any that is free.
     pub port: u16,
-    /// How many connections are served at a time, from 1 to 64, or to 63 with a journal.
+    /// How many requests are served at a time, from 1 to 64, or to 63 with a journal.
     pub workers: u16,
-    /// How many connections each worker serves, or 0 for no end.
+    /// How many connections each worker serves one after another, or 0 for no end: then one that waits holds no worker.
     pub connections: u32,
+    /// How many connections are open at most, from 1 to 65,536, where no number of connections ends a worker.
+    pub clients: u32,
     /// So long a connection may send nothing of a next request, in seconds, from 1 to 86,400.
     pub idle: u32,
     /// So long a request may take to come whole, and a response to be taken, in seconds, from 1 to
@@ -56,11 +58,19 @@ fn with_counts<'a>(alloc: Global) -> Result<Command<'a>, AllocError>
     ensures app { IfOk result (λ c. app_of c ≡ serve_with_counts) }
     ensures local { IfOk result (λ c. (fields_of c).has_globals ≡ false) }
 {
+    with_option(with_workers(alloc)?, clients(alloc))
+}
+
+/// The subcommand with its port and its workers.
+fn with_workers<'a>(alloc: Global) -> Result<Command<'a>, AllocError>
+    ensures app { IfOk result (λ c. app_of c ≡ serve_with_workers) }
+    ensures local { IfOk result (λ c. (fields_of c).has_globals ≡ false) }
+{
     let port = number_option(alloc, "port", "PORT", 0, 65_535, "5984").help(
         "The port, or 0 for any that is free",
     );
     let workers = number_option(alloc, "workers", "WORKERS", 1, 64, "4").help(
-        "How many connections are served at a time",
+        "How many requests are served at a time",
     );
     let connections = number_option(
         alloc,
@@ -74,6 +84,15 @@ fn with_counts<'a>(alloc: Global) -> Result<Command<'a>, AllocError>
     let serve = with_option(serve, port)?;
     let serve = with_option(serve, workers)?;
     with_option(serve, connections)
+}
+
+fn clients<'a>(alloc: Global) -> Arg<'a>
+    ensures rule { rule_of result ≡ number_option (codes "clients") 1 65536 (codes "4096") }
+    ensures local { result.global ≡ false }
+{
+    number_option(alloc, "clients", "CLIENTS", 1, 65_536, "4096").help(
+        "How many connections are open at most, unless a number ends each worker",
+    )
 }
 
 /// The command with the options for its times and its history.
@@ -150,6 +169,7 @@ fn numbers_of(
     let port = number_of(options, "port", 5984, 0, 65_535)?;
     let workers = number_of(options, "workers", 4, 1, 64)?;
     let connections = number_of(options, "connections", 0, 0, 4_294_967_295)?;
+    let clients = number_of(options, "clients", 4096, 1, 65_536)?;
     let idle = number_of(options, "idle", 15, 1, 86_400)?;
     let patience = number_of(options, "patience", 60, 1, 86_400)?;
     let max_places = number_of(options, "max-places", 1_000_000, 1, 4_294_967_295)?;
@@ -157,6 +177,7 @@ fn numbers_of(
         port: port as u16,
         workers: workers as u16,
         connections: connections as u32,
+        clients: clients as u32,
         idle: idle as u32,
         patience: patience as u32,
         max_places: max_places as u32,

@@ -3,12 +3,12 @@ ghost use Rattle.std.specs.Prelude.{◌≡◌, ◌≤◌};
 
 use crate::serving::{Notices, address, say_port, terms};
 use command_line::{JournalOptions, Serving, SyncPolicy as Syncing};
-use http_front::Policy;
+use http_front::{Entrance, Policy};
 use journal::{Access, Begun, DiskFile, Dropped, Folder, Journal, StartFault, Started};
 use journal_front::{Epoch, Epochs, Notices as JournalNotices, Service, SyncPolicy, run_kept};
 use snapshots::Version;
 use std::io;
-use std::net::{TcpListener, TcpStream};
+use std::net::TcpStream;
 use std::process::ExitCode;
 use std::sync::Wait;
 use std::thread::Threads;
@@ -48,10 +48,11 @@ impl JournalNotices<DiskFile> for Notices<'_> {
     }
 }
 
-/// The epochs of a folder, and the port whose workers are woken at the end of one.
+/// The epochs of a folder, and the entrance whose workers are woken at the end of one.
 #[derive(Drop)]
 struct Files<'r> {
     rt: &'r HostRuntime,
+    entrance: &'r Entrance,
     folder: Folder,
     epoch: u64,
     keep: Option<u32>,
@@ -98,8 +99,12 @@ impl Epochs<DiskFile> for Files<'_> {
         }
     }
 
-    /// Where a connection doesn't come in time, as many wait as can, and no worker waits for one.
+    /// Workers that accept connections are woken by one each. Where one doesn't come in time, as many wait as can, and no worker
+    /// waits for one.
     fn wake(&self, workers: u16) {
+        if self.entrance.wake() {
+            return;
+        }
         let time = Duration::from_millis(WAKE_MILLISECONDS);
         for _ in 0..workers {
             if TcpStream::connect_timeout(self.rt, &address(self.port), time).is_err() {
@@ -145,13 +150,13 @@ impl Files<'_> {
     }
 }
 
-/// Serves what the journal in the folder holds, to the connections of a listener, whose port is printed. Where the
+/// Serves what the journal in the folder holds, to the connections of an entrance, whose port is printed. Where the
 /// folder can't be had, or what it holds can't be gone on from, that is said. Threads are those of `threads`, since only `main`
 /// has them of the runtime.
 pub(crate) fn serve<A: AllocGlobal + Threads + Wait + Clock + Sync>(
     rt: &HostRuntime,
     threads: &A,
-    listener: &TcpListener,
+    entrance: &Entrance,
     serving: &Serving,
     options: &JournalOptions,
     policy: Option<&Policy>,
@@ -159,7 +164,7 @@ pub(crate) fn serve<A: AllocGlobal + Threads + Wait + Clock + Sync>(
     requires workers { (1 ≤ serving.now.workers) × (serving.now.workers ≤ 63) }
     requires places { 1 ≤ serving.now.max_places }
 {
-    let port = listener.local_addr()?.port();
+    let port = entrance.listener().local_addr()?.port();
     let Some(folder) = opened(rt, port, options) else {
         return Ok(ExitCode::FAILURE);
     };
@@ -170,6 +175,7 @@ pub(crate) fn serve<A: AllocGlobal + Threads + Wait + Clock + Sync>(
     };
     let mut files = Files {
         rt,
+        entrance,
         folder,
         epoch: started.begun.epoch,
         keep: options.keep,
@@ -178,7 +184,7 @@ pub(crate) fn serve<A: AllocGlobal + Threads + Wait + Clock + Sync>(
     };
     let first = files.first(started);
     let served = serve_from(
-        rt, threads, listener, serving, options, policy, first, &mut files,
+        rt, threads, entrance, serving, options, policy, first, &mut files,
     );
     close(rt, files.folder, access);
     served
@@ -188,7 +194,7 @@ pub(crate) fn serve<A: AllocGlobal + Threads + Wait + Clock + Sync>(
 fn serve_from<A: AllocGlobal + Threads + Wait + Clock + Sync>(
     rt: &HostRuntime,
     threads: &A,
-    listener: &TcpListener,
+    entrance: &Entrance,
     serving: &Serving,
     options: &JournalOptions,
     policy: Option<&Policy>,
@@ -198,11 +204,11 @@ fn serve_from<A: AllocGlobal + Threads + Wait + Clock + Sync>(
     requires workers { (1 ≤ serving.now.workers) × (serving.now.workers ≤ 63) }
     requires places { 1 ≤ serving.now.max_places }
 {
-    if !say_port(rt, listener)? {
+    if !say_port(rt, entrance)? {
         return Ok(ExitCode::FAILURE);
     }
     let service = Service {
-        listener,
+        entrance,
         workers: serving.workers,
         max_places: serving.max_places,
         terms: terms(serving, policy),

@@ -3,9 +3,9 @@ ghost use Rattle.std.specs.Prelude.{◌≡◌, ◌≤◌, true, is_some};
 
 use crate::{journaled, unwritten};
 use command_line::{Allowed as Listed, BrowserOptions, Serving};
-use http_front::{Allowed, Lines, Pace, Policy, Terms, Watch, run_server};
+use http_front::{Allowed, Entrance, Lines, Pace, Policy, Terms, Watch, run_server};
 use std::io;
-use std::net::{Ipv4Addr, SocketAddr, SocketAddrV4, TcpListener};
+use std::net::{Ipv4Addr, SocketAddr, SocketAddrV4};
 use std::process::ExitCode;
 use std::sync::Wait;
 use std::thread::Threads;
@@ -37,6 +37,22 @@ impl Watch for Notices<'_> {
         let _printed = eprintln!(self.rt; "couchd: a connection can't be accepted: {error}");
     }
 
+    fn clients_full(&self, clients: u32) {
+        let _printed = eprintln!(self.rt;
+            "couchd: {clients} clients are connected, and no more are accepted until one leaves"
+        );
+    }
+
+    fn no_event_loop(&self) {
+        let _printed = eprintln!(self.rt;
+            "couchd: no thread keeps connections that wait, and each of them holds a worker"
+        );
+    }
+
+    fn event_loop_failed(&self, error: &io::Error) {
+        let _printed = eprintln!(self.rt; "couchd: connections can't be waited for: {error}");
+    }
+
     fn no_memory(&self) {
         let _printed = eprintln!(self.rt; "couchd: out of memory for a worker");
     }
@@ -62,13 +78,13 @@ pub(crate) fn serve<A: AllocGlobal + Threads + Wait + Clock + Sync>(
     requires places { 1 ≤ serving.now.max_places }
     requires session { is_some serving.now.journal ≡ true → serving.now.workers ≤ 63 }
 {
-    let Some(listener) = listener_at(rt, serving.port)? else {
+    let Some(entrance) = entrance_at(rt, serving.port)? else {
         return Ok(ExitCode::FAILURE);
     };
     if let Some(options) = &serving.journal {
-        return journaled::serve(rt, threads, &listener, serving, options, policy);
+        return journaled::serve(rt, threads, &entrance, serving, options, policy);
     }
-    if !say_port(rt, &listener)? {
+    if !say_port(rt, &entrance)? {
         return Ok(ExitCode::FAILURE);
     }
     let notices = Notices {
@@ -76,7 +92,7 @@ pub(crate) fn serve<A: AllocGlobal + Threads + Wait + Clock + Sync>(
         reads_only: false,
     };
     let status = run_server(
-        &listener,
+        &entrance,
         serving.workers,
         serving.max_places,
         terms(serving, policy),
@@ -87,12 +103,12 @@ pub(crate) fn serve<A: AllocGlobal + Threads + Wait + Clock + Sync>(
 }
 
 /// Listens on a port that only this machine reaches; nothing where it is taken, which is said.
-fn listener_at(rt: &HostRuntime, port: u16) -> io::Result<Option<TcpListener>> {
-    let Ok(listener) = TcpListener::bind(rt, address(port)) else {
+fn entrance_at(rt: &HostRuntime, port: u16) -> io::Result<Option<Entrance>> {
+    let Ok(entrance) = Entrance::bind(rt, rt.alloc(), address(port)) else {
         let _printed = eprintln!(rt; "couchd: cannot listen on port {port}");
         return Ok(None);
     };
-    Ok(Some(listener))
+    Ok(Some(entrance))
 }
 
 /// The address of a port that only this machine reaches.
@@ -101,8 +117,8 @@ pub(crate) fn address(port: u16) -> SocketAddr {
 }
 
 /// Prints the port, and says whether the output can be written.
-pub(crate) fn say_port(rt: &HostRuntime, listener: &TcpListener) -> io::Result<bool> {
-    let port = listener.local_addr()?.port();
+pub(crate) fn say_port(rt: &HostRuntime, entrance: &Entrance) -> io::Result<bool> {
+    let port = entrance.listener().local_addr()?.port();
     let Ok(()) = println!(rt; "listening 127.0.0.1:{port}") else {
         let _failure = unwritten(rt);
         return Ok(false);
@@ -114,6 +130,7 @@ pub(crate) fn say_port(rt: &HostRuntime, listener: &TcpListener) -> io::Result<b
 pub(crate) fn terms<'p>(serving: &Serving, policy: Option<&'p Policy>) -> Terms<'p> {
     Terms {
         connections: serving.connections,
+        clients: serving.clients,
         pace: Pace {
             idle: Duration::from_secs(serving.idle as u64),
             patience: Duration::from_secs(serving.patience as u64),

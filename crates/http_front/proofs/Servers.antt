@@ -11,7 +11,7 @@ use Rattle.streams.specs.Streams.{Streams}
 use Rattle.http_connection.specs.declared.outcome.Ended.{Ended}
 use Rattle.sessions.specs.Known.{Known as KnownOfThreads, fresh}
 use Rattle.history_lock.specs.Ending.{Ending, Ends}
-use Rattle.http_workers.specs.Worker.{ServesAll}
+use Rattle.http_workers.specs.Worker.{ServesCounted}
 use Rattle.http_turns.specs.Connection.{IsConnection}
 use Rattle.session_calls.specs.Sessions.{Goes, known_of as known_of_session}
 use Rattle.http_front.specs.Opening.{GoesBy, known_of}
@@ -26,7 +26,7 @@ streams_of left failed_reads taken failed_writes r w = record { left = left r; f
 abbrev pub ServesEach : Option Database → Config → ℕ → ℕ → ℕ → ℕ → List KnownOfThreads → List KnownOfThreads → Type 0
 ServesEach base config sessions queue turns connections before after =
     (i : ℕ) (d : KnownOfThreads) → i < length before
-    → ServesAll (Goes base config sessions queue) (known_of_session base config sessions queue) turns connections (slice_index_or before i d) (slice_index_or after i d)
+    → ServesCounted (Goes base config sessions queue) (known_of_session base config sessions queue) turns connections (slice_index_or before i d) (slice_index_or after i d)
 
 -- what is said of sessions by the numbers of a name holds of those that the database was opened with
 named : (P : Config → ℕ → ℕ → Type 0) (config told : Config) (sessions queue : ℕ) → told ≡ config → told.sessions ≡ sessions → told.queue ≡ queue → (right : Config) → told ≡ right
@@ -46,7 +46,7 @@ serves_sessions base config turns connections before after closed new long serve
       count = long ∙ count;
       each = λ i d within.
           let from = ap (λ (items : List KnownOfThreads). slice_index_or items i d) new ∙ get_or-map-range_with_len fresh 0 workers i i d within (omega arith) in
-          subst (λ (k : KnownOfThreads). ServesAll (GoesBy base config) (known_of base config) turns connections k (slice_index_or after i d)) from (serves i d (omega (arith, count, within)));
+          subst (λ (k : KnownOfThreads). ServesCounted (GoesBy base config) (known_of base config) turns connections k (slice_index_or after i d)) from (serves i d (omega (arith, count, within)));
       end = closed;
       ends = ends;
     }

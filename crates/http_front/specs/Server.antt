@@ -4,7 +4,7 @@ use Rattle.model.specs.Database.{Database}
 use Rattle.model.specs.World.{Config}
 use Rattle.history_lock.specs.Ending.{Ending, Ends}
 use Rattle.sessions.specs.Known.{Known as KnownOfThreads, fresh}
-use Rattle.http_workers.specs.Worker.{ServesAll}
+use Rattle.http_workers.specs.Worker.{ServesCounted}
 use Rattle.http_front.specs.Opening.{GoesBy, known_of, server_config}
 
 -- how often a wait for changes looks
@@ -18,7 +18,7 @@ pub record ServesSessions (base : Option Database) (config : Config) (turns conn
   pub finals : List KnownOfThreads
   pub count : length finals ≡ config.sessions
   pub each : (i : ℕ) (d : KnownOfThreads) → i < config.sessions
-      → ServesAll (GoesBy base config) (known_of base config) turns connections (fresh i) (slice_index_or finals i d)
+      → ServesCounted (GoesBy base config) (known_of base config) turns connections (fresh i) (slice_index_or finals i d)
   pub end : Ending
   pub ends : Ends base finals end
 

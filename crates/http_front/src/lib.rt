@@ -15,7 +15,7 @@ mod server;
 pub use dumping::run_dump;
 pub use dumps::dump;
 pub use http_turns::{Setting, serve};
-pub use http_workers::{Allowed, Lines, Pace, Policy, Terms, Watch, Workers, listen};
+pub use http_workers::{Allowed, Entrance, Lines, Pace, Policy, Terms, Watch, Workers, listen};
 pub use once::run_once;
 pub use opening::{MAX_PLACES, server_config};
 pub use running::Running;

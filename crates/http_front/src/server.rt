@@ -8,9 +8,8 @@ use crate::opening::{NOT_OPENED, server_config};
 use crate::running::Running;
 use commands::Config;
 use history_lock::Opened;
-use http_workers::{Terms, Watch, Workers, listen};
+use http_workers::{Entrance, Terms, Watch, Workers, listen};
 use std::marker::Brand;
-use std::net::TcpListener;
 use std::sync::Wait;
 use std::thread::Threads;
 use std::time::Clock;
@@ -22,12 +21,12 @@ pub const SERVER_TURNS: u64 = 100_000;
 /// The exit status after the last connection.
 const SERVED: u8 = 0;
 
-/// Serves an empty database, whose history may have so many entries, to the connections of a listener, by so many
-/// workers (1 to 64), each with a session of its own, on these terms. It says so where fewer serve than were asked for, or none.
+/// Serves an empty database, whose history may have so many entries, to the connections of an entrance, by so many
+/// workers (1 to 64), each with a session of its own, on these terms ([`listen`]). It says so where fewer serve than were asked for, or none.
 /// The answer is the exit status: 0 after the last connection, or 1 where no database was opened, memory for the
 /// routes was refused, or no worker can start besides the caller's.
 pub fn run_server<A: AllocGlobal + Threads + Wait + Clock + Sync, V: Watch + Sync>(
-    listener: &TcpListener,
+    entrance: &Entrance,
     workers: u16,
     max_places: u32,
     terms: Terms<'_>,
@@ -43,7 +42,7 @@ pub fn run_server<A: AllocGlobal + Threads + Wait + Clock + Sync, V: Watch + Syn
     let Some(workers) = Workers::new(rt, rt.alloc(), workers, watch) else {
         return server_status(false);
     };
-    let served = serve_empty(listener, config, terms, &workers, rt);
+    let served = serve_empty(entrance, config, terms, &workers, rt);
     if !served {
         watch.few_workers(0, asked);
     }
@@ -59,7 +58,7 @@ fn server_status(served: bool) -> u8
 
 /// Serves an empty database with these numbers, and answers whether it was opened.
 fn serve_empty<A: AllocGlobal + Threads + Wait + Clock + Sync, V: Watch + Sync>(
-    listener: &TcpListener,
+    entrance: &Entrance,
     config: Config,
     terms: Terms<'_>,
     workers: &Workers<'_, V>,
@@ -70,7 +69,7 @@ fn serve_empty<A: AllocGlobal + Threads + Wait + Clock + Sync, V: Watch + Sync>(
     let Ok(opened) = Opened::new(rt.alloc(), config) else {
         return false;
     };
-    serve_all::<Brand, &A, A, V>(listener, config, terms, workers, rt, rt, opened)
+    serve_all::<Brand, &A, A, V>(entrance, config, terms, workers, rt, rt, opened)
 }
 
 /// Serves a database that was opened with these numbers, whose writer keeps a runtime of its own, and answers whether
@@ -82,7 +81,7 @@ fn serve_all<
     A: AllocGlobal + Threads + Wait + Clock + Sync,
     V: Watch + Sync,
 >(
-    listener: &TcpListener,
+    entrance: &Entrance,
     config: Config,
     terms: Terms<'_>,
     workers: &Workers<'_, V>,
@@ -105,7 +104,7 @@ fn serve_all<
     };
     listen(
         rt,
-        listener,
+        entrance,
         sessions.as_mut_slice(),
         terms,
         None,

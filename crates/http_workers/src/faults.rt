@@ -10,6 +10,7 @@ use std::time::Clock;
 pub(crate) struct Faults {
     accept: OncePerSecond,
     memory: OncePerSecond,
+    full: OncePerSecond,
 }
 
 impl Faults {
@@ -18,6 +19,7 @@ impl Faults {
         Faults {
             accept: OncePerSecond::new(),
             memory: OncePerSecond::new(),
+            full: OncePerSecond::new(),
         }
     }
 
@@ -37,6 +39,13 @@ impl Faults {
     pub(crate) fn no_memory<R: Clock, V: Watch>(&self, clock: &R, watch: &V) {
         if self.memory.passes(clock) {
             watch.no_memory();
+        }
+    }
+
+    /// No more clients are accepted.
+    pub(crate) fn clients_full<R: Clock, V: Watch>(&self, clock: &R, watch: &V, clients: u32) {
+        if self.full.passes(clock) {
+            watch.clients_full(clients);
         }
     }
 }

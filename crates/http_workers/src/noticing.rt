@@ -28,7 +28,7 @@ use streams::{Failed, Sink, Source};
 const NONE: &[u8] = b"-";
 
 /// How many milliseconds a worker waits after a connection that can't be accepted, as where the
-/// process has no descriptor left.
+/// process has no descriptor left, or that its session has seen too little to answer.
 const REST_MILLISECONDS: u64 = 1;
 
 /// What an operator hears of a worker.
@@ -48,6 +48,11 @@ impl<'n, R: Clock, V: Watch> Noticing<'n, R, V> {
     /// Says that a connection can't be accepted, and waits for a while.
     pub(crate) fn rest(&self, error: &io::Error) {
         self.faults.accept_failed(self.clock, self.watch, error);
+        self.pause();
+    }
+
+    /// Waits for a while.
+    pub(crate) fn pause(&self) {
         thread::sleep(self.clock, Duration::from_millis(REST_MILLISECONDS));
     }
 

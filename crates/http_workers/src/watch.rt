@@ -12,6 +12,16 @@ pub trait Watch: Lines {
     /// A connection can't be accepted. This is said once a second at most.
     fn accept_failed(&self, error: &io::Error);
 
+    /// So many clients are connected, as many as may be, and no more are accepted until one of them leaves. This is said once a
+    /// second at most.
+    fn clients_full(&self, clients: u32);
+
+    /// No thread can be made that keeps the connections that wait: each holds a worker.
+    fn no_event_loop(&self);
+
+    /// Connections can't be waited for any longer, and the workers end.
+    fn event_loop_failed(&self, error: &io::Error);
+
     /// Memory for what a worker keeps is refused, and asked for again. This is said once a second at most.
     fn no_memory(&self);
 

@@ -8,9 +8,10 @@ use crate::room::Room;
 use crate::watch::Watch;
 use std::alloc::{AllocError, Global};
 use std::sync::{Mutex, Wait};
-use std::thread;
 use std::thread::Threads;
 use std::time::{Clock, Duration};
+use std::{io, thread};
+use waiting_room::Reports;
 
 /// After so many seconds memory that was refused is asked for again.
 const RETRY_SECONDS: u64 = 1;
@@ -65,6 +66,20 @@ impl<'w, V: Watch> Workers<'w, V> {
         }
     }
 
+    /// What the operator hears of connections that are not accepted.
+    pub(crate) fn reports<'n, R>(&'n self, clock: &'n R) -> Refusals<'n, R, V> {
+        Refusals {
+            clock,
+            watch: self.watch,
+            faults: &self.faults,
+        }
+    }
+
+    /// Says that connections that wait hold workers.
+    pub(crate) fn say_no_event_loop(&self) {
+        self.watch.no_event_loop();
+    }
+
     /// Says how many serve, fewer than were asked for.
     pub(crate) fn report(&self, serving: u64, asked: u64) {
         self.watch.few_workers(serving, asked);
@@ -104,6 +119,28 @@ impl<'w, V: Watch> Workers<'w, V> {
         if let Some(mut spare) = self.spare.try_lock() {
             *spare = Some(buffers);
         }
+    }
+}
+
+/// What the operator hears of connections that are not accepted.
+#[derive(Drop)]
+pub(crate) struct Refusals<'n, R, V> {
+    clock: &'n R,
+    watch: &'n V,
+    faults: &'n Faults,
+}
+
+impl<R: Clock, V: Watch> Reports for Refusals<'_, R, V> {
+    fn accept_failed(&self, error: &io::Error) {
+        self.faults.accept_failed(self.clock, self.watch, error);
+    }
+
+    fn full(&self, clients: u32) {
+        self.faults.clients_full(self.clock, self.watch, clients);
+    }
+
+    fn failed(&self, error: &io::Error) {
+        self.watch.event_loop_failed(error);
     }
 }
 

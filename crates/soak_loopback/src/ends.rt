@@ -1,16 +1,17 @@
 //! Sockets of a server and of its clients.
 
+use http_front::Entrance;
 use std::io;
-use std::net::{Ipv4Addr, SocketAddr, SocketAddrV4, TcpListener, TcpStream};
+use std::net::{Ipv4Addr, SocketAddr, SocketAddrV4, TcpStream};
 use std::time::Duration;
 
 /// How many seconds a client's read or write may stall. A write may be held for ten.
 const STALL_SECONDS: u64 = 60;
 
-/// A listener on the loopback, and two connections to it.
+/// An entrance on the loopback, and two connections to it.
 #[derive(Drop)]
 pub(crate) struct Ends {
-    pub(crate) listener: TcpListener,
+    pub(crate) entrance: Entrance,
     pub(crate) clients: Clients,
 }
 
@@ -22,15 +23,15 @@ pub(crate) struct Clients {
 }
 
 impl Ends {
-    /// A listener at a port that is free, and the connections, which nobody has accepted yet.
+    /// An entrance at a port that is free, and the connections, which nobody has accepted yet.
     pub(crate) fn new(rt: &HostRuntime) -> io::Result<Ends> {
         let free = SocketAddr::V4(SocketAddrV4::new(Ipv4Addr::LOCALHOST, 0));
-        let listener = TcpListener::bind(rt, free)?;
-        let address = listener.local_addr()?;
+        let entrance = Entrance::bind(rt, rt.alloc(), free)?;
+        let address = entrance.listener().local_addr()?;
         let first = connect(rt, address)?;
         let second = connect(rt, address)?;
         Ok(Ends {
-            listener,
+            entrance,
             clients: Clients { first, second },
         })
     }

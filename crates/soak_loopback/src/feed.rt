@@ -26,11 +26,11 @@ pub(crate) fn told<R: AllocGlobal + Threads + Wait + Clock + Sync>(
     rt: &R,
     ends: Ends,
 ) -> io::Result<String> {
-    let Ends { listener, clients } = ends;
+    let Ends { entrance, clients } = ends;
     let (told, status) = thread::join(
         rt,
         move || read_beside_writes(rt.alloc(), clients),
-        || run_server(&listener, 2, MAX_PLACES, terms(), &Unheard, rt),
+        || run_server(&entrance, 2, MAX_PLACES, terms(), &Unheard, rt),
     );
     with_status(told, status)
 }

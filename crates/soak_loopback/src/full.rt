@@ -23,13 +23,13 @@ pub(crate) fn serve_full<R: AllocGlobal + Threads + Wait + Clock + Sync, S: Call
 where
     S::Opened: Send,
 {
-    let Ends { listener, clients } = ends;
+    let Ends { entrance, clients } = ends;
     let setting = Setting::new(rt.alloc(), rt, TURNS)?;
     let workers = workers(rt, rt.alloc(), &Unheard)?;
     let (told, ()) = thread::join(
         rt,
         move || write_twice(rt.alloc(), clients),
-        || listen(rt, &listener, sessions, terms(), None, &setting, &workers),
+        || listen(rt, &entrance, sessions, terms(), None, &setting, &workers),
     );
     told
 }

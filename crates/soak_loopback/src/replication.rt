@@ -34,11 +34,11 @@ pub(crate) fn told<R: AllocGlobal + Threads + Wait + Clock + Sync>(
     source: Ends,
     target: Ends,
 ) -> io::Result<String> {
-    let Ends { listener, clients } = source;
+    let Ends { entrance, clients } = source;
     let (told, status) = thread::join(
         rt,
         move || serve_target(rt, clients, target),
-        || run_server(&listener, 2, MAX_PLACES, terms(), &Unheard, rt),
+        || run_server(&entrance, 2, MAX_PLACES, terms(), &Unheard, rt),
     );
     with_status(told, status)
 }
@@ -48,11 +48,11 @@ fn serve_target<R: AllocGlobal + Threads + Wait + Clock + Sync>(
     source: Clients,
     target: Ends,
 ) -> io::Result<String> {
-    let Ends { listener, clients } = target;
+    let Ends { entrance, clients } = target;
     let (told, status) = thread::join(
         rt,
         move || replicate(rt.alloc(), source, clients),
-        || run_server(&listener, 2, MAX_PLACES, terms(), &Unheard, rt),
+        || run_server(&entrance, 2, MAX_PLACES, terms(), &Unheard, rt),
     );
     with_status(told, status)
 }

@@ -16,6 +16,7 @@ const SECONDS: u64 = 300;
 pub(crate) fn terms() -> Terms<'static> {
     Terms {
         connections: 1,
+        clients: 2,
         pace: Pace {
             idle: Duration::from_secs(SECONDS),
             patience: Duration::from_secs(SECONDS),
@@ -37,6 +38,12 @@ impl Watch for Unheard {
     fn few_workers(&self, _serving: u64, _asked: u64) {}
 
     fn accept_failed(&self, _error: &io::Error) {}
+
+    fn clients_full(&self, _clients: u32) {}
+
+    fn no_event_loop(&self) {}
+
+    fn event_loop_failed(&self, _error: &io::Error) {}
 
     fn no_memory(&self) {}
 

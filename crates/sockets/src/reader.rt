@@ -2,6 +2,7 @@
 ghost use Rattle.std.specs.Prelude.{◌≡◌, ◌-◌, ◌≤◌, ◌^◌, None, IfOk, length};
 
 use crate::deadlines::{Ending, after, is_late, left_until};
+use crate::flag::is_set;
 use crate::pace::{GRACE_SECONDS, Pace};
 use crate::timed::Timed;
 use std::io::{Error, ErrorKind, Read, Result as IoResult};
@@ -52,22 +53,34 @@ struct Waiting<'c, T, C> {
     clock: &'c C,
     pace: Pace,
     ending: Ending<'c>,
+    /// While it is set a next request is not waited for.
+    crowded: Option<&'c AtomicBool>,
     awaited: Awaited,
     requests: Requests,
     told: Option<Duration>,
+    /// Whether the input ended where no byte of a request had come in time.
+    silent: bool,
 }
 
 impl<'c, T, C> Waiting<'c, T, C> {
     /// Over this socket, whose first request is awaited.
-    fn new(socket: T, clock: &'c C, pace: Pace, over: Option<&'c AtomicBool>) -> Waiting<'c, T, C> {
+    fn new(
+        socket: T,
+        clock: &'c C,
+        pace: Pace,
+        over: Option<&'c AtomicBool>,
+        crowded: Option<&'c AtomicBool>,
+    ) -> Waiting<'c, T, C> {
         Waiting {
             socket,
             clock,
             pace,
             ending: Ending::new(over, Duration::from_secs(GRACE_SECONDS)),
+            crowded,
             awaited: Awaited::First,
             requests: Requests::Any,
             told: None,
+            silent: false,
         }
     }
 
@@ -75,6 +88,10 @@ impl<'c, T, C> Waiting<'c, T, C> {
     fn awaits(&mut self, begun: bool) {
         self.awaited = if begun { Awaited::Rest } else { Awaited::First };
         self.requests = self.requests.next(self.ending.has_come());
+        if !begun && is_set(self.crowded) {
+            self.requests = Requests::NoMore;
+            self.silent = true;
+        }
     }
 }
 
@@ -155,7 +172,10 @@ impl<'c, T: Read + Timed, C: Clock> Read for Waiting<'c, T, C> {
                 self.awaited = Awaited::Rest;
                 Ok(len)
             }
-            Err(error) if is_late(&error) => Ok(0),
+            Err(error) if is_late(&error) => {
+                self.silent = true;
+                Ok(0)
+            }
             Err(error) => Err(error),
         }
     }
@@ -190,8 +210,31 @@ impl<'c, T, C> TimedReader<'c, T, C> {
         ensures budget { bytes_left result ≡ 2 ^ 64 - 1 }
     {
         TimedReader {
-            waiting: Stream::new(Waiting::new(socket, clock, pace, over)),
+            waiting: Stream::new(Waiting::new(socket, clock, pace, over, None)),
         }
+    }
+
+    /// The same for a visit: the connection goes on after it where its client is silent ([`is_silent`](Self::is_silent)). While
+    /// the second flag is set, others wait for a visit, and a next request is waited for in no visit.
+    pub fn visit(
+        socket: T,
+        clock: &'c C,
+        pace: Pace,
+        over: Option<&'c AtomicBool>,
+        crowded: &'c AtomicBool,
+    ) -> TimedReader<'c, T, C>
+        ensures failures { reads_failed result ≡ 0 }
+        ensures budget { bytes_left result ≡ 2 ^ 64 - 1 }
+    {
+        TimedReader {
+            waiting: Stream::new(Waiting::new(socket, clock, pace, over, Some(crowded))),
+        }
+    }
+
+    /// Whether the input ended since its client is silent: no byte of a next request came in time, or was waited for. An input
+    /// that its client ended is not silent.
+    pub fn is_silent(&mut self) -> bool {
+        self.waiting.inner_mut().silent
     }
 }
 

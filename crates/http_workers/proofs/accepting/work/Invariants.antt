@@ -1,5 +1,5 @@
-use Rattle.http_workers.proofs.Accepting.{Accepted}
-use Rattle.http_workers.proofs.listening.work.Given as goal
+use Rattle.http_workers.proofs.Connections.{Accepted}
+use Rattle.http_workers.proofs.accepting.work.Given as goal
 
 -- so many connections were served, or could not be accepted, as there were turns
 abbrev pub invariant-loop : goal.invariant-loop

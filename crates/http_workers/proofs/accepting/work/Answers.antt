@@ -1,7 +1,7 @@
 use Rattle.std.proofs.Common.{◌+◌, [], None, Some, refl, sym, subst, arith}
-use Rattle.http_workers.proofs.Accepting.{Accepted, one_more, served_all, served_some}
-use Rattle.http_workers.proofs.listening.work.Goals as goal
-use Rattle.http_workers.proofs.listening.work.Goals.{in-Ok, in-Err}
+use Rattle.http_workers.proofs.Connections.{Accepted, one_more, served_all, served_some}
+use Rattle.http_workers.proofs.accepting.work.Goals as goal
+use Rattle.http_workers.proofs.accepting.work.Goals.{in-Ok, in-Err}
 
 pub loop-init : goal.loop-init
 loop-init g c = ([], refl, refl)
