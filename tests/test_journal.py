@@ -35,6 +35,12 @@ def none_is_cut(checks, folder):
         )
 
 
+def none_is_lost(checks, connection, writes, fault):
+    """Each of these writes, an id and a revision, is there; else so many of them `fault`."""
+    lost = [write for write in writes if not is_there(connection, *write)]
+    checks.check(not lost, "%d of %d " + fault, len(lost), len(writes))
+
+
 # ---- a disk that is full
 
 
@@ -69,8 +75,7 @@ def full_disk(checks, program, replay, policy):
         with Server(program, data=folder) as server:
             checks.check(server.port is not None, "no start after a full disk: %r", server.reported())
             connection = Connection(server.port)
-            lost = [write for write in kept if not is_there(connection, *write)]
-            checks.check(not lost, "%d of %d answered writes are lost after a full disk", len(lost), len(kept))
+            none_is_lost(checks, connection, kept, "answered writes are lost after a full disk")
             checks.check(connection.ask("PUT", "/db/after", {})[0] == 201, "no write after a full disk")
         checks.check(neighbours(replay, folder) == [True], "after a full disk numbers are raised: %r", neighbours(replay, folder))
 
@@ -104,8 +109,7 @@ def mended(checks, program, replay, policy):
         audit(checks, replay, folder)
         with Server(program, data=folder) as server:
             connection = Connection(server.port)
-            lost = [write for write in kept + seen if not is_there(connection, *write)]
-            checks.check(not lost, "%d of %d are lost behind a full disk", len(lost), len(kept + seen))
+            none_is_lost(checks, connection, kept + seen, "are lost behind a full disk")
         left = [name for name in os.listdir(folder) if name.endswith(".new")]
         checks.check(left == [], "%r are left", left)
 
@@ -126,8 +130,7 @@ def starts_full(checks, program, replay, policy):
             with Server(program, "--sync", policy, "--workers", "4", data=folder) as server:
                 checks.check(server.port is not None, "no start where no file can be made: %r", server.reported())
                 connection = Connection(server.port)
-                lost = [write for write in kept if not is_there(connection, *write)]
-                checks.check(not lost, "%d of %d are not read where no file can be made", len(lost), len(kept))
+                none_is_lost(checks, connection, kept, "are not read where no file can be made")
                 status, value = connection.ask("PUT", "/db/refused", {})
                 checks.check((status, value.get("reason")) == (503, "journal"), "%d, %r where no file can be made", status, value)
                 said = server.reported()
@@ -142,8 +145,7 @@ def starts_full(checks, program, replay, policy):
             audit(checks, replay, folder)
             with Server(program, data=folder) as server:
                 connection = Connection(server.port)
-                lost = [write for write in kept if not is_there(connection, *write)]
-                checks.check(not lost, "%d of %d are lost behind a start that made no file", len(lost), len(kept))
+                none_is_lost(checks, connection, kept, "are lost behind a start that made no file")
 
 
 def reads_only(checks, program):
@@ -551,8 +553,7 @@ def keeps(checks, program, replay):
         audit(checks, replay, folder)
         with Server(program, "--keep", "1", data=folder) as server:
             connection = Connection(server.port)
-            lost = [id for id, rev in told.items() if not is_there(connection, id, rev)]
-            checks.check(not lost, "%d of %d documents went with old files", len(lost), len(told))
+            none_is_lost(checks, connection, told.items(), "documents went with old files")
         checks.check(len(files(folder)) == 1, "the files %r stay, of which one is to be kept", files(folder))
 
 

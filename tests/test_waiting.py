@@ -17,10 +17,9 @@ import tempfile
 import time
 
 from lib.checks import Checks
-from lib.programs import SECONDS, arguments
+from lib.programs import SECONDS, arguments, memory, processor_seconds
 from lib.server import Connection, Server
 
-TICK = os.sysconf("SC_CLK_TCK")
 GET = b"GET / HTTP/1.1\r\nHost: db\r\n\r\n"
 BYTES_PER_CLIENT = 20_000  # that one which waits may take
 MIDDLE, NEARLY_ALL = 0.02, 0.1  # seconds of an answer: at the middle, and at 99 of 100
@@ -36,15 +35,6 @@ def silent(port, count):
         one = socket.create_connection(("127.0.0.1", port), timeout=SECONDS)
         held.append(one)
     return held
-
-
-def stat(process):
-    """The seconds of processor time that a process took, and its bytes of memory."""
-    with open("/proc/%d/stat" % process.pid, encoding="ascii") as it:
-        fields = it.read().rsplit(")", 1)[1].split()
-    with open("/proc/%d/status" % process.pid, encoding="ascii") as it:
-        memory = next(int(line.split()[1]) for line in it if line.startswith("VmRSS"))
-    return (int(fields[11]) + int(fields[12])) / TICK, memory * 1024
 
 
 def descriptors(process):
@@ -112,17 +102,16 @@ def idle_ones(checks, given):
     with Server(given.couchd, "--workers", "16", "--idle", "3600") as server:
         timed(server.port, 50)  # all workers have started then
         quick(checks, "nobody", server.port, 50)
-        _, before = stat(server.process)
+        before = memory(server.process.pid, "VmRSS")
         held = silent(server.port, given.idle)
         time.sleep(0.5)
-        _, after = stat(server.process)
-        each = (after - before) / given.idle
+        each = (memory(server.process.pid, "VmRSS") - before) / given.idle
         checks.check(each <= BYTES_PER_CLIENT, "an idle connection takes %d bytes", each)
         quick(checks, "%d idle connections" % given.idle, server.port, 200)
         time.sleep(0.5)
-        took, _ = stat(server.process)
+        took = processor_seconds(server.process.pid)
         time.sleep(given.seconds)
-        busy = (stat(server.process)[0] - took) / given.seconds
+        busy = (processor_seconds(server.process.pid) - took) / given.seconds
         checks.check(busy <= BUSY, "while nothing happens the server takes %.1f per cent of a processor", busy * 100)
         ask_all(checks, held)
         ask_all(checks, held)
